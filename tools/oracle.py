@@ -1,7 +1,7 @@
 #!/usr/bin/env python3
 """Holds the program against a small model of docs/REQUESTS.md, over random scripts.
 
-usage: tools/oracle.py [COUNT [FIRST]]    runs the scripts FIRST, FIRST + 1, .. (2,000 of them from 0 on)
+usage: tools/oracle.py [COUNT [FIRST]]    runs the scripts FIRST, FIRST + 1, .. (2,000 of them from 0 on), and some that `generate` names
        tools/oracle.py --show NUMBER      prints the script of that number
        tools/oracle.py --model < SCRIPT   prints the replies that the model answers
 
@@ -11,6 +11,7 @@ wrong. oracle_scripts.py makes the scripts. Of the first few that differ the sma
 both replies; the status is 1 then. Faults of disks and want of memory come in no script, and of the ends of a run only those
 are tried that can be brought about from outside.
 """
+import json
 import os
 import subprocess
 import sys
@@ -24,7 +25,8 @@ import oracle_scripts  # noqa: E402
 
 TOP = Path(__file__).resolve().parent.parent
 PROGRAM = [str(TOP / "m3"), "run"]
-USAGE = b"usage: m3 run\n"
+GENERATED = [0, 7, 8, 2**31, 2**32 - 1]
+USAGE = b"usage: m3 run or m3 generate N\n"
 MOST_SHOWN = 5
 MOST_SECONDS = 120
 
@@ -84,6 +86,10 @@ def wrong_ends() -> list[str]:
         ends = [("no word", ended([], line), (1, USAGE)),
                 ("another word", ended(["runs"], line), (1, USAGE)),
                 ("two words", ended(["run", "run"], line), (1, USAGE)),
+                ("an option", ended(["run", "--disk", "f"], line), (1, USAGE)),
+                ("no number", ended(["generate"], line), (1, USAGE)),
+                ("a word for a number", ended(["generate", "x7"], line), (1, USAGE)),
+                ("too great a number", ended(["generate", "4294967296"], line), (1, USAGE)),
                 ("no input", ended(["run"], b""), (0, b"")),
                 ("a sink that fails", ended(["run"], line, full), (3, b"m3: write fault\n")),
                 ("a source that fails", ended(["run"], folder), (2, b"m3: read fault\n"))]
@@ -91,19 +97,36 @@ def wrong_ends() -> list[str]:
     return [f"{name}: ended with {found}, not {wanted}" for name, found, wanted in ends if found != wanted]
 
 
+def summary(number: int) -> bytes:
+    """What `generate` is to write for this number, by the model's replies to the script."""
+    replies = [json.loads(it) for it in oracle_model.replies(oracle_scripts.generated(number))]
+    fine = sum(it["ok"] for it in replies)
+    values = [value for series in replies[-1]["series"] for _, value in series["points"]]
+    line = {"lines": len(replies), "ok": fine, "points": len(values), "refused": len(replies) - fine, "sum": sum(values)}
+    return json.dumps(line, separators=(",", ":")).encode() + b"\n"
+
+
+def wrong_summary(number: int) -> list[str]:
+    """What `generate` writes for this number, where it isn't what the model says."""
+    done = subprocess.run([PROGRAM[0], "generate", str(number)], stdin=subprocess.DEVNULL, capture_output=True, timeout=MOST_SECONDS)
+    found, wanted = (done.returncode, done.stdout, done.stderr), (0, summary(number), b"")
+    return [f"generate {number}: {found}, not {wanted}"] if found != wanted else []
+
+
 def hold(count: int, first: int) -> int:
     subprocess.run(PROGRAM, stdin=subprocess.DEVNULL)  # builds it where it isn't built yet
     numbers = range(first, first + count)
     with ThreadPoolExecutor(os.cpu_count()) as pool:
         found = list(pool.map(lambda number: differs(oracle_scripts.script(number)), numbers))
+        summaries = sum(pool.map(wrong_summary, GENERATED), [])
     wrong = [number for number, is_wrong in zip(numbers, found) if is_wrong]
     for number in wrong[:MOST_SHOWN]:
         show(number)
     ends = wrong_ends()
-    for end in ends:
-        print(end)
-    print(f"oracle: {count} scripts, {len(wrong)} differ; {len(ends)} ends of a run are wrong", *wrong[:20])
-    return 1 if wrong or ends else 0
+    for line in ends + summaries:
+        print(line)
+    print(f"oracle: {count} scripts, {len(wrong)} differ; {len(ends)} ends of a run and {len(summaries)} summaries are wrong", *wrong[:20])
+    return 1 if wrong or ends or summaries else 0
 
 
 def main(words: list[str]) -> int:

@@ -374,3 +374,26 @@ def script(number: int) -> bytes:
     made = Script(number)
     lines = made.lines(made.dice.choice([0.0, 0.02, 0.1, 0.6]))
     return b"\n".join(lines) + made.dice.choice([b"\n", b"\n", b"\n", b""])
+
+
+def generated(number: int) -> bytes:
+    """The script that `generate` and this number name, a line for each request."""
+    state = number
+
+    def draw() -> int:
+        nonlocal state
+        state = (state * 6364136223846793005 + 1442695040888963407) % 2**64
+        return state >> 33
+
+    made: list[Request] = [{"op": "init", "rf": 3, "shards": 8, "seed": 0, "nodes": [["a", "g1"], ["b", "g2"], ["c", "g3"]]},
+                           {"op": "namespace", "name": "m", "block": 200, "past": 100, "future": 50, "retention": 10_000}]
+    for now in range(1, 501):
+        made.append({"op": "now", "now": now})
+        for _ in range(10):
+            made.append({"op": "write", "ns": "m", "id": f"s{draw() % 100}", "t": now, "v": draw() % 1000})
+        if now == 250:
+            made += [{"op": "replace", "node": "c", "by": "d", "group": "g3"}, {"op": "bootstrap", "node": "d"}]
+        if now % 100 == 0:
+            made += [{"op": "flush"}, {"op": "snapshot"}]
+    made.append({"op": "match", "ns": "m", "where": [], "from": 0, "to": 501})
+    return b"".join(json.dumps(it).encode() + b"\n" for it in made)

@@ -1,6 +1,7 @@
 -- Events of begins, and what the replicas of a first cluster say of theirs.
 use Rattle.std.proofs.Common.{◌≡◌, ◌+◌, ℕ, List, [], ◌∷◌, refl, sym, ap, subst, ◌∙◌, inl, inr, arith}
 use Rattle.std.specs.Prelude.{◌⊎◌, Option, Some, None, Ok, Err}
+use Rattle.std.proofs.lemmas.Option.{same_Some}
 use Rattle.m3_model.specs.Members.{IsIn}
 use Rattle.m3_model.proofs.MemberLemmas.{IsIn-append_cases, IsIn-append_left, IsIn-append_right}
 use Rattle.m3_model.specs.declared.placement.Assignment.{Assignment}
@@ -20,7 +21,6 @@ use Rattle.cluster_core.specs.declared.event.StepCall.{StepCall}
 use Rattle.cluster_core.specs.declared.event.StepCall.TheVariants as call
 use Rattle.cluster_core.specs.declared.event.StepReply.{StepReply}
 use Rattle.cluster_core.specs.declared.event.StepReply.TheVariants as reply
-use Rattle.cluster_core.proofs.ListLemmas.{some_same}
 use Rattle.replica_machine.specs.Boots.{IsBootReason}
 use Rattle.replica_machine.specs.Machines.{first_machine}
 use Rattle.replica_machine.specs.declared.machine.Began.{Began}
@@ -93,7 +93,7 @@ step_in_so said starts n s c a h =
       | inl ask ↦ absurd (let bad : None ≡ Some (n, s, c, a) = ap shown_in ask in cc)
       | inr step ↦
           let same : ◌≡◌ {A = ℕ × ℕ × StepCall × StepReply} (h.start.slot.node, h.start.slot.shard, call.Begin h.start.tenure, begin_reply (said h.start.slot)) (n, s, c, a) =
-          some_same {X = ℕ × ℕ × StepCall × StepReply} (h.start.slot.node, h.start.slot.shard, call.Begin h.start.tenure, begin_reply (said h.start.slot)) (n, s, c, a) (ap shown_in step) in
+          same_Some {A = ℕ × ℕ × StepCall × StepReply} (h.start.slot.node, h.start.slot.shard, call.Begin h.start.tenure, begin_reply (said h.start.slot)) (n, s, c, a) (ap shown_in step) in
           record {
             start = h.start;
             among = h.among;
@@ -140,7 +140,7 @@ pub said_first : {D : Type 0} {G : Ghosts D} (state : D → DiskState) (rf shard
 said_first {D} {G} state rf shards seed nodes old new m first start i =
     let was = (first.opened.taken).taken start.slot (subst (λ xs. IsIn xs start.slot) (sym first.slots) (start_slot m.net.state.place start i)) in
     let begun = first.opened.begun.each start i in
-    let same : begun.before ≡ first_member was.disk = some_same begun.before (first_member was.disk) (sym begun.was ∙ was.stands) in
+    let same : begun.before ≡ first_member was.disk = same_Some begun.before (first_member was.disk) (sym begun.was ∙ was.stands) in
     first_begun state start.tenure was.disk begun.after (first.opened.begun.said start.slot)
     (subst (λ (x : Member D). Begins state start.tenure (call.Begin start.tenure) (first.opened.begun.said start.slot) x.machine begun.after.machine) same begun.promised) (first.opened.begun.no_want start i)
 

@@ -4,6 +4,7 @@ use Rattle.std.specs.Prelude.{◌⊎◌, Option, Some, None, slice_index_or, if�
 use Rattle.std.specs.List.{Any, flat_map}
 use Rattle.std.proofs.lemmas.Bool.{cases_lt, eq-eqb, ne_eqb}
 use Rattle.std.proofs.lemmas.List.{append-nil}
+use Rattle.std.proofs.lemmas.Option.{same_Some}
 use Rattle.m3_model.specs.Ascends.{Ascends}
 use Rattle.m3_model.specs.Members.{IsIn}
 use Rattle.m3_model.specs.declared.placement.Assignment.{Assignment}
@@ -13,6 +14,7 @@ use Rattle.m3_model.specs.declared.reason.Damage.TheVariants as wrong
 use Rattle.m3_model.specs.declared.reason.Reason.{Reason}
 use Rattle.m3_model.specs.declared.reason.Reason.TheVariants as reason
 use Rattle.m3_model.proofs.MemberLemmas.{IsIn-append_cases, IsIn-append_left, IsIn-append_right, map-IsIn}
+use Rattle.m3_model.proofs.Lists.{IsIn-flat_map}
 use Rattle.m3_outside.specs.DiskState.{DiskState}
 use Rattle.placement_core.proofs.ListLemmas.{IsIn-from_Any}
 use Rattle.placement_core.specs.Shards.{Shard, shard_at}
@@ -23,7 +25,7 @@ use Rattle.cluster_core.specs.declared.event.StepCall.{StepCall}
 use Rattle.cluster_core.specs.declared.event.StepCall.TheVariants as call
 use Rattle.cluster_core.specs.declared.event.StepReply.{StepReply}
 use Rattle.cluster_core.specs.declared.event.StepReply.TheVariants as reply
-use Rattle.cluster_core.proofs.ListLemmas.{at_in, some_same}
+use Rattle.cluster_core.proofs.ListLemmas.{at_in}
 use Rattle.replica_machine.specs.Damages.{IsFileDamage}
 use Rattle.replica_exchange.specs.Exchanges.{ask_of}
 use Rattle.replica_calls.specs.Calls.{Tracked}
@@ -36,7 +38,6 @@ use Rattle.transcripts.specs.Reasons.{IsShown}
 use Rattle.transcripts.specs.Waiting.{is_covering}
 use Rattle.node_calls.specs.Begins.{ArePassed, AreBegun, Assigned, Begun, IsPassed, IsUnbegun, IsTenureUnowned, assigned_at, assigned_below, assigned_by, begin_at, tenure_in}
 use Rattle.node_calls.proofs.BeginLemmas.{tenure_any}
-use Rattle.node_calls.proofs.ListLemmas.{IsIn-flat}
 
 -- ---- what the placement gives
 
@@ -47,7 +48,7 @@ shard_there (x ∷ shards) (suc s) low = shard_there shards s (omega (arith, low
 
 pub there_at : (shards : List Shard) (s : ℕ) (shard : Shard) → At shards s shard → slice_index_or shards s [] ≡ shard
 there_at [] s shard at = cc
-there_at (x ∷ shards) zero shard at = some_same x shard at
+there_at (x ∷ shards) zero shard at = same_Some x shard at
 there_at (x ∷ shards) (suc s) shard at = there_at shards s shard at
 
 -- the node has the shard once
@@ -115,7 +116,7 @@ module _ (node : ℕ) (asked : Option ℕ) (place : Placement) where
 
   pub begun_here : {D : Type 0} (state : D → DiskState) (old : Tracked D) (k : ℕ) (events : List Event) → k ≤ length place.shards → AreBegun state node (assigned_below node asked place k) old events → (e : Event) → IsIn events e → IsBeginHere e
   begun_here state old k events le h e m =
-      let found = IsIn-flat (begin_at node) h.begun e (subst (λ es. IsIn es e) h.are m) in
+      let found = IsIn-flat_map (begin_at node) h.begun e (subst (λ es. IsIn es e) h.are m) in
       let b = found.0 in
       let among = subst (λ xs. IsIn xs b.assigned) h.of_assigned (map-IsIn (λ (x : Begun). x.assigned) h.begun b found.1) in
       begin_here (b.assigned).shard (b.assigned).tenure b.reply (covered_below k le b.assigned among) e found.2
@@ -164,8 +165,8 @@ module _ {D : Type 0} (state : D → DiskState) (members : MemberMap D) (node : 
 
   pub passed_at : (past : List Event) (begun : List Begun) → ArePassed state members node past begun → (n s tenure j : ℕ) → At (flat_map (begin_at node) begun) j (event.Step n s (call.Begin tenure) not_owned) → IsRefusedBy past (flat_map (begin_at node) begun) n s tenure j
   passed_at past [] h n s tenure j at = absurd (at_in [] j (event.Step n s (call.Begin tenure) not_owned) at)
-  passed_at past (b ∷ begun) h n s tenure zero at = absurd (no_ask node (b.assigned).shard n s (call.Begin (b.assigned).tenure) (call.Begin tenure) not_owned (some_same (ask_of node (b.assigned).shard (call.Begin (b.assigned).tenure)) (event.Step n s (call.Begin tenure) not_owned) at))
-  passed_at past (b ∷ begun) h n s tenure (suc zero) at = first_refused past (flat_map (begin_at node) begun) b n s tenure h.0 (some_same (event.Step node (b.assigned).shard (call.Begin (b.assigned).tenure) b.reply) (event.Step n s (call.Begin tenure) not_owned) at)
+  passed_at past (b ∷ begun) h n s tenure zero at = absurd (no_ask node (b.assigned).shard n s (call.Begin (b.assigned).tenure) (call.Begin tenure) not_owned (same_Some (ask_of node (b.assigned).shard (call.Begin (b.assigned).tenure)) (event.Step n s (call.Begin tenure) not_owned) at))
+  passed_at past (b ∷ begun) h n s tenure (suc zero) at = first_refused past (flat_map (begin_at node) begun) b n s tenure h.0 (same_Some (event.Step node (b.assigned).shard (call.Begin (b.assigned).tenure) b.reply) (event.Step n s (call.Begin tenure) not_owned) at)
   passed_at past (b ∷ begun) h n s tenure (suc (suc j)) at =
       let rest = passed_at (past ++ begin_at node b) begun h.1 n s tenure j at in
       record {

@@ -4,6 +4,7 @@ use Rattle.std.specs.Prelude.{◌⊎◌, Option, Some, None}
 use Rattle.std.specs.FinMap as finite
 use Rattle.std.proofs.lemmas.List.{append-nil}
 use Rattle.std.proofs.Math.Nat.{mul-le-mul_left}
+use Rattle.std.proofs.lemmas.Option.{same_Some}
 use Rattle.m3_model.specs.Members.{IsIn}
 use Rattle.m3_model.specs.declared.act.Act.{Act}
 use Rattle.m3_model.specs.declared.act.Act.TheVariants as act
@@ -14,6 +15,7 @@ use Rattle.m3_model.specs.declared.placement.Placement.{Placement}
 use Rattle.m3_model.specs.declared.reason.Reason.TheVariants as reason
 use Rattle.m3_model.specs.declared.rules.MetaState.{MetaState}
 use Rattle.m3_model.specs.declared.turn.Turn.{Turn}
+use Rattle.m3_model.proofs.Lists.{flat_map-IsIn}
 use Rattle.m3_outside.specs.DiskState.{DiskState}
 use Rattle.m3_outside.specs.declared.disk.Disk.{Ghosts}
 use Rattle.placement_core.specs.Shards.{nodes_of, shard_at}
@@ -25,7 +27,7 @@ use Rattle.cluster_core.specs.declared.event.StepCall.{StepCall}
 use Rattle.cluster_core.specs.declared.event.StepCall.TheVariants as call
 use Rattle.cluster_core.specs.declared.event.StepReply.{StepReply}
 use Rattle.cluster_core.specs.declared.event.StepReply.TheVariants as reply
-use Rattle.cluster_core.proofs.ListLemmas.{at_in, at_within, some_same}
+use Rattle.cluster_core.proofs.ListLemmas.{at_in, at_within}
 use Rattle.replica_exchange.specs.Exchanges.{ask_of}
 use Rattle.replica_exchange.specs.declared.member.Member.{Member}
 use Rattle.session_net.specs.Ready.{IsReady}
@@ -37,7 +39,7 @@ use Rattle.told_by.specs.Makes.{IsCoveredSlot, MayMake}
 use Rattle.told_by.proofs.LeaveLemmas.{place_there}
 use Rattle.told_by.proofs.OneLemmas.{among_back}
 use Rattle.told_by.proofs.PrintedLemmas.{after_new}
-use Rattle.told_by.proofs.TurnLemmas.{flat_map-IsIn, in_cut, in_its_line}
+use Rattle.told_by.proofs.TurnLemmas.{in_cut, in_its_line}
 use Rattle.told_runs.specs.Answers.{HearsOf, IsAnswered, IsDecidedBy, IsOfKind}
 use Rattle.told_runs.specs.Bounds.{writes_taken}
 use Rattle.told_runs.specs.Lines.{AddsInOrder, OpensNext, ServesOne}
@@ -156,7 +158,7 @@ module _ {D : Type 0} {G : Ghosts D} (state : D → DiskState) (tells : Bool) (s
     not_earlier = λ q at was is e f.
         let among = flat_map-IsIn (λ (line : Turn). joined (lists_of line)) turns q.line q.turn (subst (λ ts. IsIn ts q.line) (sym at.in_run) (in_cut q.lines q.line at.after)) (in_its_line q at.stands) in
         let up = after_new (inner_turns turns) (start_placement start) q.turn was among e in
-        let same : up.0 ≡ place = some_same up.0 place (sym up.1 ∙ stands.left.place) in
+        let same : up.0 ≡ place = same_Some up.0 place (sym up.1 ∙ stands.left.place) in
         subst (λ (r : Placement). was.version ≤ r.version) (same ∙ sym (answers.printed_is is f)) up.2;
   }
 

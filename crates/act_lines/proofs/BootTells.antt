@@ -3,7 +3,8 @@ use Rattle.std.proofs.Common.{◌≡◌, ◌≤◌, ◌+◌, ◌*◌, ℕ, List,
 use Rattle.std.specs.Prelude.{◌⊎◌, ⊤, Option, Some, None, nat_lt, slice_get, if◌then◌else◌, IsTrue}
 use Rattle.std.specs.List.{Any, flat_map}
 use Rattle.std.proofs.lemmas.Bool.{cases_lt}
-use Rattle.std.proofs.lemmas.List.{append-nil}
+use Rattle.std.proofs.lemmas.List.{append-nil, take-append-le}
+use Rattle.std.proofs.lemmas.Option.{same_Some}
 use Rattle.m3_model.specs.Members.{IsIn}
 use Rattle.m3_model.specs.declared.act.Act.{Act}
 use Rattle.m3_model.specs.declared.act.Act.TheVariants as act
@@ -16,6 +17,7 @@ use Rattle.m3_model.specs.declared.reason.Reason.TheVariants as reason
 use Rattle.m3_model.specs.declared.rules.MetaState.{MetaState}
 use Rattle.m3_model.specs.declared.turn.Turn.{Turn}
 use Rattle.m3_model.proofs.MemberLemmas.{IsIn-append_right, IsIn-map}
+use Rattle.m3_model.proofs.Lists.{flat_map-IsIn}
 use Rattle.m3_outside.specs.DiskState.{DiskState}
 use Rattle.m3_outside.specs.declared.disk.Disk.{Ghosts}
 use Rattle.placement_core.specs.Shards.{shard_at}
@@ -24,7 +26,7 @@ use Rattle.cluster_core.specs.declared.event.Event.{Event}
 use Rattle.cluster_core.specs.declared.event.Event.TheVariants as event
 use Rattle.cluster_core.specs.declared.event.StepCall.TheVariants as call
 use Rattle.cluster_core.specs.declared.event.StepReply.TheVariants as reply
-use Rattle.cluster_core.proofs.ListLemmas.{at_append, at_in, at_within, some_same}
+use Rattle.cluster_core.proofs.ListLemmas.{at_append, at_in, at_within}
 use Rattle.replica_exchange.specs.Exchanges.{ask_of}
 use Rattle.session_net.specs.Messages.{exchange}
 use Rattle.session_net.specs.Runs.{slot_at}
@@ -32,7 +34,7 @@ use Rattle.session_net.proofs.RunLemmas.{ran_nothing}
 use Rattle.told_by.specs.Hears.{Happens, HearsBy, HearsRefused, InStretch, IsJoinCall, IsMember}
 use Rattle.told_by.specs.Lines.{position_after}
 use Rattle.told_by.specs.Makes.{IsAssigned}
-use Rattle.told_by.proofs.LineLemmas.{at_front, take_front}
+use Rattle.told_by.proofs.LineLemmas.{at_front}
 use Rattle.told_by.proofs.OneLemmas.{among_back}
 use Rattle.told_runs.specs.Answers.{HearsOf, IsOfKind}
 use Rattle.transcripts.specs.Caused.{IsLeftBy as MovesLeft}
@@ -46,7 +48,6 @@ use Rattle.cluster_members.specs.declared.members.Members.{Members}
 use Rattle.node_calls.specs.Begins.{Assigned, Begun, EndsBoots, IsTenureUnowned, assigned_below, begin_at, tenure_in}
 use Rattle.node_calls.specs.Nodes.{IsHeldUp}
 use Rattle.node_calls.proofs.BeginLemmas.{begun_few, few_below, tenure_node}
-use Rattle.node_calls.proofs.ListLemmas.{flat-IsIn}
 use Rattle.act_lines.specs.Stands.{ClusterStands}
 use Rattle.act_lines.proofs.GrowLemmas.{happens_in}
 use Rattle.act_lines.proofs.StandLemmas.{stands_still}
@@ -71,7 +72,7 @@ available_answer : (place shown : Placement) (name : List ℕ) (asked : Option �
 available_answer place shown name asked available version none same = record {
   plain = plain_so (act.Bootstrap name asked) (answer.Available available shown version) (λ nodes e. cc) (λ u. u) refl refl refl;
   prints = ap (λ q. Some (newer q (Some place))) same ∙ ap Some (newer_same place);
-  printed_is = λ s e. some_same s shown (sym e) ∙ same;
+  printed_is = λ s e. same_Some s shown (sym e) ∙ same;
   no_moves = λ moved s v e. let is : moved ≡ available = cc in is ∙ none;
   halts = λ own x. refl;
 }
@@ -117,7 +118,7 @@ available_tells {D} {G} state old tells start turns new name asked available sho
     h.keeps
     (left_still start turns (act.Bootstrap name asked) (answer.Available available shown version) old.net new.net (available_sets place shown name asked available version same) stands.left (record { state = h.keeps.keeps.state; fates = h.keeps.keeps.fates }) h.keeps.keeps.bag)
     (λ k s tenure slot given.
-    let last : slot.of_node.place ≡ place = some_same slot.of_node.place place (sym slot.of_node.last ∙ stands.ready.place) in
+    let last : slot.of_node.place ≡ place = same_Some slot.of_node.place place (sym slot.of_node.last ∙ stands.ready.place) in
     let is_node : k ≡ node = only_node start turns old stands name false h.may.runs k slot.of_node.named.instance_ (ap (λ (q : Placement). slice_get q.instances k) (sym last) ∙ slot.of_node.named.stands) slot.of_node.named.holds in
     let assigned = subst (λ q. IsAssigned q k s tenure) last given in
     let below = at_within place.shards s assigned.0 assigned.1 in
@@ -128,7 +129,7 @@ available_tells {D} {G} state old tells start turns new name asked available sho
     let b = IsIn-map (λ (x : Begun). x.assigned) h.begun.begun (record { shard = s; tenure = tenure }) (subst (λ xs. IsIn xs (record { shard = s; tenure = tenure })) (sym h.begun.of_assigned) among) in
     let e : Event = event.Step node s (call.Begin tenure) (b.0).reply in
     let step : IsIn (begin_at node b.0) e = inr (inl (ap (λ (x : Assigned). event.Step node x.shard (call.Begin x.tenure) (b.0).reply) b.2)) in
-    let here : IsIn h.begins e = subst (λ es. IsIn es e) (sym h.begun.are) (flat-IsIn (begin_at node) h.begun.begun b.0 e b.1 step) in
+    let here : IsIn h.begins e = subst (λ es. IsIn es e) (sym h.begun.are) (flat_map-IsIn (begin_at node) h.begun.begun b.0 e b.1 step) in
     ((b.0).reply, passed_begun state old.net.replicas.members node events h.begun.begun h.begun.passed b.0 b.1, (call.Begin tenure, refl, subst (λ i. Happens (InStretch whole (length events) (length whole)) (event.Step i s (call.Begin tenure) (b.0).reply)) (sym is_node) (happens_in events h.begins e here))))
     tt (inr (record { before = place; stands = (inner_turns turns, record { others = []; some_of = tt; are = sym (append-nil (inner_turns turns)) }, stands.left.place); made = inl stands.left.place; left = subst (λ xs. MovesLeft place name asked xs shown) (sym none) same; version_is = version_is ∙ ap (λ (q : Placement). q.version) (sym same) }))
 
@@ -173,7 +174,7 @@ module _ {D : Type 0} {G : Ghosts D} (state : D → DiskState) (tells : Bool) (s
             let before_is = h.refused.begun.are in
             let asked_there : At h.refused.before r.k (ask_of k s (call.Begin tenure)) = subst (λ es. At es r.k (ask_of k s (call.Begin tenure))) (sym before_is) r.asked in
             let low = at_within h.refused.before r.k (ask_of k s (call.Begin tenure)) asked_there in
-            let front_is : take r.k (flat_map (begin_at node) h.refused.begun.begun) ≡ take r.k h.begins = ap (take r.k) (sym before_is) ∙ sym (take_front h.refused.before last r.k (omega (arith, low))) ∙ ap (take r.k) (sym h.refused.are) in
+            let front_is : take r.k (flat_map (begin_at node) h.refused.begun.begun) ≡ take r.k h.begins = ap (take r.k) (sym before_is) ∙ sym (take-append-le r.k h.refused.before last (omega (arith, low))) ∙ ap (take r.k) (sym h.refused.are) in
             record {
               k = r.k;
               next = r.next;

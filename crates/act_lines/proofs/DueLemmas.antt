@@ -3,6 +3,7 @@ use Rattle.std.proofs.Common.{◌≡◌, ℕ, ◌<◌, ◌≤◌, List, length, 
 use Rattle.std.specs.Prelude.{Option, Some, None, option_map, is_some, nat_le, nat_lt, decimal}
 use Rattle.std.specs.Option.{option_or}
 use Rattle.std.proofs.lemmas.Bool.{le-leb, le-ltb, lt-leb, lt-ltb}
+use Rattle.std.proofs.lemmas.Option.{same_Some}
 use Rattle.m3_model.specs.Rules.{namespace_position}
 use Rattle.m3_model.specs.declared.act.Act.{Act}
 use Rattle.m3_model.specs.declared.act.Act.TheVariants as act
@@ -113,13 +114,10 @@ deliveries_are_due start turns place rules left b = refused_by start turns (Some
 
 -- ---- nodes
 
-same_flag : (x y : Bool) → Some x ≡ Some y → x ≡ y
-same_flag x y e = cc
-
 pub flags_tell : FlagsTell
 flags_tell turns place flags stops name node halted found flag =
     let at = node_found name place.instances node found in
-    ap (is_stopped (inner_turns turns)) (sym at.name_is) ∙ same_flag (is_stopped (inner_turns turns) at.instance_.name) halted (sym (stops node at.instance_ at.stands) ∙ flag)
+    ap (is_stopped (inner_turns turns)) (sym at.name_is) ∙ same_Some (is_stopped (inner_turns turns) at.instance_.name) halted (sym (stops node at.instance_ at.stands) ∙ flag)
 
 pub fates_are_due : FatesAreDue
 fates_are_due start turns place rules left list b = record {

@@ -1,10 +1,11 @@
 -- Lists of events that grow by steps of replicas: what stood stands, and where the new events are.
-use Rattle.std.proofs.Common.{◌≡◌, ℕ, zero, suc, ◌+◌, ◌≤◌, List, [], ◌∷◌, ◌++◌, length, take, refl, sym, ap, ◌∙◌, subst, inl, inr, arith}
+use Rattle.std.proofs.Common.{◌≡◌, ℕ, suc, ◌+◌, ◌≤◌, List, [], ◌∷◌, ◌++◌, length, take, refl, sym, ap, ◌∙◌, subst, inl, inr, arith}
 use Rattle.std.specs.Prelude.{◌⊎◌, Option, None, fold}
 use Rattle.std.proofs.lemmas.Grind.{fold-append}
 use Rattle.std.proofs.lemmas.Bool.{cases_lt}
 use Rattle.m3_model.specs.Members.{IsIn}
 use Rattle.m3_model.specs.declared.placement.Placement.{Placement}
+use Rattle.m3_model.proofs.Lists.{IsIn-take}
 use Rattle.cluster_core.specs.Earlier.{GivesTenure, HasTenure, last_place, place_after}
 use Rattle.cluster_core.specs.Lists.{At}
 use Rattle.cluster_core.specs.declared.event.Event.{Event}
@@ -23,11 +24,6 @@ use Rattle.act_lines.specs.Stays.{HaveNoPlace, IsNoPlace}
 pub take_behind : {X : Type 0} (xs ys : List X) (j : ℕ) → take (length xs + j) (xs ++ ys) ≡ xs ++ take j ys
 take_behind [] ys j = let same : 0 + j ≡ j = omega arith in ap (λ n. take n ys) same
 take_behind (x ∷ xs) ys j = let same : suc (length xs) + j ≡ suc (length xs + j) = omega arith in ap (λ n. take n (x ∷ (xs ++ ys))) same ∙ ap (λ zs. x ∷ zs) (take_behind xs ys j)
-
-pub take_in : {X : Type 0} (xs : List X) (j : ℕ) (x : X) → IsIn (take j xs) x → IsIn xs x
-take_in xs zero x m = absurd m
-take_in [] (suc j) x m = absurd m
-take_in (y ∷ xs) (suc j) x m = elim m as (λ _. IsIn (y ∷ xs) x) [ inl same ↦ inl same | inr later ↦ inr (take_in xs j x later) ]
 
 -- an event that came happens in the stretch of what came
 pub happens_in : (events more : List Event) (e : Event) → IsIn more e → Happens (InStretch (events ++ more) (length events) (length (events ++ more))) e
@@ -54,7 +50,7 @@ last_still events more none = fold-append place_after None events more ∙ place
 pub last_before : (events more : List Event) → HaveNoPlace more → (i : ℕ) (e : Event) → length events ≤ i → At (events ++ more) i e → last_place (take i (events ++ more)) ≡ last_place events
 last_before events more none i e le at =
     let back = at_back events more i e at le in
-    ap (λ n. last_place (take n (events ++ more))) back.1 ∙ ap last_place (take_behind events more back.0) ∙ last_still events (take back.0 more) (λ x m. none x (take_in more back.0 x m))
+    ap (λ n. last_place (take n (events ++ more))) back.1 ∙ ap last_place (take_behind events more back.0) ∙ last_still events (take back.0 more) (λ x m. none x (IsIn-take back.0 more x m))
 
 pub given_before : (events more : List Event) (n s tenure : ℕ) → HasTenure events n s tenure → (i : ℕ) (e : Event) → length events ≤ i → At (events ++ more) i e → HasTenure (take i (events ++ more)) n s tenure
 given_before events more n s tenure given i e le at =

@@ -16,6 +16,7 @@ use Rattle.m3_model.specs.declared.reason.Reason.TheVariants as reason
 use Rattle.m3_model.specs.declared.rules.MetaState.{MetaState}
 use Rattle.m3_model.specs.declared.turn.Turn.{Turn}
 use Rattle.m3_model.proofs.MemberLemmas.{IsIn-append_cases, IsIn-append_left, IsIn-append_right}
+use Rattle.m3_model.proofs.Lists.{IsIn-filter, IsIn-flat_map, flat_map-IsIn}
 use Rattle.m3_outside.specs.DiskState.{DiskState}
 use Rattle.m3_outside.specs.declared.disk.Disk.{Ghosts}
 use Rattle.cluster_core.specs.Earlier.{last_place}
@@ -28,7 +29,6 @@ use Rattle.cluster_core.specs.declared.event.StepCall.TheVariants as call
 use Rattle.cluster_core.specs.declared.event.StepReply.{StepReply}
 use Rattle.cluster_core.specs.declared.event.StepReply.TheVariants as reply
 use Rattle.cluster_core.proofs.ListLemmas.{at_in, at_within, in_at}
-use Rattle.placement_core.proofs.ListLemmas.{IsIn-filter}
 use Rattle.replica_exchange.specs.Exchanges.{ask_of}
 use Rattle.replica_exchange.specs.declared.slot.Slot.{Slot}
 use Rattle.session_net.specs.Messages.{exchange}
@@ -56,7 +56,7 @@ use Rattle.call_lines.proofs.ServeLemmas.{answered, delivered_so, serves_so}
 use Rattle.cluster_members.specs.declared.members.Members.{Members}
 use Rattle.node_calls.specs.Halts.{IsUnrestarted, restart_at, slots_of_node, stop_at}
 use Rattle.node_calls.specs.Nodes.{IsNode, IsUnstarted, KeepsButNodes}
-use Rattle.node_calls.proofs.ListLemmas.{IsIn-flat, filter_few, flat-IsIn, flat_long}
+use Rattle.node_calls.proofs.ListLemmas.{filter_few, flat_long}
 use Rattle.node_calls.proofs.RunLemmas.{quiet_exchange, quiet_flat, ready_still, unrestarted_few, unrestarted_quiet}
 use Rattle.act_lines.specs.Quiet.{KeepsStops}
 use Rattle.act_lines.specs.Stands.{ClusterStands}
@@ -87,10 +87,10 @@ module _ (Kind : StepCall → Type 0) where
   exchange_halts slots s among c kind r e (inr (inr none)) = absurd none
 
   stops_halt : Kind call.Stop → (slots : List Slot) (e : Event) → IsIn (flat_map stop_at slots) e → IsHaltOf Kind slots e
-  stops_halt kind slots e m = let found = IsIn-flat stop_at slots e m in exchange_halts slots found.0 found.1 call.Stop kind reply.Done e found.2
+  stops_halt kind slots e m = let found = IsIn-flat_map stop_at slots e m in exchange_halts slots found.0 found.1 call.Stop kind reply.Done e found.2
 
   restarts_halt : Kind call.Restart → (slots : List Slot) (e : Event) → IsIn (flat_map restart_at slots) e → IsHaltOf Kind slots e
-  restarts_halt kind slots e m = let found = IsIn-flat restart_at slots e m in exchange_halts slots found.0 found.1 call.Restart kind reply.Done e found.2
+  restarts_halt kind slots e m = let found = IsIn-flat_map restart_at slots e m in exchange_halts slots found.0 found.1 call.Restart kind reply.Done e found.2
 
   more_slots : (slots all : List Slot) → ((s : Slot) → IsIn slots s → IsIn all s) → (e : Event) → IsHaltOf Kind slots e → IsHaltOf Kind all e
   more_slots slots all each e h = record { slot = h.slot; among = each h.slot h.among; c = h.c; kind = h.kind; is = h.is }
@@ -238,7 +238,7 @@ restarts_quiet slots = quiet_flat restart_at (λ s. quiet_exchange s.node s.shar
 
 no_restart : (slots : List Slot) (n s : ℕ) (r : StepReply) → IsIn (flat_map stop_at slots) (event.Step n s call.Restart r) → ⊥
 no_restart slots n s r m =
-    let found = IsIn-flat stop_at slots (event.Step n s call.Restart r) m in
+    let found = IsIn-flat_map stop_at slots (event.Step n s call.Restart r) m in
     by (found.0) found.2
   where
     by : (slot : Slot) → IsIn (stop_at slot) (event.Step n s call.Restart r) → ⊥
@@ -279,7 +279,7 @@ stopped_tells {D} {G} state old start turns new name stands h =
     record {
       line = leaves state start turns old new stands name false n a answer.Done (stop_answer name) IsStop (λ c k. inl k) more h.stopped halts asks h.keeps
           (line state start turns old new stands name false n a answer.Done (stop_answer name) IsStop (λ c k. inl k) more h.stopped halts asks h.keeps
-          (λ k s slot. happens_in events more (event.Step k s call.Stop reply.Done) (flat-IsIn stop_at slots (slot_at k s) (event.Step k s call.Stop reply.Done) (slot_here start turns old stands name false n k s slot.named slot.has) (inr (inl refl))))
+          (λ k s slot. happens_in events more (event.Step k s call.Stop reply.Done) (flat_map-IsIn stop_at slots (slot_at k s) (event.Step k s call.Stop reply.Done) (slot_here start turns old stands name false n k s slot.named slot.has) (inr (inl refl))))
           (λ i k s r le at. inl refl))
           (let long = flat_long stop_at (λ s. refl) slots in let few = few_own old n.node in omega (arith, long, few)) tt (inr tt);
       stands = stands_so state start turns old new stands name false n a answer.Done (stop_answer name) IsStop (λ c k. inl k) more h.stopped halts asks h.keeps (stops_quiet slots)
@@ -316,7 +316,7 @@ restarted_tells {D} {G} state old start turns new name pick stands h =
     record {
       line = leaves state start turns old new stands name true n a answer.Done (restart_answer name pick) IsRestart (λ c k. inr k) more h.restarted halts asks h.keeps
           (line state start turns old new stands name true n a answer.Done (restart_answer name pick) IsRestart (λ c k. inr k) more h.restarted halts asks h.keeps
-          (λ k s slot. happens_in events more (event.Step k s call.Restart reply.Done) (flat-IsIn restart_at slots (slot_at k s) (event.Step k s call.Restart reply.Done) (slot_here start turns old stands name true n k s slot.named slot.has) (inr (inl refl))))
+          (λ k s slot. happens_in events more (event.Step k s call.Restart reply.Done) (flat_map-IsIn restart_at slots (slot_at k s) (event.Step k s call.Restart reply.Done) (slot_here start turns old stands name true n k s slot.named slot.has) (inr (inl refl))))
           (λ i k s r le at. inl refl))
           (let long = flat_long restart_at (λ s. refl) slots in let few = few_own old n.node in omega (arith, long, few)) tt (inr tt);
       stands = stands_so state start turns old new stands name true n a answer.Done (restart_answer name pick) IsRestart (λ c k. inr k) more h.restarted halts asks h.keeps (restarts_quiet slots)
@@ -363,7 +363,7 @@ module _ {D : Type 0} {G : Ghosts D} (state : D → DiskState) (start : Option M
       let in_tried : back.0 < length h.tried = before back.0 back.2 in
       let slot = halt_step IsHaltCall slots k s call.Restart r (each step (at_in came back.0 step back.2)) in
       let stop : Event = event.Step k s call.Stop reply.Done in
-      let there = in_at stops stop (flat-IsIn stop_at slots (slot_at k s) stop slot (inr (inl refl))) in
+      let there = in_at stops stop (flat_map-IsIn stop_at slots (slot_at k s) stop slot (inr (inl refl))) in
       let there_too = back_at events came (length h.tried + there.0) stop (back_at h.tried stops there.0 stop there.1) in
       let is = back.1 in
       let later : i < length events + (length h.tried + there.0) = omega (arith, is, in_tried) in

@@ -3,6 +3,7 @@ use Rattle.std.proofs.Common.{◌≡◌, ◌+◌, ◌*◌, ◌≤◌, ℕ, zero,
 use Rattle.std.specs.Prelude.{◌⊎◌, Option, Some, None, Ok, fold, slice_get, map}
 use Rattle.std.proofs.Math.Nat.{mul-le-mul_left}
 use Rattle.std.proofs.lemmas.List.{append-nil}
+use Rattle.std.proofs.lemmas.Option.{same_Some}
 use Rattle.m3_model.specs.Members.{IsIn}
 use Rattle.m3_model.specs.declared.act.Act.{Act}
 use Rattle.m3_model.specs.declared.act.Act.TheVariants as act
@@ -13,6 +14,7 @@ use Rattle.m3_model.specs.declared.placement.Assignment.{Assignment}
 use Rattle.m3_model.specs.declared.placement.Placement.{Placement}
 use Rattle.m3_model.specs.declared.reason.Reason.TheVariants as reason
 use Rattle.m3_model.specs.declared.turn.Turn.{Turn}
+use Rattle.m3_model.proofs.Lists.{IsIn-take}
 use Rattle.m3_outside.specs.Depots.{Depot, TellAll}
 use Rattle.m3_outside.specs.DiskState.{DiskState, IsLawfulDisk}
 use Rattle.m3_outside.specs.declared.disk.Disk.{Ghosts}
@@ -26,7 +28,7 @@ use Rattle.cluster_core.specs.declared.event.StepCall.{StepCall}
 use Rattle.cluster_core.specs.declared.event.StepCall.TheVariants as call
 use Rattle.cluster_core.specs.declared.event.StepReply.{StepReply}
 use Rattle.cluster_core.specs.declared.event.StepReply.TheVariants as reply
-use Rattle.cluster_core.proofs.ListLemmas.{at_in, at_within, in_at, some_same}
+use Rattle.cluster_core.proofs.ListLemmas.{at_in, at_within, in_at}
 use Rattle.replica_machine.specs.declared.machine.Began.{Began}
 use Rattle.replica_exchange.specs.declared.slot.Slot.{Slot}
 use Rattle.session_net.specs.Runs.{slot_at}
@@ -117,13 +119,7 @@ module _ {D : Type 0} {G : Ghosts D} (state : D → DiskState) (m : Members D G)
   in_begins (suc (suc i)) e two at = at_in begins i e at
 
   quiet_take : (k : ℕ) → AreQuiet (take k begins)
-  quiet_take k e i = quiet_begins said (starts_of place) e (take_in k begins e i)
-    where
-      take_in : (k : ℕ) (xs : List Event) (x : Event) → IsIn (take k xs) x → IsIn xs x
-      take_in zero xs x i = absurd i
-      take_in (suc k) [] x i = absurd i
-      take_in (suc k) (y ∷ xs) x (inl same) = inl same
-      take_in (suc k) (y ∷ xs) x (inr rest) = inr (take_in k xs x rest)
+  quiet_take k e i = quiet_begins said (starts_of place) e (IsIn-take k begins e i)
 
   last_so : (i : ℕ) → 2 ≤ i → last_place (take i all) ≡ Some place
   last_so zero two = absurd (omega (arith, two))
@@ -191,10 +187,10 @@ module _ {D : Type 0} {G : Ghosts D} (state : D → DiskState) (m : Members D G)
   -- ---- served
 
   place_at : (i : ℕ) (other : Placement) (done : List (ℕ × ℕ)) → At all i (event.Place other done) → other ≡ place
-  place_at zero other done at = placed_same place other done (some_same (event.Place place []) (event.Place other done) at)
+  place_at zero other done at = placed_same place other done (same_Some (event.Place place []) (event.Place other done) at)
     where
       placed_same : (x y : Placement) (done : List (ℕ × ℕ)) → event.Place x [] ≡ event.Place y done → y ≡ x
-      placed_same x y done e = some_same y x (sym (ap (λ e. placed_after None e) e))
+      placed_same x y done e = same_Some y x (sym (ap (λ e. placed_after None e) e))
   place_at (suc zero) other done at = cc
   place_at (suc (suc i)) other done at = absurd (quiet_begins said (starts_of place) (event.Place other done) (at_in begins i (event.Place other done) at))
 

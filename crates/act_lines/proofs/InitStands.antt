@@ -3,6 +3,7 @@ use Rattle.std.proofs.Common.{◌≡◌, ◌≢◌, ◌<◌, ◌+◌, ℕ, zero,
 use Rattle.std.specs.Prelude.{Option, Some, None, slice_get, unwrap_or}
 use Rattle.std.specs.FinMap.{get, get-empty}
 use Rattle.std.proofs.lemmas.Grind.{fold-append}
+use Rattle.std.proofs.lemmas.Option.{same_Some, slice_get_within}
 use Rattle.m3_model.specs.Members.{IsIn}
 use Rattle.m3_model.specs.declared.act.Act.{Act}
 use Rattle.m3_model.specs.declared.act.Act.TheVariants as act
@@ -21,14 +22,14 @@ use Rattle.m3_outside.specs.declared.disk.Disk.{Ghosts}
 use Rattle.net_plan.specs.FateKeys.{fate_key_cmp}
 use Rattle.net_plan.specs.Fates.{fate_of, fates_of}
 use Rattle.net_plan.specs.declared.fate_key.FateKey.{FateKey}
-use Rattle.placement_core.proofs.ListLemmas.{IsIn-from_Any, at_within}
+use Rattle.placement_core.proofs.ListLemmas.{IsIn-from_Any}
 use Rattle.cluster_core.specs.Earlier.{GivesTenure, HasTenure}
 use Rattle.cluster_core.specs.Lists.{At}
 use Rattle.cluster_core.specs.declared.event.Event.{Event}
 use Rattle.cluster_core.specs.declared.event.Event.TheVariants as event
 use Rattle.cluster_core.specs.declared.event.StepCall.{StepCall}
 use Rattle.cluster_core.specs.declared.event.StepReply.{StepReply}
-use Rattle.cluster_core.proofs.ListLemmas.{any_at, at_in, at_same, some_same}
+use Rattle.cluster_core.proofs.ListLemmas.{any_at, at_in, at_same}
 use Rattle.told_by.specs.Hears.{HasReplica, IsNamedBy}
 use Rattle.replica_exchange.specs.declared.member.Member.{Member}
 use Rattle.replica_exchange.specs.declared.slot.Slot.{Slot}
@@ -118,7 +119,7 @@ module _ {D : Type 0} {G : Ghosts D} (state : D → DiskState) (m : Members D G)
 
   stops_so : AreStoppedBy longer place m.stopped.items
   stops_so node own at =
-      ap (λ (items : List Bool). slice_get items node) first.stopped ∙ runs_at (length place.instances) node (at_within place.instances node own at) ∙ ap Some (sym (stops_next turns a b own.name ∙ none.runs own.name))
+      ap (λ (items : List Bool). slice_get items node) first.stopped ∙ runs_at (length place.instances) node (slice_get_within place.instances node own at) ∙ ap Some (sym (stops_next turns a b own.name ∙ none.runs own.name))
 
   slots_in_so : (s : Slot) → IsIn m.slots.items s → get m.net.replicas.members s ≢ None
   slots_in_so s i = there_after state (record { members = first.opened.made; events = opening_of m.net.state }) m.net.replicas (begins_of first.opened.begun.said (starts_of place)) s first.opened.begun.ran (λ gone.
@@ -154,8 +155,8 @@ module _ {D : Type 0} {G : Ghosts D} (state : D → DiskState) (m : Members D G)
 
   -- the only Place is the first event
   one_place : (i : ℕ) (e : Event) (p : Placement) → At list i e → placed_in e ≡ Some p → p ≡ place
-  one_place zero e p at is = (let same : event.Place place [] ≡ e = some_same (event.Place place []) e at in some_same p place (sym is ∙ ap placed_in (sym same)))
-  one_place (suc zero) e p at is = (let same : event.Clock m.net.state.rules ≡ e = some_same (event.Clock m.net.state.rules) e at in let clash : None ≡ Some p = ap placed_in same ∙ is in cc)
+  one_place zero e p at is = (let same : event.Place place [] ≡ e = same_Some (event.Place place []) e at in same_Some p place (sym is ∙ ap placed_in (sym same)))
+  one_place (suc zero) e p at is = (let same : event.Clock m.net.state.rules ≡ e = same_Some (event.Clock m.net.state.rules) e at in let clash : None ≡ Some p = ap placed_in same ∙ is in cc)
   one_place (suc (suc i)) e p at is =
       let h = of_begin first.opened.begun.said (starts_of place) e (at_in begins i e at) in
       elim h.is as (λ _. p ≡ place) [
@@ -168,8 +169,8 @@ module _ {D : Type 0} {G : Ghosts D} (state : D → DiskState) (m : Members D G)
 
   -- each step is of a slot
   one_step : (i n s : ℕ) (c : StepCall) (r : StepReply) → At list i (event.Step n s c r) → IsIn (slots_of place) (slot_at n s)
-  one_step zero n s c r at = (let clash : event.Place place [] ≡ event.Step n s c r = some_same (event.Place place []) (event.Step n s c r) at in cc)
-  one_step (suc zero) n s c r at = (let clash : event.Clock m.net.state.rules ≡ event.Step n s c r = some_same (event.Clock m.net.state.rules) (event.Step n s c r) at in cc)
+  one_step zero n s c r at = (let clash : event.Place place [] ≡ event.Step n s c r = same_Some (event.Place place []) (event.Step n s c r) at in cc)
+  one_step (suc zero) n s c r at = (let clash : event.Clock m.net.state.rules ≡ event.Step n s c r = same_Some (event.Clock m.net.state.rules) (event.Step n s c r) at in cc)
   one_step (suc (suc i)) n s c r at =
       let h = step_among first.opened.begun.said (starts_of place) n s c r (at_in begins i (event.Step n s c r) at) in
       let same : (h.start).slot ≡ slot_at n s = λ j. record { shard = h.shard_is j; node = h.node_is j } in

@@ -11,11 +11,12 @@ use Rattle.m3_model.specs.declared.placement.Instance.{Instance}
 use Rattle.m3_model.specs.declared.placement.Placement.{Placement}
 use Rattle.m3_model.specs.declared.rules.MetaState.{MetaState}
 use Rattle.m3_model.specs.declared.turn.Turn.{Turn}
+use Rattle.m3_model.proofs.Lists.{IsIn-filter_passes, filter-IsIn}
 use Rattle.m3_outside.specs.declared.disk.Disk.{Ghosts}
 use Rattle.cluster_core.specs.Earlier.{last_place}
 use Rattle.cluster_core.specs.declared.event.Event.{Event}
 use Rattle.cluster_core.proofs.ListLemmas.{at_some}
-use Rattle.placement_core.proofs.ListLemmas.{chosen, filter-IsIn, same_at}
+use Rattle.placement_core.proofs.ListLemmas.{same_at}
 use Rattle.replica_exchange.specs.declared.slot.Slot.{Slot}
 use Rattle.session_net.specs.Runs.{slot_at}
 use Rattle.told_by.specs.Hears.{HasReplica, IsNamedBy}
@@ -35,7 +36,7 @@ use Rattle.act_lines.proofs.QuietLemmas.{stops_next}
 -- ---- slots of a node
 
 pub of_node : (node : ℕ) (slots : List Slot) (s : Slot) → IsIn (slots_of_node node slots) s → s.node ≡ node
-of_node node slots s i = eqb-true s.node node (chosen (λ (x : Slot). nat_eq x.node node) slots s i)
+of_node node slots s i = eqb-true s.node node (IsIn-filter_passes (λ (x : Slot). nat_eq x.node node) slots s i)
 
 pub node_has : (node : ℕ) (slots : List Slot) (s : Slot) → IsIn slots s → s.node ≡ node → IsIn (slots_of_node node slots) s
 node_has node slots s i is = filter-IsIn (λ (x : Slot). nat_eq x.node node) slots s i (eq-eqb s.node node is)

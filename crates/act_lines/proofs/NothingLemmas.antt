@@ -3,6 +3,7 @@ use Rattle.std.proofs.Common.{◌≡◌, ℕ, ◌*◌, List, [], ◌++◌, lengt
 use Rattle.std.specs.Prelude.{⊤, Option, Some, None, option_map, not, ◌&&◌, nat_le}
 use Rattle.std.specs.Option.{option_or}
 use Rattle.std.proofs.lemmas.List.{append-nil}
+use Rattle.std.proofs.lemmas.Option.{same_Some}
 use Rattle.m3_model.specs.Reads.{found_of}
 use Rattle.m3_model.specs.declared.act.Act.{Act}
 use Rattle.m3_model.specs.declared.act.Act.TheVariants as act
@@ -58,10 +59,7 @@ or_kind None y b first second e = second b e
 or_kind (Some x) y b first second e = first b e
 
 if_kind : (t : Bool) (x b : Answer) → IsRefusal x → answer_if t x ≡ Some b → IsRefusal b
-if_kind true x b is e = subst IsRefusal (same x b e) is
-  where
-    same : (x b : Answer) → Some x ≡ Some b → x ≡ b
-    same x b e = cc
+if_kind true x b is e = subst IsRefusal (same_Some x b e) is
 if_kind false x b is e = absurd (let bad : None ≡ Some b = e in cc)
 
 unknown_kind : (o : Option (List ℕ)) (b : Answer) → option_map (λ name. answer.Unknown name) o ≡ Some b → IsRefusal b

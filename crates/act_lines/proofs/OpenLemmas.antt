@@ -6,6 +6,7 @@ use Rattle.std.specs.declared.snapshot.Snapshot.{Snapshot}
 use Rattle.std.specs.List.{Any, cons_option}
 use Rattle.std.proofs.lemmas.Bool.{and_from, and_parts, cases_eq, eq-eqb, eqb-true}
 use Rattle.std.proofs.lemmas.Grind.{fold-append}
+use Rattle.std.proofs.lemmas.Option.{same_Some}
 use Rattle.m3_model.specs.Ascends.{Ascends}
 use Rattle.m3_model.specs.Members.{IsIn}
 use Rattle.m3_model.specs.declared.placement.Assignment.{Assignment}
@@ -14,6 +15,7 @@ use Rattle.m3_model.specs.declared.point.Point.{Point}
 use Rattle.m3_model.specs.declared.reason.Reason.TheVariants as reason
 use Rattle.m3_model.specs.declared.rules.MetaState.{MetaState}
 use Rattle.m3_model.proofs.MemberLemmas.{IsIn-append_cases}
+use Rattle.m3_model.proofs.Lists.{IsIn-take}
 use Rattle.m3_outside.specs.DiskState.{DiskState, EachImage}
 use Rattle.m3_outside.specs.Files.{Files}
 use Rattle.m3_outside.specs.declared.disk.Disk.{Ghosts}
@@ -28,7 +30,7 @@ use Rattle.cluster_core.specs.declared.event.StepCall.TheVariants as call
 use Rattle.cluster_core.specs.declared.event.StepReply.{StepReply}
 use Rattle.cluster_core.specs.declared.event.StepReply.TheVariants as reply
 use Rattle.cluster_core.specs.declared.replica_state.ReplicaState.{ReplicaState}
-use Rattle.cluster_core.proofs.ListLemmas.{at_any, at_in, at_same, fold_suc, some_same}
+use Rattle.cluster_core.proofs.ListLemmas.{at_any, at_in, at_same, fold_suc}
 use Rattle.cluster_core.proofs.ReplicaLemmas.{after_begun, some_there}
 use Rattle.cluster_core.proofs.TraceLemmas.{step_cases}
 use Rattle.placement_core.specs.Lawful.{IsLawful}
@@ -53,7 +55,7 @@ use Rattle.transcripts.specs.Moves.{IsLeftFence}
 use Rattle.cluster_members.specs.declared.members.Members.{Members}
 use Rattle.node_calls.specs.Begins.{IsTenureUnowned}
 use Rattle.act_lines.specs.Stays.{HaveNoPlace}
-use Rattle.act_lines.proofs.GrowLemmas.{last_still, take_behind, take_in}
+use Rattle.act_lines.proofs.GrowLemmas.{last_still, take_behind}
 use Rattle.act_lines.specs.Keeps.{BeginsGiven, BeginsStill}
 use Rattle.act_lines.specs.Opens.{IsGivenNow, IsLow, MayOpenSlots}
 
@@ -107,7 +109,7 @@ module _ {D : Type 0} (state : D → DiskState) (slot : Slot) (first : D) where
       → TookStep state first (fold on r (take j more)) c a
   took [] r old new is taken j c a at = absurd (at_in [] j (event.Step slot.node slot.shard c a) at)
   took (e ∷ more) r old new is taken zero c a at =
-      let same : e ≡ event.Step slot.node slot.shard c a = some_same e (event.Step slot.node slot.shard c a) at in
+      let same : e ≡ event.Step slot.node slot.shard c a = same_Some e (event.Step slot.node slot.shard c a) at in
       let here = subst (λ o. TakesSteps state (cons_option o (steps_of slot more)) old new) (ap (step_in slot) same ∙ own_step slot c a) taken in
       record { old = old; new = here.0; is = is; step = here.1 }
   took (e ∷ more) r old new is taken (suc j) c a at = elim (step_or_not slot e) as (λ _. TookStep state first (fold on (on r e) (take j more)) c a) [
@@ -166,8 +168,8 @@ one_tenure shard n a b distinct of_a of_b =
 
 same_given : (events : List Event) (place : Placement) → last_place events ≡ Some place → IsLawful place → (n s a b : ℕ) → IsGivenNow events n s a → IsGivenNow events n s b → a ≡ b
 same_given events place last lawful n s a b of_a of_b =
-    let same_a : of_a.0 ≡ place = some_same of_a.0 place (sym of_a.1 ∙ last) in
-    let same_b : of_b.0 ≡ place = some_same of_b.0 place (sym of_b.1 ∙ last) in
+    let same_a : of_a.0 ≡ place = same_Some of_a.0 place (sym of_a.1 ∙ last) in
+    let same_b : of_b.0 ≡ place = same_Some of_b.0 place (sym of_b.1 ∙ last) in
     let x = subst (λ p. IsAssigned p n s a) same_a of_a.2 in
     let y = subst (λ p. IsAssigned p n s b) same_b of_b.2 in
     let same : y.0 ≡ x.0 = at_same place.shards s y.0 x.0 y.1 x.1 in
@@ -203,7 +205,7 @@ module _ {D : Type 0} (state : D → DiskState) (tells : Bool) (start : Option M
   module _ (n s : ℕ) (was : Member D) (there : finite.get old.members (slot_at n s) ≡ Some was) where
     machine : (o : Option (Member D)) → finite.get old.members (slot_at n s) ≡ o → IsStepped state (steps_of (slot_at n s) more) o (finite.get new.members (slot_at n s)) → (m : MachineState D) × TakesSteps state (steps_of (slot_at n s) more) was.machine m
     machine None is h = let clash : Some was ≡ None = sym there ∙ is in cc
-    machine (Some x) is h = let same : x ≡ was = some_same x was (sym is ∙ there) in ((h.0).machine, subst (λ (y : Member D). TakesSteps state (steps_of (slot_at n s) more) y.machine (h.0).machine) same h.3)
+    machine (Some x) is h = let same : x ≡ was = same_Some x was (sym is ∙ there) in ((h.0).machine, subst (λ (y : Member D). TakesSteps state (steps_of (slot_at n s) more) y.machine (h.0).machine) same h.3)
 
     took_at : (j : ℕ) (c : StepCall) (a : StepReply) → At more j (event.Step n s c a) → TookStep state (was.first).value (replica n s (take (length events + j) whole)) c a
     took_at j c a at =
@@ -247,7 +249,7 @@ module _ {D : Type 0} (state : D → DiskState) (tells : Bool) (start : Option M
     -- and none is refused as not owned
     first_owned : (past : List Event) → (replica n s past).begun ≡ [] → ((own : ℕ) → IsIn (replica n s past).tried own → own ≤ tenure) → IsTenureUnowned state old.members (slot_at n s) past tenure → ⊥
     first_owned past none each h =
-        let same : h.was ≡ was = some_same h.was was (sym h.there ∙ there) in
+        let same : h.was ≡ was = same_Some h.was was (sym h.there ∙ there) in
         let first_is : (h.now.first) ≡ was.first = h.first ∙ ap (λ (m : Member D). m.first) same in
         let is = subst (λ (f : Snapshot D). IsMachineOf state (state f.value).images (replica n s past) h.now.machine) first_is h.is in
         elim h.unowned as (λ _. ⊥) [
@@ -279,7 +281,7 @@ module _ {D : Type 0} (state : D → DiskState) (tells : Bool) (start : Option M
   AreThere = (n s tenure : ℕ) (a : StepReply) → IsIn more (event.Step n s (call.Begin tenure) a) → (was : Member D) × (finite.get old.members (slot_at n s) ≡ Some was)
 
   take_among : (j : ℕ) (e : Event) → IsIn (take j more) e → IsIn more e
-  take_among j e m = take_in more j e m
+  take_among j e m = IsIn-take j more e m
 
   pub opens_next : tells ≡ true → AreUnowned → AreThere → OpensNext start events more
   opens_next tell unowned there = record {
@@ -324,7 +326,7 @@ module _ {D : Type 0} (state : D → DiskState) (tells : Bool) (start : Option M
     where
       by : (o : Option (Member D)) → finite.get old.members slot ≡ o → IsStepped state (steps_of slot more) o (finite.get new.members slot) → (was : Member D) × (finite.get old.members slot ≡ Some was) × (m.first ≡ was.first) × TakesSteps state (steps_of slot more) was.machine m.machine
       by None is h = let clash : Some m ≡ None = sym at ∙ h in cc
-      by (Some x) is h = let same : h.0 ≡ m = some_same h.0 m (sym h.1 ∙ at) in (x, is, ap (λ (y : Member D). y.first) (sym same) ∙ h.2, subst (λ (y : Member D). TakesSteps state (steps_of slot more) x.machine y.machine) same h.3)
+      by (Some x) is h = let same : h.0 ≡ m = same_Some h.0 m (sym h.1 ∙ at) in (x, is, ap (λ (y : Member D). y.first) (sym same) ∙ h.2, subst (λ (y : Member D). TakesSteps state (steps_of slot more) x.machine y.machine) same h.3)
 
   pub begins_on : MayOpenSlots state tells start new
   begins_on = record {

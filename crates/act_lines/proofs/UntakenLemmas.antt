@@ -1,6 +1,7 @@
 -- No events tell of an `init` that couldn't take a disk, and serve it.
 use Rattle.std.proofs.Common.{◌≡◌, ◌<◌, ℕ, zero, suc, List, [], ◌∷◌, length, refl, sym, ap, subst, ◌∙◌, inl, inr, arith, Bool, true, false}
 use Rattle.std.specs.Prelude.{Some, None, slice_get}
+use Rattle.std.proofs.lemmas.Option.{same_Some}
 use Rattle.m3_model.specs.declared.act.Act.{Act}
 use Rattle.m3_model.specs.declared.act.Act.TheVariants as act
 use Rattle.m3_model.specs.declared.answer.Answer.{Answer}
@@ -9,7 +10,6 @@ use Rattle.m3_model.specs.declared.placement.Instance.{Instance}
 use Rattle.m3_model.specs.declared.placement.Placement.{Placement}
 use Rattle.m3_model.specs.declared.turn.Turn.{Turn}
 use Rattle.placement_plan.specs.First.{IsFirstPlacement, first_instances}
-use Rattle.cluster_core.proofs.ListLemmas.{some_same}
 use Rattle.session_net.specs.Runs.{slot_at}
 use Rattle.first_cluster.proofs.PlacedSlots.{shard_low}
 use Rattle.told_by.specs.Lines.{PlainLine}
@@ -31,7 +31,7 @@ use Rattle.act_lines.proofs.InitLemmas.{decided}
 names_from : (nodes : List (List ℕ × List ℕ)) (node : ℕ) (one : Instance) → slice_get (first_instances nodes) node ≡ Some one → NamesNode nodes one.name node
 names_from [] node one at = cc
 names_from (x ∷ nodes) zero one at =
-    let same = some_same (record { name = x.0; group = x.1; listed = true; drained = false }) one at in
+    let same = same_Some (record { name = x.0; group = x.1; listed = true; drained = false }) one at in
     (x.1, ap (λ (n : List ℕ). Some (n, x.1)) (ap (λ (i : Instance). i.name) same))
 names_from (x ∷ nodes) (suc node) one at = names_from nodes node one at
 

@@ -19,14 +19,14 @@ use Rattle.block_buffer.proofs.PlaceLemmas.{eq_or_not, last_or_other, swapped_he
 pub some_inserted : (v : Slots) (t : ℕ) (x : Option ℤ) → IsSome (map.get (map.insert v t x) t)
 some_inserted v t x = ap is_some (get-insert nat_cmp_total v t x t ∙ ap (λ b. cond b (Some x) (map.get v t)) (ap is_eq (tied_itself nat_cmp_total t)))
 
-some_before : (v : Slots) (t : ℕ) (x : Option ℤ) (q : ℕ) → IsSome (map.get (map.insert v t x) q) → (q ≡ t) ⊎ IsSome (map.get v q)
+pub some_before : (v : Slots) (t : ℕ) (x : Option ℤ) (q : ℕ) → IsSome (map.get (map.insert v t x) q) → (q ≡ t) ⊎ IsSome (map.get v q)
 some_before v t x q h = by_test (eq_by_cmp nat_cmp q t) refl (sym (ap is_some (get-insert nat_cmp_total v t x q)) ∙ h)
   where
     by_test : (b : Bool) → eq_by_cmp nat_cmp q t ≡ b → is_some (cond b (Some x) (map.get v q)) ≡ true → (q ≡ t) ⊎ IsSome (map.get v q)
     by_test true e h = inl (nat_cmp-IsAntisymmetric q t (equal_of _ e))
     by_test false e h = inr h
 
-still_some : (v : Slots) (t q : ℕ) → IsSome (map.get (map.remove v t) q) → IsSome (map.get v q)
+pub still_some : (v : Slots) (t q : ℕ) → IsSome (map.get (map.remove v t) q) → IsSome (map.get v q)
 still_some v t q h = by_test (eq_by_cmp nat_cmp q t) (sym (ap is_some (get-remove nat_cmp_total v t q)) ∙ h)
   where
     by_test : (b : Bool) → is_some (cond b None (map.get v q)) ≡ true → IsSome (map.get v q)
@@ -40,14 +40,14 @@ set_here [] position s v w at = cc
 set_here (e ∷ es) zero s v w at = let one : e ≡ (s, v) = cc in ap (λ (x : SeriesKey × Slots). Some (x.0, w)) one
 set_here (e ∷ es) (suc position) s v w at = set_here es position s v w at
 
-set_there : (es : SeriesEntries) (position : ℕ) (w : Slots) (p : ℕ) → p ≢ position → slice_get (set_value_at es position w) p ≡ slice_get es p
+pub set_there : (es : SeriesEntries) (position : ℕ) (w : Slots) (p : ℕ) → p ≢ position → slice_get (set_value_at es position w) p ≡ slice_get es p
 set_there [] position w p apart = refl
 set_there (e ∷ es) zero w zero apart = absurd (apart refl)
 set_there (e ∷ es) zero w (suc p) apart = refl
 set_there (e ∷ es) (suc position) w zero apart = refl
 set_there (e ∷ es) (suc position) w (suc p) apart = set_there es position w p (λ is. apart (ap suc is))
 
-same_entry : (x y : SeriesKey × Slots) → Some x ≡ Some y → x ≡ y
+pub same_entry : (x y : SeriesKey × Slots) → Some x ≡ Some y → x ≡ y
 same_entry x y e = cc
 
 -- each position has a series

@@ -2,9 +2,14 @@ pub mod PlaceLemmas
 pub mod SetLemmas
 pub mod EntryLemmas
 pub mod ContentLemmas
-pub mod BlockLemmas
+pub mod TreeLemmas
+pub mod GroupLemmas
 pub mod FirstLemmas
 pub mod SpotLemmas
+pub mod BlockLemmas
+pub mod ClosedLemmas
+pub mod ClosedTimes
+pub mod RangeLemmas
 pub mod TakenLemmas
 pub mod LawLemmas
 pub mod JoinLemmas

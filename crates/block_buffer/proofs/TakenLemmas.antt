@@ -1,5 +1,5 @@
 -- What is said of a point that leaves.
-use Rattle.std.proofs.Common.{◌≡◌, ℕ, ◌+◌, ◌-◌, ◌^◌, ◌<◌, ◌≤◌, ℤ, [], refl, sym, ap, ◌∙◌, subst, inl, inr, Bool, true, false, cond, arith}
+use Rattle.std.proofs.Common.{◌≡◌, ℕ, ◌+◌, ◌-◌, ◌^◌, ◌<◌, ◌≤◌, ℤ, [], refl, sym, ap, ◌∙◌, subst, Bool, true, false, cond, arith}
 use Rattle.std.specs.Prelude.{Option, Some, None, is_some, IfSome, MatchOption, min, nat_eq, nat_le, nat_lt, ◌&&◌}
 use Rattle.std.specs.FinMap as finite
 use Rattle.std.proofs.lemmas.Bool.Decides.{nat_tests}
@@ -15,47 +15,18 @@ use Rattle.series_slots.specs.SeriesEntries.{SeriesEntries, IsAt, slots_of}
 use Rattle.series_slots.proofs.PointLemmas.{get-points}
 use Rattle.block_buffer.specs.Held.{InMemory, without, has_expired, is_in_block}
 use Rattle.block_buffer.specs.Room.{OnlyRoomIsEmpty}
-use Rattle.block_buffer.specs.AllSeries.{IsFirst, HasNoneFrom, HasNoSlots, HasSlots, IsTakenAt}
+use Rattle.block_buffer.specs.AllSeries.{HasNoSlots, HasSlots, IsTakenAt}
 use Rattle.block_buffer.specs.Spots.{IsKeyWithin, HasNoValueOf}
-use Rattle.block_buffer.specs.Taken.{HasSeries, HasNone, IsTaken, IsEarliest, is_settled, settled_at}
+use Rattle.block_buffer.specs.Taken.{HasSeries, HasNone, IsTaken, is_settled, settled_at}
 use Rattle.block_buffer.specs.declared.taken.Taken.{Taken}
 use Rattle.block_buffer.proofs.ContentLemmas.{point_left, only_taken, slot_valued, value_some, without_removed, without_none, len_removed}
-use Rattle.block_buffer.proofs.BlockLemmas.{before_or_from}
-
-within : (low high t : ℕ) → low ≤ t → t ≤ high → is_within low high t ≡ true
-within low high t h g = grind (arith, nat_tests)
-
-from_within : (low high t : ℕ) → is_within low high t ≡ true → (low ≤ t) × (t ≤ high)
-from_within low high t h = (grind (arith, nat_tests), grind (arith, nat_tests))
 
 -- the value of a content at a key
 pub value_in : (es : SeriesEntries) (k : Key) (v : ℤ) → finite.get (points_of (slots_of es)) k ≡ Some v → value_of (slots_of es) k ≡ Some v
 value_in es k v e = sym (get-points (slots_of es) k) ∙ e
 
--- no value, no point
-pub none_in_range : (es : SeriesEntries) (ns low high : ℕ) → HasNoneFrom es ns low → HasNone (points_of (slots_of es)) (IsKeyWithin ns low high)
-none_in_range es ns low high none k v e p =
-    let wrong : None ≡ Some v = sym (none k p.0 (from_within low high k.t p.1).0) ∙ value_in es k v e in
-    cc
-
 pub none_stands_of : (es : SeriesEntries) (P : Key → Type 0) → HasNoValueOf es P → HasNone (points_of (slots_of es)) P
 none_stands_of es P none k v e p = let wrong : None ≡ Some v = sym (none k p) ∙ value_in es k v e in cc
-
--- the first value comes too late
-pub late_in_range : (es : SeriesEntries) (ns low high position t : ℕ) (v : ℤ) → IsFirst es ns low position t v → high < t → HasNone (points_of (slots_of es)) (IsKeyWithin ns low high)
-late_in_range es ns low high position t v first late k w e p =
-    let times = from_within low high k.t p.1 in
-    let below = times.1 in
-    let wrong : None ≡ Some w = sym (first.first k p.0 times.0 (omega (arith, below, late))) ∙ value_in es k w e in
-    cc
-
--- the first value is the earliest point
-pub earliest : (es : SeriesEntries) (ns low position t : ℕ) (v : ℤ) → IsFirst es ns low position t v → IsEarliest (points_of (slots_of es)) ns low t
-earliest es ns low position t v first k w e is from =
-    elim (before_or_from k.t t) as (λ _. t ≤ k.t) [
-      | inl early ↦ absurd (let wrong : None ≡ Some w = sym (first.first k is from early) ∙ value_in es k w e in cc)
-      | inr late ↦ late
-    ]
 
 -- a series without slots has no point
 pub no_series : (es : SeriesEntries) (s : SeriesKey) → HasNoSlots es s → HasSeries (points_of (slots_of es)) s → ⊥
@@ -85,9 +56,6 @@ taken_at old new P position t s x holds only h = record {
   left = point_left old new (key_at s t) h.set;
   gone = gone_or_left new position s x.gone only h.left;
 }
-
-pub first_in_range : (old : SeriesEntries) (ns low high position t : ℕ) (v : ℤ) (first : IsFirst old ns low position t v) → t ≤ high → IsKeyWithin ns low high (key_at first.series t)
-first_in_range old ns low high position t v first up = (first.space, within low high t first.from up)
 
 -- ---- ranges and blocks
 

@@ -1,5 +1,5 @@
 -- What is said of the slots of all series.
-use Rattle.std.specs.Prelude.{◌≡◌, ℕ, ℤ, ◌≤◌, ◌<◌, ◌^◌, Option, Some, None, Bool, false, not, is_some, IsSome, MatchOption, cond, slice_get}
+use Rattle.std.specs.Prelude.{◌≡◌, ℕ, ℤ, ◌≤◌, ◌<◌, ◌^◌, List, Option, Some, None, Bool, false, not, is_some, IsSome, MatchOption, cond, slice_get}
 use Rattle.std.specs.FinMap as map
 use Rattle.std.specs.Ordering.{eq_by_cmp}
 use Rattle.m3_model.specs.declared.point.Key.{Key}
@@ -9,7 +9,9 @@ use Rattle.block_buffer.specs.declared.taken.Taken.{Taken}
 use Rattle.series_slots.specs.SeriesKeys.{key_at}
 use Rattle.series_slots.specs.Slots.{Slots}
 use Rattle.series_slots.specs.Points.{slot_at, value_of}
-use Rattle.series_slots.specs.SeriesEntries.{SeriesEntries, IsAt, StandsAt, slots_of}
+use Rattle.series_slots.specs.SeriesEntries.{SeriesEntries, IsAt, slots_of}
+use Rattle.block_buffer.specs.Bounds.{bound_at}
+use Rattle.block_buffer.specs.Spots.{group_of}
 
 -- there is a slot, and it has no value
 abbrev pub is_bare : Option (Option ℤ) → Bool
@@ -28,6 +30,10 @@ TimesFit = EachEntry (λ e. (t : ℕ) → IsSome (map.get e.1 t) → t < 2 ^ 64)
 abbrev pub SpacesBelow : ℕ → SeriesEntries → Type 0
 SpacesBelow spaces = EachEntry (λ e. e.0.ns < spaces)
 
+-- no slot of a series comes before the time that is noted for its group
+abbrev pub AreNoted : List (List ℕ) → SeriesEntries → Type 0
+AreNoted noted es = (position t : ℕ) (e : SeriesKey × Slots) → slice_get es position ≡ Some e → IsSome (map.get e.1 t) → bound_at noted e.0.ns (group_of position) ≤ t
+
 -- the slots are the same, but for that at the key
 abbrev pub IsSlotSet : SeriesEntries → SeriesEntries → Key → Option (Option ℤ) → Type 0
 IsSlotSet old new key slot = (k : Key) → slot_at (slots_of new) k ≡ cond (eq_by_cmp key_cmp k key) slot (slot_at (slots_of old) k)
@@ -35,19 +41,6 @@ IsSlotSet old new key slot = (k : Key) → slot_at (slots_of new) k ≡ cond (eq
 -- all slots are the same
 abbrev pub AreSameSlots : SeriesEntries → SeriesEntries → Type 0
 AreSameSlots old new = (k : Key) → slot_at (slots_of new) k ≡ slot_at (slots_of old) k
-
--- the first value of the namespace at this time and later ones stands at the position
-pub record IsFirst (es : SeriesEntries) (ns low position t : ℕ) (v : ℤ) : Type 0 where
-  pub series : SeriesKey
-  pub space : series.ns ≡ ns
-  pub from : low ≤ t
-  pub stands : StandsAt es position t series
-  pub value : value_of (slots_of es) (key_at series t) ≡ Some v
-  pub first : (k : Key) → k.ns ≡ ns → low ≤ k.t → k.t < t → value_of (slots_of es) k ≡ None
-
--- no value of the namespace stands at this time and later ones
-abbrev pub HasNoneFrom : SeriesEntries → ℕ → ℕ → Type 0
-HasNoneFrom es ns low = (k : Key) → k.ns ≡ ns → low ≤ k.t → value_of (slots_of es) k ≡ None
 
 -- the series has no slot
 abbrev pub HasNoSlots : SeriesEntries → SeriesKey → Type 0

@@ -6,3 +6,4 @@ pub mod Blocks
 pub mod Laws
 pub mod Joins
 pub mod Spots
+pub mod Bounds

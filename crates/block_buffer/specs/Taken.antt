@@ -1,5 +1,5 @@
 -- Points that leave a buffer.
-use Rattle.std.specs.Prelude.{◌≡◌, ℕ, ℤ, ◌≤◌, ◌++◌, List, Option, Some, None, Bool, false, not, if◌then◌else◌, fold, int_lt, MatchOption}
+use Rattle.std.specs.Prelude.{◌≡◌, ℕ, ℤ, ◌++◌, List, Option, Some, None, Bool, false, not, if◌then◌else◌, fold, int_lt, MatchOption}
 use Rattle.std.specs.FinMap as finite
 use Rattle.m3_model.specs.declared.point.Key.{Key}
 use Rattle.m3_model.specs.declared.point.Point.{Point}
@@ -26,10 +26,6 @@ pub record IsTaken (old new : Contents) (P : Key → Type 0) (x : Taken) : Type 
 -- no point at a key with P stands in the content
 abbrev pub HasNone : Contents → (Key → Type 0) → Type 0
 HasNone c P = (k : Key) (v : ℤ) → finite.get c k ≡ Some v → P k → ⊥
-
--- no point of the namespace stands there before this time and from `low` on
-abbrev pub IsEarliest : Contents → ℕ → ℕ → ℕ → Type 0
-IsEarliest c ns low t = (k : Key) (v : ℤ) → finite.get c k ≡ Some v → k.ns ≡ ns → low ≤ k.t → t ≤ k.t
 
 -- a point with this identifier stands in the content, in whatever namespace
 pub record HasId (c : Contents) (id : List ℕ) : Type 0 where

@@ -1,4 +1,4 @@
-ghost use Rattle.std.specs.Prelude.{◌≡◌, ◌≢◌, ◌⊎◌, ℕ, List, ◌<◌, ◌≤◌, ◌^◌, [], Some, None, true, false, IsTrue, IsSome, slice_get, is_some, IfOk, IfSome, OnOk, OnErr, MatchOption};
+ghost use Rattle.std.specs.Prelude.{◌≡◌, ◌≢◌, ◌⊎◌, ℕ, List, length, min, take, ◌+◌, ◌*◌, ◌-◌, ◌<◌, ◌≤◌, ◌^◌, [], Some, None, true, false, IsTrue, IsSome, slice_get, is_some, IfOk, IfSome, OnOk, OnErr, MatchOption};
 ghost use Rattle.std.specs.FinMap as finite;
 ghost use Rattle.m3_model.specs.declared.point.Key.{Key};
 ghost use Rattle.m3_model.specs.declared.point.Matcher.{Matcher};
@@ -9,13 +9,17 @@ ghost use Rattle.series_slots.specs.SeriesKeys.{key_at};
 ghost use Rattle.series_slots.specs.Slots.{Slots, settled};
 ghost use Rattle.series_slots.specs.Points.{slot_at, value_of, points_of};
 ghost use Rattle.series_slots.specs.SeriesEntries.{IsAt, StandsAt, slots_of};
-ghost use Rattle.series_slots.specs.Ranges.{IsRangeOf};
+ghost use Rattle.series_slots.specs.Ranges.{IsRangeOf, series_in};
+ghost use Rattle.std.specs.List.{flat_map};
 ghost use Rattle.block_buffer.specs.Taken.{is_settled};
 ghost use Rattle.series_slots.specs.Firsts.{HasNoneLater, IsFirstAt};
 ghost use Rattle.block_buffer.specs.Held.{has_expired};
-ghost use Rattle.block_buffer.specs.AllSeries.{IsTakenAt, is_bare, IsSlotSet, AreSameSlots, IsFirst, HasNoneFrom, HasNoSlots, HasSlots};
-ghost use Rattle.block_buffer.specs.Spots.{IsUpTo, turned, IsKeyWithin, IsValueOf, HasNoValueOf, HasNoneAt};
+ghost use Rattle.block_buffer.specs.AllSeries.{IsTakenAt, is_bare, IsSlotSet, AreSameSlots, HasNoSlots, HasSlots};
+ghost use Rattle.block_buffer.specs.Spots.{group_of, IsKeyWithin, IsValueOf, HasNoValueOf, HasNoneAt, IsClear, IsLate};
+ghost use Rattle.block_buffer.specs.Bounds.{bound_at, HasGroup};
 
+use crate::bounds::{higher_of, lesser};
+use crate::first_times::FirstTimes;
 use crate::spot::Spot;
 use crate::taken::Taken;
 use m3_model::{Duplicate, Memory, Rules, Seq, Series, Text};
@@ -28,6 +32,10 @@ use std::marker::Model;
 #[derive(Drop)]
 pub(crate) struct AllSeries {
     placed: IndexedSeries,
+    // For each namespace a time at each group of sixteen positions: none of its series there has an earlier slot. The time is lowered
+    // where an earlier slot comes, and raised by who looks for values there and finds none up to it, not where a slot leaves: so what
+    // leaves takes no memory and costs nothing here, as no entry has to move, and a series that comes needs none of its own.
+    firsts: FirstTimes,
     // One above the highest namespace that a series had.
     spaces: usize,
 }
@@ -35,7 +43,7 @@ pub(crate) struct AllSeries {
 impl Model for AllSeries {
     ghost use Rattle.std.specs.Prelude.{◌≤◌};
     ghost use Rattle.series_slots.specs.SeriesEntries.{SeriesEntries, series_entries_code};
-    ghost use Rattle.block_buffer.specs.AllSeries.{TimesFit, SpacesBelow};
+    ghost use Rattle.block_buffer.specs.AllSeries.{TimesFit, SpacesBelow, AreNoted};
 
     ghost Value = { SeriesEntries };
 
@@ -43,7 +51,7 @@ impl Model for AllSeries {
 
     ghost view = { λ a. a.placed };
 
-    ghost invariant = { λ a. TimesFit a.placed × SpacesBelow a.spaces a.placed × (a.spaces ≤ 256) };
+    ghost invariant = { λ a. TimesFit a.placed × SpacesBelow a.spaces a.placed × (a.spaces ≤ 256) × AreNoted a.firsts.spaces.items a.placed };
 }
 
 // Where a slot is: the position of its series, and whether it has a value.
@@ -73,38 +81,57 @@ fn is_bare(slot: Option<Option<i64>>) -> bool
     }
 }
 
-fn higher_of(a: usize, b: usize) -> usize
-    ensures first { a ≤ result }
-    ensures second { b ≤ result }
-    ensures one { (result ≡ a) ⊎ (result ≡ b) }
+// How many positions are a group.
+const GROUP: usize = 16;
+
+// The positions of a group, as far as there are series: the first one, and one above the last.
+fn positions_of(placed: &IndexedSeries, group: usize) -> (usize, usize)
+    ensures first { result.0 ≡ min (group * 16) (2 ^ 64 - 1) }
+    ensures end { result.1 ≡ min (group * 16 + 16) (length placed.now) }
+    ensures fits { length placed.now < 2 ^ 64 }
 {
-    if a < b { b } else { a }
+    let first = group.saturating_mul(GROUP);
+    let end = first.saturating_add(GROUP);
+    let positions = placed.len();
+    (first, if end < positions { end } else { positions })
 }
 
-// The earlier one of two values, or the only one.
-fn earlier(a: Option<Spot>, b: Option<Spot>) -> Option<Spot>
-    ensures one { (result ≡ a) ⊎ (result ≡ b) }
-    ensures first { IfSome a (λ x. IsUpTo result x.t) }
-    ensures second { IfSome b (λ x. IsUpTo result x.t) }
+// The time of the first slot of the series at this position, where it is of the namespace and has one; else the last time.
+fn first_of(placed: &IndexedSeries, position: usize, ns: u8) -> u64
+    requires { (s : SeriesKey) × IsAt placed.now position s }
+    ensures { (s : SeriesKey) (slots : Slots) (t : ℕ) → slice_get placed.now position ≡ Some (s, slots) → s.ns ≡ ns → IsSome (finite.get slots t) → result ≤ t }
 {
-    match (a, b) {
-        (Some(x), Some(y)) => Some(if y.t < x.t { y } else { x }),
-        (Some(x), None) => Some(x),
-        (None, y) => y,
+    if placed.space_at(position) != ns {
+        return u64::MAX;
+    }
+    match placed.first_time(position) {
+        Some(t) => t,
+        None => u64::MAX,
     }
 }
 
-// The position that comes so many steps after this one, where after the last of so many positions comes the first.
-fn turned(positions: usize, from: usize, step: usize) -> usize
-    requires { step < positions }
-    ensures turned { result ≡ turned positions from step }
-    ensures there { result < positions }
+// The time of the first slot of the namespace in the group, if there is one; else the last time.
+fn first_of_group(placed: &IndexedSeries, group: usize, ns: u8) -> u64
+    ensures { (position t : ℕ) (e : SeriesKey × Slots) → group_of position ≡ group → slice_get placed.now position ≡ Some e → e.0.ns ≡ ns → IsSome (finite.get e.1 t) → result ≤ t }
 {
-    let before_end = positions.saturating_sub(from);
-    if step < before_end {
-        from + step
-    } else {
-        step - before_end
+    let (first, end) = positions_of(placed, group);
+    let mut least = u64::MAX;
+    for position in first..end {
+        least = lesser(least, first_of(placed, position, ns));
+    }
+    least
+}
+
+// Notes at the group of this position what the series at the last one needs, which takes this position then.
+fn note_last(placed: &IndexedSeries, firsts: &mut FirstTimes, position: usize)
+    requires { position < length placed.now }
+    ensures lower { (n g : ℕ) → bound_at firsts.new.spaces.items n g ≤ bound_at firsts.old.spaces.items n g }
+    ensures noted { (t g : ℕ) (e : SeriesKey × Slots) → slice_get placed.now (length placed.now - 1) ≡ Some e → IsSome (finite.get e.1 t) → group_of position ≤ g → HasGroup firsts.old.spaces.items e.0.ns g → bound_at firsts.new.spaces.items e.0.ns (group_of position) ≤ t }
+{
+    let last = placed.len() - 1;
+    match placed.first_time(last) {
+        Some(t) => firsts.lower(placed.space_at(last), position / GROUP, t),
+        None => {}
     }
 }
 
@@ -114,6 +141,7 @@ impl AllSeries {
     {
         AllSeries {
             placed: IndexedSeries::new(alloc),
+            firsts: FirstTimes::new(alloc),
             spaces: 0,
         }
     }
@@ -150,7 +178,7 @@ impl AllSeries {
     {
         match self.position_of(series) {
             Some(position) => {
-                let valued = self.hold_at(position, t)?;
+                let valued = self.hold_at(alloc, position, t)?;
                 Ok(Found { position, valued })
             }
             None => {
@@ -164,7 +192,7 @@ impl AllSeries {
     }
 
     // Makes a slot of the series at this position, if there is none. Says whether there is a value.
-    fn hold_at(&mut self, position: usize, t: u64) -> Result<bool, Memory>
+    fn hold_at(&mut self, alloc: Global, position: usize, t: u64) -> Result<bool, Memory>
         requires { (s : SeriesKey) × IsAt self.old position s }
         ensures ok { (s : SeriesKey) → IsAt self.old position s → OnOk result (IsSlotSet self.old self.new (key_at s t) (Some (value_of (slots_of self.old) (key_at s t)))) }
         ensures stands { (s : SeriesKey) → IsAt self.old position s → OnOk result (StandsAt self.new position t s) }
@@ -174,20 +202,23 @@ impl AllSeries {
         match self.slot(position, t) {
             Some(slot) => Ok(slot.is_some()),
             None => {
-                self.hold_absent(position, t)?;
+                self.hold_absent(alloc, position, t)?;
                 Ok(false)
             }
         }
     }
 
     // Makes a slot of the series at this position and time, where there is none.
-    fn hold_absent(&mut self, position: usize, t: u64) -> Result<(), Memory>
+    fn hold_absent(&mut self, alloc: Global, position: usize, t: u64) -> Result<(), Memory>
         requires { (s : SeriesKey) × (slots : Slots) × (slice_get self.old position ≡ Some (s, slots)) × (finite.get slots t ≡ None) }
         ensures ok { (s : SeriesKey) → IsAt self.old position s → OnOk result (IsSlotSet self.old self.new (key_at s t) (Some None)) }
         ensures stands { (s : SeriesKey) → IsAt self.old position s → OnOk result (StandsAt self.new position t s) }
         ensures err { OnErr result (self.new ≡ self.old) }
     {
+        let ns = self.placed.space_at(position);
+        self.firsts.room(alloc, ns, position / GROUP)?;
         self.placed.hold(position, t)?;
+        self.firsts.lower(ns, position / GROUP, t);
         Ok(())
     }
 
@@ -199,7 +230,7 @@ impl AllSeries {
         ensures err { OnErr result (AreSameSlots self.old self.new) }
     {
         let position = self.add(alloc, series)?;
-        match self.hold_absent(position, t) {
+        match self.hold_absent(alloc, position, t) {
             Ok(()) => Ok(position),
             Err(e) => {
                 drop(self.leave(position));
@@ -286,20 +317,17 @@ impl AllSeries {
         if !self.placed.is_vacant(position) {
             return None;
         }
+        note_last(&self.placed, &mut self.firsts, position);
         self.placed.remove(position)
     }
 
-    // The first value of the namespace at the times from `low` on. Looks at each series.
-    pub(crate) fn first(&self, ns: u8, low: u64) -> Option<Spot>
-        ensures none { result ≡ None → HasNoneFrom self.now ns low }
-        ensures some { IfSome result (λ x. IsFirst self.now ns low x.position x.t x.v) }
-        ensures small { (k : Key) → IsSome (slot_at (slots_of self.now) k) → k.t < 2 ^ 64 }
+    // The positions of the group, as far as there are series: the first one, and one above the last.
+    pub(crate) fn positions_of(&self, group: usize) -> (usize, usize)
+        ensures first { result.0 ≡ min (group * 16) (2 ^ 64 - 1) }
+        ensures end { result.1 ≡ min (group * 16 + 16) (length self.now) }
+        ensures fits { length self.now < 2 ^ 64 }
     {
-        let mut first = None;
-        for position in 0..self.placed.len() {
-            first = earlier(first, self.first_at(position, ns, low));
-        }
-        first
+        positions_of(&self.placed, group)
     }
 
     // The first value of the series at this position at the times from `low` on, where it is of the namespace.
@@ -315,15 +343,63 @@ impl AllSeries {
         Some(Spot { position, t, v })
     }
 
-    // A value of the namespace at the times from `low` up to and with `high`. Looks at the series from this position on, and then at
-    // those before.
-    pub(crate) fn any_within(&self, from: usize, ns: u8, low: u64, high: u64) -> Option<Spot>
-        ensures none { result ≡ None → HasNoValueOf self.now (IsKeyWithin ns low high) }
+    // The first group from this one on at which a slot of the namespace up to this time may stand.
+    pub(crate) fn next_group(&self, from: usize, ns: u8, high: u64) -> Option<usize>
+        ensures none { result ≡ None → (position : ℕ) → from ≤ group_of position → IsLate self.now ns high position }
+        ensures some { IfSome result (λ group. (from ≤ group) × ((position : ℕ) → from ≤ group_of position → group_of position < group → IsLate self.now ns high position)) }
+        ensures small { IfSome result (λ group. group < 2 ^ 63) }
+        ensures times { (k : Key) → IsSome (slot_at (slots_of self.now) k) → k.t < 2 ^ 64 }
+    {
+        self.firsts.next_up_to(ns, from, high)
+    }
+
+    // Notes for the group and the namespace its first slot again, from which others may have left.
+    fn note_again(&mut self, group: usize, ns: u8)
+        ensures { self.new ≡ self.old }
+    {
+        let first = first_of_group(&self.placed, group, ns);
+        self.firsts.set(ns, group, first);
+    }
+
+    // A value of the namespace at the times from `low` up to and with `high`. Looks at the groups of series of which one may have a
+    // slot up to `high`: first at those from that of this position on.
+    pub(crate) fn any_within(&mut self, from: usize, ns: u8, low: u64, high: u64) -> Option<Spot>
+        ensures same { self.new ≡ self.old }
+        ensures none { result ≡ None → HasNoValueOf self.new (IsKeyWithin ns low high) }
+        ensures some { IfSome result (λ x. IsValueOf self.new (IsKeyWithin ns low high) x.position x.t x.v) }
+    {
+        match self.within_from(from / GROUP, ns, low, high) {
+            Some(spot) => Some(spot),
+            None => self.within_from(0, ns, low, high),
+        }
+    }
+
+    // The same, of the groups from this one on.
+    fn within_from(&mut self, from: usize, ns: u8, low: u64, high: u64) -> Option<Spot>
+        ensures same { self.new ≡ self.old }
+        ensures none { result ≡ None → (position : ℕ) → from ≤ group_of position → IsClear self.new position (IsKeyWithin ns low high) }
+        ensures some { IfSome result (λ x. IsValueOf self.new (IsKeyWithin ns low high) x.position x.t x.v) }
+    {
+        let mut next = from;
+        while let Some(group) = self.next_group(next, ns, high) {
+            let found = self.within_group(group, ns, low, high);
+            if found.is_some() {
+                return found;
+            }
+            self.note_again(group, ns);
+            next = group + 1;
+        }
+        None
+    }
+
+    // The same, of the group.
+    fn within_group(&self, group: usize, ns: u8, low: u64, high: u64) -> Option<Spot>
+        ensures none { result ≡ None → (position : ℕ) → group_of position ≡ group → IsClear self.now position (IsKeyWithin ns low high) }
         ensures some { IfSome result (λ x. IsValueOf self.now (IsKeyWithin ns low high) x.position x.t x.v) }
     {
-        let positions = self.placed.len();
-        for step in 0..positions {
-            let found = self.within_at(turned(positions, from, step), ns, low, high);
+        let (first, end) = self.positions_of(group);
+        for position in first..end {
+            let found = self.within_at(position, ns, low, high);
             if found.is_some() {
                 return found;
             }
@@ -332,10 +408,11 @@ impl AllSeries {
     }
 
     // A value of the series at this position at the times from `low` up to and with `high`, where it is of the namespace.
-    fn within_at(&self, position: usize, ns: u8, low: u64, high: u64) -> Option<Spot>
+    pub(crate) fn within_at(&self, position: usize, ns: u8, low: u64, high: u64) -> Option<Spot>
         requires { (s : SeriesKey) × IsAt self.now position s }
         ensures none { result ≡ None → HasNoneAt self.now position (IsKeyWithin ns low high) }
         ensures some { IfSome result (λ x. IsValueOf self.now (IsKeyWithin ns low high) x.position x.t x.v) }
+        ensures first { IfSome result (λ x. (s : SeriesKey) → IsAt self.now position s → (s.ns ≡ ns) × IsFirstAt self.now position s low x.t x.v) }
     {
         let spot = self.first_at(position, ns, low)?;
         if high < spot.t {
@@ -344,14 +421,14 @@ impl AllSeries {
         Some(spot)
     }
 
-    // A value that has expired. Looks at the series from this position on, and then at those before.
-    pub(crate) fn any_expired(&self, from: usize, rules: &Rules) -> Option<Spot>
-        ensures none { result ≡ None → HasNoValueOf self.now (λ k. has_expired rules.entry.now k ≡ true) }
-        ensures some { IfSome result (λ x. IsValueOf self.now (λ k. has_expired rules.entry.now k ≡ true) x.position x.t x.v) }
+    // A value that has expired. Looks for each namespace as `any_within`.
+    pub(crate) fn any_expired(&mut self, from: usize, rules: &Rules) -> Option<Spot>
+        ensures same { self.new ≡ self.old }
+        ensures none { result ≡ None → HasNoValueOf self.new (λ k. has_expired rules.entry.now k ≡ true) }
+        ensures some { IfSome result (λ x. IsValueOf self.new (λ k. has_expired rules.entry.now k ≡ true) x.position x.t x.v) }
     {
-        let positions = self.placed.len();
-        for step in 0..positions {
-            let found = self.expired_at(turned(positions, from, step), rules);
+        for space in 0..self.spaces() {
+            let found = self.expired_of(from, rules, space as u8);
             if found.is_some() {
                 return found;
             }
@@ -359,15 +436,14 @@ impl AllSeries {
         None
     }
 
-    // A value of the series at this position that has expired.
-    fn expired_at(&self, position: usize, rules: &Rules) -> Option<Spot>
-        requires { (s : SeriesKey) × IsAt self.now position s }
-        ensures none { result ≡ None → HasNoneAt self.now position (λ k. has_expired rules.entry.now k ≡ true) }
-        ensures some { IfSome result (λ x. IsValueOf self.now (λ k. has_expired rules.entry.now k ≡ true) x.position x.t x.v) }
+    // A value of the namespace that has expired.
+    fn expired_of(&mut self, from: usize, rules: &Rules, ns: u8) -> Option<Spot>
+        ensures same { self.new ≡ self.old }
+        ensures none { result ≡ None → HasNoValueOf self.new (λ k. (k.ns ≡ ns) × (has_expired rules.entry.now k ≡ true)) }
+        ensures some { IfSome result (λ x. IsValueOf self.new (λ k. has_expired rules.entry.now k ≡ true) x.position x.t x.v) }
     {
-        let ns = self.placed.space_at(position);
         let last = last_expired(rules, ns)?;
-        self.within_at(position, ns, 0, last)
+        self.any_within(from, ns, 0, last)
     }
 
     // Takes the value at the spot out, and then the series if it has no slot.
@@ -416,7 +492,7 @@ impl AllSeries {
         self.placed.range_of(alloc, ns, id, from, to)
     }
 
-    // The points of a namespace with `from <= t < to`, in proportion to all series, to the answer and to its order.
+    // The points of a namespace with `from <= t < to`. Looks at the groups of series of which one may have a slot before `to`.
     pub(crate) fn range_of_space(
         &self,
         alloc: Global,
@@ -426,6 +502,32 @@ impl AllSeries {
     ) -> Result<Seq<Series>, Memory>
         ensures { IfOk result (λ found. (wanted : List Matcher) → IsRangeOf (points_of (slots_of self.now)) (pick.Match ns wanted) from to found) }
     {
-        self.placed.range_of_space(alloc, ns, from, to)
+        let mut found = Vec::new(alloc);
+        let mut next = 0;
+        while let Some(group) = self.next_group(next, ns, to) {
+            self.push_group(alloc, &mut found, group, ns, from, to)?;
+            next = group + 1;
+        }
+        Ok(self.placed.in_order(found))
+    }
+
+    // Pushes the series of the group with their points in the range.
+    fn push_group(
+        &self,
+        alloc: Global,
+        found: &mut Vec<Series>,
+        group: usize,
+        ns: u8,
+        from: u64,
+        to: u64,
+    ) -> Result<(), Memory>
+        ensures { OnOk result (found.old.items ≡ flat_map (series_in ns from to) (take (group * 16) self.now) → found.new.items ≡ flat_map (series_in ns from to) (take ((group + 1) * 16) self.now)) }
+    {
+        let (first, end) = self.positions_of(group);
+        for position in first..end {
+            self.placed
+                .push_range_at(alloc, found, position, ns, from, to)?;
+        }
+        Ok(())
     }
 }

@@ -6,14 +6,14 @@ ghost use Rattle.m3_model.specs.declared.point.Pick.TheVariants as pick;
 ghost use Rattle.m3_model.specs.Contents.{raised, raised_at, is_higher, key_of};
 ghost use Rattle.series_slots.specs.SeriesKeys.{key_at};
 ghost use Rattle.series_slots.specs.Ranges.{IsRangeOf};
-ghost use Rattle.block_buffer.specs.Blocks.{IsBlocksOf};
+ghost use Rattle.block_buffer.specs.Blocks.{IsBlocksOf, IsClosedBlocksOf};
 ghost use Rattle.block_buffer.specs.Spots.{IsKeyWithin};
 ghost use Rattle.block_buffer.specs.Held.{without, has_expired, is_in_block};
 ghost use Rattle.block_buffer.specs.Joins.{joined, points_of_series, IsJoinedInPart};
-ghost use Rattle.block_buffer.specs.Taken.{HasSeries, HasId, HasNone, IsTaken, IsEarliest, settled_at, settled_with, IsSettledInPart};
+ghost use Rattle.block_buffer.specs.Taken.{HasSeries, HasId, HasNone, IsTaken, settled_at, settled_with, IsSettledInPart};
 
 use crate::all_series::AllSeries;
-use crate::blocks::{block_starts, listed};
+use crate::blocks::{block_starts, closed_starts, listed};
 use crate::room::Room;
 use crate::taken::Taken;
 use m3_model::{Duplicate, Memory, Pick, Point, Rules, Seq, Series, Text};
@@ -27,6 +27,9 @@ use std::marker::Model;
 /// The times of a series stand in a list, by which a point that comes after them all is found in constant time, and any other in
 /// their logarithm. One that comes or goes within them moves those on its shorter side by a position, beside the costs that the
 /// functions state.
+///
+/// For each namespace a time is kept for each group of sixteen series, before which none of them has a point. What looks for points up
+/// to a time looks at the groups whose time isn't later, each of which it finds in the square of the logarithm of the groups.
 ///
 /// See M3DB's page "Storage Engine", of the buffer.
 #[derive(Drop)]
@@ -141,8 +144,8 @@ impl Buffer {
     /// identifier of the namespace. Identifiers ascend strictly by bytes, times ascend strictly, and no series is
     /// empty. The matchers of a pick don't count: who has some filters the series.
     ///
-    /// One series costs constant expected time and the logarithm of its times, and a namespace its proportion to the series;
-    /// each beside its answer, which of a namespace is put in order.
+    /// One series costs constant expected time and the logarithm of its times, and a namespace its proportion to the series of the
+    /// groups of which one may have a time before `to`; each beside its answer, which of a namespace is put in order.
     pub fn range(
         &self,
         alloc: Global,
@@ -159,7 +162,7 @@ impl Buffer {
     }
 
     /// The points of the namespace with `start <= t < start + size`, as the rows of a volume: identifiers ascend strictly by
-    /// bytes, times ascend strictly, and no series is empty. Costs in proportion to the series, to the answer and to its order.
+    /// bytes, times ascend strictly, and no series is empty. Costs as `range` of a namespace.
     ///
     /// The end of the block is below 2^64, as that of each block of rules within their limits.
     pub fn block(&self, alloc: Global, ns: u8, start: u64, size: u64) -> Result<Seq<Series>, Memory>
@@ -169,8 +172,8 @@ impl Buffer {
         self.all.range_of_space(alloc, ns, start, start + size)
     }
 
-    /// The namespace and the start of each block of the rules that has a point, ascending. Costs for each block in proportion to
-    /// the series, and for each of them the logarithm of its times.
+    /// The namespace and the start of each block of the rules that has a point, ascending. Costs in proportion to the series, and for
+    /// each block of each of them the logarithm of its times and of the blocks.
     ///
     /// Block sizes are at least 1, as in all rules within their limits.
     pub fn blocks(&self, alloc: Global, rules: &Rules) -> Result<Seq<(u8, u64)>, Memory>
@@ -182,31 +185,23 @@ impl Buffer {
         Ok(Seq::from_vec(blocks))
     }
 
-    /// Takes the first point, by time, of the namespace at the times from `low` up to and with `high` out, and gives up the
-    /// room. Takes no memory, and for each series the logarithm of its times.
-    pub fn take_first(&mut self, ns: u8, low: u64, high: u64) -> Option<Taken>
-        ensures room { self.new.room ≡ None }
-        ensures same { result ≡ None → self.new.points ≡ self.old.points }
-        ensures none { result ≡ None → HasNone self.old.points (IsKeyWithin ns low high) }
-        ensures taken { IfSome result (IsTaken self.old.points self.new.points (IsKeyWithin ns low high)) }
-        ensures earliest { IfSome result (λ x. IsEarliest self.old.points ns low x.t) }
+    /// The namespace and the start of each block of the rules that has a point and of which no write is taken any more, ascending.
+    /// Costs as `blocks`, but of the series alone that stand in a group of which one may have a time in such a block.
+    ///
+    /// Block sizes are at least 1, as in all rules within their limits.
+    pub fn closed_blocks(&self, alloc: Global, rules: &Rules) -> Result<Seq<(u8, u64)>, Memory>
+        requires { All (λ space. 0 < space.block) rules.now.spaces }
+        ensures { IfOk result (IsClosedBlocksOf rules.entry.now self.now.points) }
     {
-        self.release();
-        let spot = self.all.first(ns, low)?;
-        if high < spot.t {
-            return None;
-        }
-        let gone = self.all.take(spot.position, spot.t);
-        Some(Taken {
-            t: spot.t,
-            v: spot.v,
-            gone,
-        })
+        let starts = closed_starts(alloc, &self.all, rules)?;
+        let blocks = listed(alloc, &starts)?;
+        Ok(Seq::from_vec(blocks))
     }
 
     /// Takes a point of the namespace at the times from `low` up to and with `high` out, and gives up the room. Takes no memory. Looks
-    /// at one series after the other, from that on which a point left last, and finds its first point in the logarithm of its
-    /// times: to take all such points out costs in proportion to the series, and for each point that logarithm.
+    /// at one group of series of which one may have a time up to `high` after the other, from that on which a point left last, and finds
+    /// the first point of a series in the logarithm of its times: to take all such points out costs in proportion to the series of these
+    /// groups, and for each point that logarithm.
     pub fn take_within(&mut self, ns: u8, low: u64, high: u64) -> Option<Taken>
         ensures room { self.new.room ≡ None }
         ensures same { result ≡ None → self.new.points ≡ self.old.points }
@@ -219,7 +214,7 @@ impl Buffer {
         Some(self.all.take_spot(spot))
     }
 
-    /// Takes an expired point out, and gives up the room. Takes no memory, and costs as `take_within`.
+    /// Takes an expired point out, and gives up the room. Takes no memory, and costs as `take_within` for each namespace that had a point.
     pub fn take_expired(&mut self, rules: &Rules) -> Option<Taken>
         ensures room { self.new.room ≡ None }
         ensures same { result ≡ None → self.new.points ≡ self.old.points }
@@ -233,7 +228,8 @@ impl Buffer {
     }
 
     /// Takes the expired points out, and gives up the room. Answers how many points went, up to the greatest number.
-    /// Takes no memory; costs in proportion to the series, and for each point that goes the logarithm of its series' times.
+    /// Takes no memory; costs in proportion to the series of the groups of which one may have an expired point, and for each point that
+    /// goes the logarithm of its series' times.
     pub fn expire(&mut self, rules: &Rules) -> u64
         ensures taken { self.new ≡ record { points = without self.old.points (has_expired rules.entry.now); room = None } }
         ensures counted { result ≡ min (finite.len self.old.points - finite.len self.new.points) (2 ^ 64 - 1) }

@@ -3,7 +3,9 @@
 
 mod all_series;
 mod blocks;
+mod bounds;
 pub mod buffer;
+mod first_times;
 pub mod laws;
 mod room;
 mod spot;

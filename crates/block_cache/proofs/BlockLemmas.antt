@@ -3,7 +3,7 @@ use Rattle.std.proofs.Common.{◌≡◌, ℕ, suc, zero, List, [], ◌∷◌, Bo
 use Rattle.std.specs.Cmp.{IsEquivalence, and_equiv, on_equiv, nat_eq_equiv}
 use Rattle.std.specs.Map.{lookup, lookup_entry, remove_entry}
 use Rattle.std.specs.Option.{option_map_or}
-use Rattle.std.proofs.lemmas.Bool.{eqb-true, and_parts}
+use Rattle.std.proofs.lemmas.Bool.{eqb-true, and_parts, cases_Bool}
 use Rattle.std.proofs.lemmas.List.Elements.{All-contains, All-contains_itself}
 use Rattle.lru.specs.LruCache.{lru_cache}
 use Rattle.lru.proofs.CallerLemmas.{Contains-lookup_entry, Contains-remove_entry, Contains-promoted, Contains-put_entries}
@@ -22,10 +22,6 @@ same_true a b h =
 pub same_equiv : IsEquivalence same_block
 same_equiv = and_equiv (and_equiv (on_equiv (λ (t : BlockKey). t.0) nat_eq_equiv) (on_equiv (λ (t : BlockKey). t.1) nat_eq_equiv)) (on_equiv (λ (t : BlockKey). t.2) nat_eq_equiv)
 
-told : (b : Bool) → (b ≡ true) ⊎ (b ≡ false)
-told true = inl refl
-told false = inr refl
-
 -- a block that isn't the key isn't at an entry of the key
 not_there : (key other : BlockKey) (e : BlockKey × List Series) → same_block other key ≡ false → same_block key e.0 ≡ true → same_block other e.0 ≡ false
 not_there key other e apart t = ap (same_block other) (sym (same_true key e.0 t)) ∙ apart
@@ -36,7 +32,7 @@ skips other e es h = ap (λ b. cond b (Some e.1) (lookup (same_block other) es))
 pub lookup_without : (key other : BlockKey) (es : List (BlockKey × List Series)) → same_block other key ≡ false → lookup (same_block other) (remove_entry (same_block key) es) ≡ lookup (same_block other) es
 lookup_without key other [] apart = refl
 lookup_without key other (e ∷ es) apart =
-    elim (told (same_block key e.0)) as (λ _. lookup (same_block other) (remove_entry (same_block key) (e ∷ es)) ≡ lookup (same_block other) (e ∷ es)) [
+    elim (cases_Bool (same_block key e.0)) as (λ _. lookup (same_block other) (remove_entry (same_block key) (e ∷ es)) ≡ lookup (same_block other) (e ∷ es)) [
       | inl t ↦ ap (λ b. lookup (same_block other) (cond b es (e ∷ remove_entry (same_block key) es))) t ∙ sym (skips other e es (not_there key other e apart t))
       | inr f ↦ ap (λ b. lookup (same_block other) (cond b es (e ∷ remove_entry (same_block key) es))) f
           ∙ ap (λ (o : Option (List Series)). cond (same_block other e.0) (Some e.1) o) (lookup_without key other es apart)
@@ -52,7 +48,7 @@ lookup_take : (test : BlockKey → Bool) (n : ℕ) (es : List (BlockKey × List 
 lookup_take test zero es = inr refl
 lookup_take test (suc n) [] = inl refl
 lookup_take test (suc n) (e ∷ es) =
-    elim (told (test e.0)) as (λ _. (lookup test (take (suc n) (e ∷ es)) ≡ lookup test (e ∷ es)) ⊎ (lookup test (take (suc n) (e ∷ es)) ≡ None)) [
+    elim (cases_Bool (test e.0)) as (λ _. (lookup test (take (suc n) (e ∷ es)) ≡ lookup test (e ∷ es)) ⊎ (lookup test (take (suc n) (e ∷ es)) ≡ None)) [
       | inl t ↦ inl (ap (λ b. cond b (Some e.1) (lookup test (take n es))) t ∙ sym (ap (λ b. cond b (Some e.1) (lookup test es)) t))
       | inr f ↦ elim (lookup_take test n es) as (λ _. (lookup test (take (suc n) (e ∷ es)) ≡ lookup test (e ∷ es)) ⊎ (lookup test (take (suc n) (e ∷ es)) ≡ None)) [
         | inl same ↦ inl (ap (λ (o : Option (List Series)). cond (test e.0) (Some e.1) o) same)
@@ -73,7 +69,7 @@ lookup_put key other rows n es (Some f) h apart =
 pub none_there : (test : BlockKey → Bool) (es : List (BlockKey × List Series)) → lookup test es ≡ None → lookup_entry test es ≡ None
 none_there test [] h = refl
 none_there test (e ∷ es) h =
-    elim (told (test e.0)) as (λ _. lookup_entry test (e ∷ es) ≡ None) [
+    elim (cases_Bool (test e.0)) as (λ _. lookup_entry test (e ∷ es) ≡ None) [
       | inl t ↦ let found : Some e.1 ≡ None = sym (ap (λ b. cond b (Some e.1) (lookup test es)) t) ∙ h in cc
       | inr f ↦ ap (λ b. cond b (Some e) (lookup_entry test es)) f ∙ none_there test es (sym (ap (λ b. cond b (Some e.1) (lookup test es)) f) ∙ h)
     ]

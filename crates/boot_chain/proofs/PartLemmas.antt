@@ -1,6 +1,6 @@
 -- What a claim leaves of the ranges asked for.
-use Rattle.std.proofs.Common.{◌≡◌, ◌++◌, ◌⊎◌, List, [], ◌∷◌, Bool, true, false, drop, cond, refl, sym, ap, subst, ◌∙◌, inl, inr, true≢false, append_assoc}
-use Rattle.std.proofs.lemmas.Bool.{eqb-true, eq-eqb, and_parts, and_from}
+use Rattle.std.proofs.Common.{◌≡◌, ◌++◌, List, [], ◌∷◌, true, false, drop, cond, refl, sym, ap, subst, ◌∙◌, inl, inr, true≢false, append_assoc}
+use Rattle.std.proofs.lemmas.Bool.{eqb-true, eq-eqb, and_parts, and_from, cases_Bool}
 use Rattle.std.proofs.lemmas.List.Sorted.{IsPermutation-refl, IsPermutation-cons, IsPermutation-trans, IsPermutation-sym, IsPermutation-middle, IsPermutation-append_right}
 use Rattle.std.specs.List.Sorted.{IsPermutation}
 use Rattle.boot_chain.specs.Ranges.{range_eq, is_first, IsSublist, left_of}
@@ -41,15 +41,10 @@ left_of-taken r asked claimed h = ap (λ b. cond b (left_of asked (drop 1 claime
 pub left_of-kept : (r : Range) (asked claimed : List Range) → is_first claimed r ≡ false → left_of (r ∷ asked) claimed ≡ r ∷ left_of asked claimed
 left_of-kept r asked claimed h = ap (λ b. cond b (left_of asked (drop 1 claimed)) (r ∷ left_of asked claimed)) h
 
--- whether the next range is claimed, with the test's answer
-told : (b : Bool) → (b ≡ true) ⊎ (b ≡ false)
-told true = inl refl
-told false = inr refl
-
 pub left_in_order : (asked claimed : List Range) → IsSublist (left_of asked claimed) asked
 left_in_order [] claimed = tt
 left_in_order (r ∷ asked) claimed =
-    elim (told (is_first claimed r)) as (λ _. IsSublist (left_of (r ∷ asked) claimed) (r ∷ asked)) [
+    elim (cases_Bool (is_first claimed r)) as (λ _. IsSublist (left_of (r ∷ asked) claimed) (r ∷ asked)) [
       | inl taken ↦ subst (λ xs. IsSublist xs (r ∷ asked)) (sym (left_of-taken r asked claimed taken)) (sublist_later (left_of asked (drop 1 claimed)) asked r (left_in_order asked (drop 1 claimed)))
       | inr kept ↦ subst (λ xs. IsSublist xs (r ∷ asked)) (sym (left_of-kept r asked claimed kept)) (inl (refl, left_in_order asked claimed))
     ]
@@ -73,7 +68,7 @@ pub apart : (asked claimed : List Range) → IsSublist claimed asked → IsPermu
 apart [] [] h = IsPermutation-refl []
 apart [] (x ∷ xs) h = absurd h
 apart (r ∷ asked) claimed h =
-    elim (told (is_first claimed r)) as (λ _. IsPermutation (r ∷ asked) (claimed ++ left_of (r ∷ asked) claimed)) [
+    elim (cases_Bool (is_first claimed r)) as (λ _. IsPermutation (r ∷ asked) (claimed ++ left_of (r ∷ asked) claimed)) [
       | inl taken ↦
           let behind = behind_taken r asked claimed taken h in
           let same : claimed ++ left_of (r ∷ asked) claimed ≡ r ∷ (behind.0 ++ left_of asked behind.0) = ap (λ xs. claimed ++ xs) (left_of-taken r asked claimed taken) ∙ ap (λ xs. xs ++ left_of asked (drop 1 xs)) behind.1 in

@@ -17,9 +17,10 @@ use Rattle.cluster_core.specs.declared.event.Event.{Event}
 use Rattle.cluster_core.specs.declared.event.Event.TheVariants as event
 use Rattle.std.proofs.Common.{drop}
 use Rattle.std.specs.List.{Any}
+use Rattle.std.proofs.lemmas.Option.{same_Some}
 use Rattle.m3_model.specs.declared.reason.Reason.{Reason}
 use Rattle.placement_core.specs.Shards.{Shard}
-use Rattle.placement_core.proofs.ListLemmas.{each-from_All, All-from_each}
+use Rattle.placement_core.proofs.ListLemmas.{each-from_All}
 use Rattle.cluster_core.specs.Answers.{PageAsked}
 use Rattle.cluster_core.specs.Asks.{IsLike, WasAsked, StepWasAsked}
 use Rattle.cluster_core.specs.Earlier.{IsClock, IsSend, PlacesShard, CountsNodes, GivesTenure, TookPoint, GaveAnswer, GavePage, HasClock, HasPut, last_place, place_after, last_clock, clock_after}
@@ -31,7 +32,9 @@ use Rattle.cluster_core.specs.Replicas.{replica, fresh, after, step_of}
 use Rattle.cluster_core.specs.Legal.{Legal, Lawful, LawfulAt, JoinedThere, JoinedAt, AcksSend, EachAnswered, EndsFetch}
 use Rattle.event_book.specs.declared.view.Made.{Made}
 use Rattle.cluster_core.specs.Makers.{entries, replica_seat, IsMaker, IsLawfulLog}
-use Rattle.cluster_core.proofs.ListLemmas.{some_same, at_within, at_in, in_at, at_append, any_at, at_any}
+use Rattle.cluster_core.proofs.ListLemmas.{at_within, at_in, in_at, at_append, any_at, at_any}
+use Rattle.m3_model.proofs.MemberLemmas.{IsIn-append_right}
+use Rattle.m3_model.proofs.Lists.{All-from_each}
 
 append_at : {X : Type 0} (xs ys : List X) (i : ℕ) (x : X) → At (xs ++ ys) i x → At xs i x ⊎ IsIn ys x
 append_at [] ys i x e = inr (at_in ys i x e)
@@ -215,7 +218,7 @@ module _ (past more : List Event) where
 -- ---- lists of events with their makers
 
 pub at_push : {X : Type 0} (xs : List X) (y : X) (i : ℕ) (x : X) → At (xs ++ y ∷ []) i x → At xs i x ⊎ ((i ≡ length xs) × (y ≡ x))
-at_push [] y zero x e = inr (refl, some_same y x e)
+at_push [] y zero x e = inr (refl, same_Some y x e)
 at_push [] y (suc i) x e = cc
 at_push (z ∷ xs) y zero x e = inl e
 at_push (z ∷ xs) y (suc i) x e = elim (at_push xs y i x e) as (λ _. At xs i x ⊎ ((suc i ≡ suc (length xs)) × (y ≡ x))) [ inl h ↦ inl h | inr h ↦ inr (ap suc h.0, h.1) ]
@@ -267,10 +270,6 @@ entries_in : (xs : List (Made Event)) (e : Event) → IsIn (entries xs) e → (x
 entries_in [] e h = absurd h
 entries_in (x ∷ xs) e h = elim h as (λ _. (y : Made Event) × ((x ≡ y) ⊎ IsIn xs y) × (y.entry ≡ e)) [ inl s ↦ (x, inl refl, s) | inr r ↦ let l = entries_in xs e r in (l.0, inr l.1, l.2) ]
 
-in_right : {X : Type 0} (xs ys : List X) (x : X) → IsIn ys x → IsIn (xs ++ ys) x
-in_right [] ys x h = h
-in_right (z ∷ xs) ys x h = inr (in_right xs ys x h)
-
 -- lawful after one list, lawful after each longer one with the same events of its maker
 pub extended : (tells : Bool) (log more : List (Made Event)) (m : Made Event) → IsLawfulLog tells (log ++ m ∷ []) → IsLawfulLog tells (log ++ more) → ((x : Made Event) → IsIn more x → x.by ≡ m.by → ⊥) → IsLawfulLog tells ((log ++ more) ++ m ∷ [])
 extended tells log more m a b apart =
@@ -280,7 +279,7 @@ extended tells log more m a b apart =
     let others : (x : Event) → IsIn (entries more) x → IsAkin m.entry x → ⊥ =
     λ x h akin.
     let from = entries_in more x h in
-    let position = in_at (log ++ more) from.0 (in_right log more from.0 from.1) in
+    let position = in_at (log ++ more) from.0 (IsIn-append_right log more from.0 from.1) in
     apart from.0 from.1 (akin_by m.entry (from.0).entry m.by (from.0).by mine (b.makers position.0 from.0 position.1) (subst (IsAkin m.entry) (sym from.2) akin)) in
     let next : Legal tells ((entries log ++ entries more) ++ m.entry ∷ []) = legal_push tells (entries log ++ entries more) m.entry legal (law_more tells (entries log) (entries more) m.entry others legal law) in
     record {

@@ -3,12 +3,11 @@ use Rattle.std.proofs.Common.{◌≡◌, ℕ, zero, suc, ◌+◌, ◌<◌, ◌�
 use Rattle.std.specs.Prelude.{Some, fold}
 use Rattle.std.specs.List.{Any}
 use Rattle.std.proofs.lemmas.Bool.{cases_eq}
+use Rattle.std.proofs.lemmas.Option.{same_Some}
+pub use Rattle.std.proofs.lemmas.Option.{same_Some as some_same}
 use Rattle.m3_model.specs.Members.{IsIn}
 use Rattle.placement_core.proofs.ListLemmas.{at_index}
 use Rattle.cluster_core.specs.Lists.{At, AfterSome}
-
-pub some_same : {X : Type 0} (x y : X) → Some x ≡ Some y → x ≡ y
-some_same x y e = cc
 
 pub at_within : {X : Type 0} (xs : List X) (i : ℕ) (x : X) → At xs i x → i < length xs
 at_within [] i x e = cc
@@ -21,11 +20,11 @@ at_some (y ∷ ys) zero h = (y, refl)
 at_some (y ∷ ys) (suc i) h = at_some ys i (omega arith)
 
 pub at_same : {X : Type 0} (xs : List X) (i : ℕ) (x y : X) → At xs i x → At xs i y → x ≡ y
-at_same xs i x y e f = some_same x y (sym e ∙ f)
+at_same xs i x y e f = same_Some x y (sym e ∙ f)
 
 pub at_in : {X : Type 0} (xs : List X) (i : ℕ) (x : X) → At xs i x → IsIn xs x
 at_in [] i x e = cc
-at_in (y ∷ ys) zero x e = inl (some_same y x e)
+at_in (y ∷ ys) zero x e = inl (same_Some y x e)
 at_in (y ∷ ys) (suc i) x e = inr (at_in ys i x e)
 
 pub in_at : {X : Type 0} (xs : List X) (x : X) → IsIn xs x → (i : ℕ) × At xs i x
@@ -61,7 +60,7 @@ at_append (y ∷ xs) ys (suc i) x e = at_append xs ys i x e
 
 read_at : {X : Type 0} (xs : List X) (i : ℕ) (x : X) → At xs i x → get_or xs i x ≡ x
 read_at [] i x e = cc
-read_at (y ∷ ys) zero x e = some_same y x e
+read_at (y ∷ ys) zero x e = same_Some y x e
 read_at (y ∷ ys) (suc i) x e = read_at ys i x e
 
 pub at_any : {X : Type 0} (P : X → Type 0) (xs : List X) (i : ℕ) (x : X) → At xs i x → P x → Any P xs
@@ -84,7 +83,7 @@ after_at Kind Wanted (y ∷ ys) h =
 -- one more event is one more step of a fold
 pub fold_suc : {X S : Type 0} (f : S → X → S) (a : S) (xs : List X) (i : ℕ) (x : X) → At xs i x → fold f a (take (suc i) xs) ≡ f (fold f a (take i xs)) x
 fold_suc f a [] i x e = cc
-fold_suc f a (y ∷ ys) zero x e = ap (f a) (some_same y x e)
+fold_suc f a (y ∷ ys) zero x e = ap (f a) (same_Some y x e)
 fold_suc f a (y ∷ ys) (suc i) x e = fold_suc f (f a y) ys i x e
 
 -- what one event after the other keeps

@@ -2,6 +2,7 @@
 use Rattle.std.proofs.Common.{◌≡◌, ℕ, zero, suc, ◌<◌, ◌≤◌, List, [], ◌∷◌, take, length, refl, sym, ap, ◌∙◌, subst, inl, inr, arith, Bool, true, false, cond}
 use Rattle.std.specs.Prelude.{◌⊎◌, Option, Some, None, nat_eq}
 use Rattle.std.proofs.lemmas.Bool.{cases_lt, eqb-true}
+use Rattle.std.proofs.lemmas.Option.{same_Some}
 use Rattle.m3_model.specs.Members.{IsIn}
 use Rattle.m3_model.specs.declared.placement.Placement.{Placement}
 use Rattle.cluster_core.specs.declared.event.Event.{Event}
@@ -17,7 +18,7 @@ use Rattle.cluster_core.specs.Earlier.{last_place, place_after}
 use Rattle.cluster_core.specs.Joins.{HasJoined}
 use Rattle.placement_core.proofs.ListLemmas.{each-from_All}
 use Rattle.cluster_core.specs.Legal.{Legal, JoinedThere, JoinedAt}
-use Rattle.cluster_core.proofs.ListLemmas.{some_same, at_within, at_some, at_same, at_in, at_take, fold_suc, along}
+use Rattle.cluster_core.proofs.ListLemmas.{at_within, at_some, at_same, at_in, at_take, fold_suc, along}
 use Rattle.cluster_core.proofs.PastLemmas.{ShardAt, CountedAt, TenureAt}
 use Rattle.cluster_core.proofs.ShardLemmas.{step_joining}
 use Rattle.cluster_core.proofs.TraceLemmas.{lawful_place}
@@ -48,7 +49,7 @@ done_in s y [] e = cc
 done_in s y (d ∷ ds) e = by (nat_eq d.0 s) refl (done_in s y ds) e
   where
     by : (b : Bool) → nat_eq d.0 s ≡ b → (done_at s ds ≡ Some y → IsIn ds (s, y)) → cond b (Some d.1) (done_at s ds) ≡ Some y → (d ≡ (s, y)) ⊎ IsIn ds (s, y)
-    by true is later f = inl (λ i. (eqb-true d.0 s is i, some_same d.1 y f i))
+    by true is later f = inl (λ i. (eqb-true d.0 s is i, same_Some d.1 y f i))
     by false is later f = inr (later f)
 
 pub place_cases : (was : Option Placement) (e : Event) → (place_after was e ≡ was) ⊎ ((p : Placement) × (done : List (ℕ × ℕ)) × (e ≡ event.Place p done) × (place_after was e ≡ Some p))
@@ -87,7 +88,7 @@ module _ {tells : Bool} (events : List Event) (legal : Legal tells events) (firs
         | inl same ↦ inl (fold_suc place_after None events (suc k) e there ∙ same ∙ is)
         | inr placed ↦
             let law = lawful_place events legal k placed.0 placed.1 (there ∙ ap Some placed.2) in
-            let old : law.last ≡ p = some_same law.last p (sym law.last_is ∙ is) in
+            let old : law.last ≡ p = same_Some law.last p (sym law.last_is ∙ is) in
             inr (
               placed.0,
               placed.1,
@@ -109,11 +110,11 @@ module _ {tells : Bool} (events : List Event) (legal : Legal tells events) (firs
 
   pub at_unique : (s j v w : ℕ) (a b : Shard) → IsAt events s j v a → IsAt events s j w b → (v ≡ w) × (a ≡ b)
   at_unique s j v w a b x y =
-      let same : x.place ≡ y.place = some_same x.place y.place (sym x.last ∙ y.last) in
+      let same : x.place ≡ y.place = same_Some x.place y.place (sym x.last ∙ y.last) in
       (sym x.version_is ∙ ap (λ p. p.version) same ∙ y.version_is, at_same (y.place).shards s a b (subst (λ p. At p.shards s a) same x.shard_is) y.shard_is)
 
   pub at_fine : (s j v : ℕ) (a : Shard) → 1 ≤ j → j ≤ length events → (x : IsAt events s j v a) → Fine first x.place
-  at_fine s j v a low high x = let p = placed_at j low high in subst (Fine first) (some_same p.0 x.place (sym p.1 ∙ x.last)) p.2
+  at_fine s j v a low high x = let p = placed_at j low high in subst (Fine first) (same_Some p.0 x.place (sym p.1 ∙ x.last)) p.2
 
   pub at_sound : (s j v : ℕ) (a : Shard) → 1 ≤ j → j ≤ length events → IsAt events s j v a → IsShard first.rf v a
   at_sound s j v a low high x = subst (λ w. IsShard first.rf w a) x.version_is ((at_fine s j v a low high x).sound s a x.shard_is)

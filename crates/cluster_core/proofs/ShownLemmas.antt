@@ -5,10 +5,11 @@ use Rattle.m3_model.specs.Ascends.{Ascends}
 use Rattle.m3_model.specs.Contents.{key_of}
 use Rattle.m3_model.specs.Members.{IsIn}
 use Rattle.m3_model.proofs.MemberLemmas.{IsIn-append_left, IsIn-append_right, IsIn-append_cases}
+use Rattle.m3_model.proofs.Lists.{All-from_each}
 use Rattle.m3_model.specs.Reads.{Covers, points_in, space_picked}
 use Rattle.m3_model.specs.declared.point.Key.{Key}
 use Rattle.m3_model.specs.declared.point.Point.{Point}
-use Rattle.placement_core.proofs.ListLemmas.{All-from_each, Any-from_IsIn}
+use Rattle.placement_core.proofs.ListLemmas.{Any-from_IsIn}
 use Rattle.cluster_core.specs.Answers.{IsWantedUnexpired, IsKeyBelow, AsksFor, IsUpTo, GoesOn}
 use Rattle.cluster_core.specs.Replicas.{IsGone}
 use Rattle.cluster_core.specs.Shown.{FoundShows, PageShows}

@@ -4,6 +4,7 @@ use Rattle.std.specs.Prelude.{◌⊎◌, Option, Some, None, nat_eq, count_by, �
 use Rattle.std.specs.FinMap as finite
 use Rattle.std.specs.List.{cons_option}
 use Rattle.std.proofs.lemmas.Bool.{and_from, eq-eqb}
+use Rattle.std.proofs.lemmas.List.Sums.{count_by-le-length}
 use Rattle.m3_model.specs.Members.{IsIn}
 use Rattle.m3_model.proofs.MemberLemmas.{IsIn-append_cases, filter_map-IsIn}
 use Rattle.m3_model.specs.declared.reason.Damage.{Damage}
@@ -88,10 +89,6 @@ at_most : (b : Bool) → 0 + cond b 1 0 ≤ 1
 at_most true = omega arith
 at_most false = omega arith
 
-count_few : {X : Type 0} (p : X → Bool) (xs : List X) → count_by p xs ≤ length xs
-count_few p [] = omega arith
-count_few p (x ∷ xs) = omega (arith, count_cons p x xs, at_most (p x), count_few p xs)
-
 count_none : {X : Type 0} (p : X → Bool) (xs : List X) → ((x : X) → IsIn xs x → p x ≡ false) → count_by p xs ≡ 0
 count_none p [] none = refl
 count_none p (x ∷ xs) none =
@@ -138,7 +135,7 @@ undamaged_told ends events lines clean f i kind =
 -- those of taking are at most as many as couldn't be taken
 taken_few : (taking : List Fault) (ends : ℕ → ℕ) (events : List Event) (lines : ℕ) → count_by (λ f. is_taking f.kind) (taking ++ faults_told ends events lines) ≤ length taking
 taken_few taking ends events lines =
-    omega (arith, count_append (λ (f : Fault). is_taking f.kind) taking (faults_told ends events lines), taken_none ends events lines, count_few (λ (f : Fault). is_taking f.kind) taking)
+    omega (arith, count_append (λ (f : Fault). is_taking f.kind) taking (faults_told ends events lines), taken_none ends events lines, count_by-le-length (λ (f : Fault). is_taking f.kind) taking)
 
 -- ---- failures of steps
 

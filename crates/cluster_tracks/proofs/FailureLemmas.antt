@@ -3,10 +3,10 @@ use Rattle.std.proofs.Common.{◌≡◌, ℕ, ◌+◌, ◌≤◌, List, [], ◌�
 use Rattle.std.specs.Prelude.{Option, Some, None}
 use Rattle.std.specs.FinMap as finite
 use Rattle.std.proofs.lemmas.List.Elements.{filter_map-append}
+use Rattle.std.proofs.lemmas.Option.{same_Some}
 use Rattle.m3_model.specs.declared.reason.Reason.TheVariants as reason
 use Rattle.m3_outside.specs.Causes.{RoseBy, CountsFaults as CountsCalls}
 use Rattle.m3_outside.specs.DiskState.{DiskState}
-use Rattle.cluster_core.proofs.ListLemmas.{some_same}
 use Rattle.cluster_core.specs.declared.event.Event.{Event}
 use Rattle.cluster_core.specs.declared.event.StepReply.{StepReply}
 use Rattle.cluster_core.specs.declared.event.StepReply.TheVariants as reply
@@ -77,7 +77,7 @@ module _ {D : Type 0} (state : D → DiskState) where
   pub stepped_from : (steps : List Step) (old new : Option (Member D)) (m : Member D) → IsStepped state steps old new → new ≡ Some m → Stepped steps old m
   stepped_from steps None new m gone is = absurd (no_some new m gone is)
   stepped_from steps (Some before) new m h is =
-      let same : h.0 ≡ m = some_same h.0 m (sym h.1 ∙ is) in
+      let same : h.0 ≡ m = same_Some h.0 m (sym h.1 ∙ is) in
       record { before = before; was = refl; first = subst (λ (x : Member D). x.first ≡ before.first) same h.2; takes = subst (λ (x : Member D). TakesSteps state steps before.machine x.machine) same h.3 }
 
   -- and where it has none after steps, it had none

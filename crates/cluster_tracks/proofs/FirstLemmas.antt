@@ -2,12 +2,14 @@
 use Rattle.std.proofs.Common.{◌≡◌, ◌+◌, ℕ, zero, suc, List, [], ◌∷◌, ◌++◌, length, take, refl, sym, ap, subst, ◌∙◌, inl, inr, arith, Bool, true}
 use Rattle.std.specs.Prelude.{Some, None}
 use Rattle.std.specs.FinMap as finite
+use Rattle.std.proofs.lemmas.Option.{same_Some}
 use Rattle.m3_model.specs.Members.{IsIn}
 use Rattle.m3_model.specs.declared.act.Act.TheVariants as act
 use Rattle.m3_model.specs.declared.answer.Answer.TheVariants as answer
 use Rattle.m3_model.specs.declared.placement.Assignment.{Assignment}
 use Rattle.m3_model.specs.declared.placement.Placement.{Placement}
 use Rattle.m3_model.specs.declared.turn.Turn.{Turn}
+use Rattle.m3_model.proofs.Lists.{take_whole}
 use Rattle.m3_outside.specs.Depots.{Depot}
 use Rattle.m3_outside.specs.DiskState.{DiskState, EachImage}
 use Rattle.m3_outside.specs.declared.disk.Disk.{Ghosts}
@@ -19,7 +21,7 @@ use Rattle.cluster_core.specs.declared.event.Event.{Event}
 use Rattle.cluster_core.specs.declared.event.Event.TheVariants as event
 use Rattle.cluster_core.specs.declared.event.StepCall.TheVariants as call
 use Rattle.cluster_core.specs.declared.event.StepReply.{StepReply}
-use Rattle.cluster_core.proofs.ListLemmas.{at_in, some_same}
+use Rattle.cluster_core.proofs.ListLemmas.{at_in}
 use Rattle.replica_exchange.specs.declared.member.Member.{Member}
 use Rattle.replica_exchange.specs.declared.slot.Slot.{Slot}
 use Rattle.replica_calls.specs.Calls.{first_member}
@@ -43,7 +45,6 @@ use Rattle.cluster_tracks.specs.Runs.{HaveRun, IsMadeOver}
 use Rattle.cluster_tracks.specs.Steps.{FirstStandsSo}
 use Rattle.cluster_tracks.proofs.FailureLemmas.{stepped_from}
 use Rattle.cluster_tracks.proofs.OpenLemmas.{none_taken}
-use Rattle.told_by.proofs.LineLemmas.{take_all}
 use Rattle.told_moves.proofs.SlotLemmas.{Tries, tried_began}
 
 module _ {D : Type 0} {G : Ghosts D} (state : D → DiskState) (m : Members D G) (tells : Bool) (turns : List Turn) (rf shards seed : ℕ) (nodes : List (List ℕ × List ℕ)) (old now : Depot D) (bare : tells ≡ true → AreBare state old.held) (none : NoneStands turns)
@@ -78,7 +79,7 @@ module _ {D : Type 0} {G : Ghosts D} (state : D → DiskState) (m : Members D G)
   each_made s r is = elim (in_or_out m.slots.items s) as (λ _. IsMadeOver state tells now s r) [
     | inl i ↦
         (let t = first.opened.taken.taken s i in
-        let same : first_member t.disk ≡ r = some_same (first_member t.disk) r (sym t.stands ∙ is) in
+        let same : first_member t.disk ≡ r = same_Some (first_member t.disk) r (sym t.stands ∙ is) in
         record { disk = t.disk; is_first = sym same; counted = t.disk_faults ∙ sym t.counted; bare = λ e. given_bare state (old.held (disk_slot_of s)) t.disk (bare e (disk_slot_of s)) t.given })
     | inr out ↦ (let clash : None ≡ Some r = sym (first.opened.taken.others s out).no_member ∙ is in cc)
   ]
@@ -109,15 +110,15 @@ module _ {D : Type 0} {G : Ghosts D} (state : D → DiskState) (m : Members D G)
   -- each tenure that the placement gives is the first one
   given_one : (n s tenure : ℕ) → IsGivenNow events n s tenure → tenure ≡ 1
   given_one n s tenure g =
-      let same : g.0 ≡ place = some_same g.0 place (sym g.1 ∙ stands.ready.place) in
+      let same : g.0 ≡ place = same_Some g.0 place (sym g.1 ∙ stands.ready.place) in
       let has = subst (λ (q : Placement). IsAssigned q n s tenure) same g.2 in
       let a = IsIn-from_Any (λ (x : Assignment). (x.node ≡ n) × (x.tenure ≡ tenure)) has.0 has.2 in
       sym a.2.1 ∙ tenure_first place rf shards nodes first.place (start_at (0 + s) a.0) (from_start 0 place.shards s has.0 a.0 has.1 a.1)
 
   -- and no other was begun
   begun_one : (i : ℕ) (n s tenure : ℕ) (a : StepReply) → At list i (event.Step n s (call.Begin tenure) a) → tenure ≡ 1
-  begun_one zero n s tenure a at = (let clash : event.Place place [] ≡ event.Step n s (call.Begin tenure) a = some_same (event.Place place []) (event.Step n s (call.Begin tenure) a) at in cc)
-  begun_one (suc zero) n s tenure a at = (let clash : event.Clock m.net.state.rules ≡ event.Step n s (call.Begin tenure) a = some_same (event.Clock m.net.state.rules) (event.Step n s (call.Begin tenure) a) at in cc)
+  begun_one zero n s tenure a at = (let clash : event.Place place [] ≡ event.Step n s (call.Begin tenure) a = same_Some (event.Place place []) (event.Step n s (call.Begin tenure) a) at in cc)
+  begun_one (suc zero) n s tenure a at = (let clash : event.Clock m.net.state.rules ≡ event.Step n s (call.Begin tenure) a = same_Some (event.Clock m.net.state.rules) (event.Step n s (call.Begin tenure) a) at in cc)
   begun_one (suc (suc i)) n s tenure a at =
       let h = step_among first.opened.begun.said (starts_of place) n s (call.Begin tenure) a (at_in begins i (event.Step n s (call.Begin tenure) a) at) in
       let same : (h.start).tenure ≡ tenure = (let e = h.call_is in cc) in
@@ -136,7 +137,7 @@ module _ {D : Type 0} {G : Ghosts D} (state : D → DiskState) (m : Members D G)
         let fence = b.first in
         record { points = []; held_tenure = b.tenure; fence = b.fence; held = b.held; not_higher = omega (arith, one, order, fence); fenced = inl (omega (arith, one, fence)) });
     tried = λ n s own unbegun tried tenure g.
-        let here : Tries (replica n s (take (length events) events)) own = subst (λ es. Tries (replica n s es) own) (sym (take_all events)) (inr tried) in
+        let here : Tries (replica n s (take (length events) events)) own = subst (λ es. Tries (replica n s es) own) (sym (take_whole events)) (inr tried) in
         let began = tried_began events legal n s own (length events) (omega arith) here in
         let one = begun_one began.position n s own began.answer (subst (λ es. At es began.position (event.Step n s (call.Begin own) began.answer)) list_is began.there) in
         let given_is = given_one n s tenure g in

@@ -2,6 +2,7 @@
 use Rattle.std.proofs.Common.{◌≡◌, ℕ, ◌≤◌, List, [], ◌∷◌, ◌++◌, length, sym, ap, subst, ◌∙◌, inl, inr, arith, Bool, true, false}
 use Rattle.std.specs.Prelude.{Option, Some, None, IsSome}
 use Rattle.std.specs.FinMap.{empty}
+use Rattle.std.proofs.lemmas.Option.{same_Some}
 use Rattle.m3_model.specs.declared.act.Act.{Act}
 use Rattle.m3_model.specs.declared.act.Act.TheVariants as act
 use Rattle.m3_model.specs.declared.answer.Answer.{Answer}
@@ -13,7 +14,6 @@ use Rattle.m3_outside.specs.Depots.{Depot}
 use Rattle.m3_outside.specs.DiskState.{DiskState, IsLawfulDisk}
 use Rattle.m3_outside.specs.declared.disk.Disk.{Ghosts}
 use Rattle.m3_outside.specs.declared.slot.DiskSlot.{DiskSlot}
-use Rattle.cluster_core.proofs.ListLemmas.{some_same}
 use Rattle.replica_machine.specs.Machines.{MachineState}
 use Rattle.replica_exchange.specs.declared.member.Member.{Member}
 use Rattle.replica_exchange.specs.declared.slot.Slot.{Slot}
@@ -68,7 +68,7 @@ opened_later {D} state depot s r opened =
       | inl same ↦ (let is : (state r.machine.disk).faults ≡ (state opened.disk).faults = ap (λ (x : Member D). (state x.machine.disk).faults) same in omega (arith, first, is))
       | inr begun ↦
           (let own = begun.1 in
-          let machine : r.machine ≡ own.3.0 = ap (λ (x : Member D). x.machine) (sym (some_same own.0 r (sym own.1))) ∙ own.3.2 in
+          let machine : r.machine ≡ own.3.0 = ap (λ (x : Member D). x.machine) (sym (same_Some own.0 r (sym own.1))) ∙ own.3.2 in
           let is : (state r.machine.disk).faults ≡ (state own.3.0.disk).faults = ap (λ (x : MachineState D). (state x.disk).faults) machine in
           let later : (state opened.disk).faults ≤ (state own.3.0.disk).faults = own.3.1.faults.later in
           omega (arith, first, is, later))

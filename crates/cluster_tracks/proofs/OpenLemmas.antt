@@ -6,6 +6,7 @@ use Rattle.std.specs.List.{cons_option}
 use Rattle.std.proofs.lemmas.Bool.{and_parts, and_from, eq-eqb, eqb-true}
 use Rattle.std.proofs.lemmas.Grind.{fold-append}
 use Rattle.std.proofs.lemmas.List.{append-nil}
+use Rattle.std.proofs.lemmas.Option.{same_Some}
 use Rattle.m3_model.specs.Members.{IsIn}
 use Rattle.m3_model.specs.declared.point.Point.{Point}
 use Rattle.m3_outside.specs.Depots.{Depot, TellAll}
@@ -21,7 +22,7 @@ use Rattle.cluster_core.specs.declared.event.StepCall.TheVariants as call
 use Rattle.cluster_core.specs.declared.event.StepReply.{StepReply}
 use Rattle.cluster_core.specs.declared.event.StepReply.TheVariants as reply
 use Rattle.cluster_core.specs.declared.replica_state.ReplicaState.{ReplicaState}
-use Rattle.cluster_core.proofs.ListLemmas.{at_in, some_same}
+use Rattle.cluster_core.proofs.ListLemmas.{at_in}
 use Rattle.m3_model.proofs.MemberLemmas.{filter_map-IsIn}
 use Rattle.replica_machine.specs.Machines.{MachineState, IsMachineOf, first_machine}
 use Rattle.replica_machine.specs.Openings.{AllSound}
@@ -81,7 +82,7 @@ module _ (n s : ℕ) where
     at_own : (more : List Event) → Along more → (past : List Event) (e : Event) (m mid new : MachineState D) (d : StepCall) (x : StepReply) → e ≡ event.Step n s d x → IsMachineOf state (state first).images (replica n s past) m → (state m.disk).tells ≡ true
         → IsStep state m d x mid → TakesSteps state (steps_of (slot_at n s) more) mid new → (i : ℕ) (c : StepCall) (a : StepReply) → At (e ∷ more) i (event.Step n s c a) → Holds (past ++ take i (e ∷ more)) c a
     at_own more rest past e m mid new d x is_e is tells step takes zero c a there =
-        let same : event.Step n s d x ≡ event.Step n s c a = sym is_e ∙ some_same e (event.Step n s c a) there in
+        let same : event.Step n s d x ≡ event.Step n s c a = sym is_e ∙ same_Some e (event.Step n s c a) there in
         let same_call : d ≡ c = cc in
         let same_reply : x ≡ a = cc in
         subst (λ es. Holds es c a) (sym (append-nil past)) (subst (λ y. Holds past c y) same_reply (subst (λ y. Holds past y x) same_call (each past m mid d x is tells step)))
@@ -93,7 +94,7 @@ module _ (n s : ℕ) where
     at_other : (more : List Event) → Along more → (past : List Event) (e : Event) (m new : MachineState D) → IsOther e → IsMachineOf state (state first).images (replica n s past) m → (state m.disk).tells ≡ true
         → TakesSteps state (steps_of (slot_at n s) more) m new → (i : ℕ) (c : StepCall) (a : StepReply) → At (e ∷ more) i (event.Step n s c a) → Holds (past ++ take i (e ∷ more)) c a
     at_other more rest past e m new other is tells takes zero c a there =
-        let here : step_in (slot_at n s) e ≡ Some (record { call = c; reply = a }) = ap (step_in (slot_at n s)) (some_same e (event.Step n s c a) there) ∙ own_step c a in
+        let here : step_in (slot_at n s) e ≡ Some (record { call = c; reply = a }) = ap (step_in (slot_at n s)) (same_Some e (event.Step n s c a) there) ∙ own_step c a in
         let clash : ◌≡◌ {A = Option Step} None (Some (record { call = c; reply = a })) = sym other.none ∙ here in
         cc
     at_other more rest past e m new other is tells takes (suc i) c a there =
@@ -149,8 +150,8 @@ module _ (n s : ℕ) where
             (first_follows state made.disk) (tell made.disk) takes i c a there
 
     anywhere : (i : ℕ) (c : StepCall) (a : StepReply) → At list i (event.Step n s c a) → Holds (take i list) c a
-    anywhere zero c a there = (let clash : event.Place h.place [] ≡ event.Step n s c a = some_same (event.Place h.place []) (event.Step n s c a) there in cc)
-    anywhere (suc zero) c a there = (let clash : event.Clock h.rules ≡ event.Step n s c a = some_same (event.Clock h.rules) (event.Step n s c a) there in cc)
+    anywhere zero c a there = (let clash : event.Place h.place [] ≡ event.Step n s c a = same_Some (event.Place h.place []) (event.Step n s c a) there in cc)
+    anywhere (suc zero) c a there = (let clash : event.Clock h.rules ≡ event.Step n s c a = same_Some (event.Clock h.rules) (event.Step n s c a) there in cc)
     anywhere (suc (suc i)) c a there = within i c a there
 
     pub in_run : (i : ℕ) (c : StepCall) (a : StepReply) → At t.events i (event.Step n s c a) → Holds (take i t.events) c a

@@ -10,6 +10,7 @@ use Rattle.m3_model.specs.declared.answer.Answer.TheVariants as answer
 use Rattle.m3_model.specs.declared.point.Point.{Point}
 use Rattle.m3_model.specs.declared.reason.Reason.{Reason}
 use Rattle.m3_model.specs.declared.turn.Turn.{Turn}
+use Rattle.m3_model.proofs.Lists.{take_whole}
 use Rattle.m3_outside.specs.Depots.{Depot}
 use Rattle.m3_outside.specs.DiskState.{DiskState, IsLawfulDisk}
 use Rattle.m3_outside.specs.declared.disk.Disk.{Ghosts}
@@ -17,7 +18,6 @@ use Rattle.placement_core.specs.Shards.{Shard, nodes_of}
 use Rattle.replica_exchange.specs.declared.call_id.CallId.{CallId}
 use Rattle.session_net.specs.Writes.{AreMembers, IsAcknowledged, IsRefused, IsUnmet, IsUnsent, bag_after, shard_of_point}
 use Rattle.session_net.specs.declared.session_err.SessionErr.TheVariants as err
-use Rattle.told_by.proofs.LineLemmas.{take_all}
 use Rattle.transcripts.specs.Points.{was_sent}
 use Rattle.transcripts.specs.Record.{line_of}
 use Rattle.told_by.specs.Lines.{WriteLine}
@@ -80,7 +80,7 @@ module _ {D : Type 0} {G : Ghosts D} (state : D → DiskState) (lawful : (d : D)
 
     -- or to all of them
     all_sent : (members : Shard) → g.net.bag ≡ bag_after m.net call point (nodes_of members) → g.net.bag ≡ bag_after m.net call point (nodes_of (take (length members) members))
-    all_sent members bag = bag ∙ ap (λ (xs : Shard). bag_after m.net call point (nodes_of xs)) (sym (take_all members))
+    all_sent members bag = bag ∙ ap (λ (xs : Shard). bag_after m.net call point (nodes_of xs)) (sym (take_whole members))
 
     acked : (acks : List ℕ) → IsAcknowledged state m.net call point level acks g.net → IsTracked (answer.Acks acks)
     acked acks h =

@@ -10,10 +10,12 @@ use Rattle.m3_model.specs.declared.limits.TheConstants.{MOST_NODES, MOST_SHARDS}
 use Rattle.m3_model.specs.declared.placement.Assignment.{Assignment}
 use Rattle.m3_model.specs.declared.placement.Placement.{Placement}
 use Rattle.m3_model.proofs.MemberLemmas.{IsIn-append_cases, IsIn-append_left, IsIn-append_right, IsIn-map, map-IsIn}
+use Rattle.m3_model.proofs.Lists.{All-from_each}
+use Rattle.m3_model.proofs.Ascending.{Ascends-append}
 use Rattle.placement_core.specs.Lawful.{IsLawful}
 use Rattle.placement_core.specs.NodeNames.{IsNamedBelow}
 use Rattle.placement_core.specs.Shards.{Shard, nodes_of, shard_at}
-use Rattle.placement_core.proofs.ListLemmas.{All-from_each, Any-from_IsIn, IsIn-from_Any, IsIn-from_index, each-from_All}
+use Rattle.placement_core.proofs.ListLemmas.{Any-from_IsIn, IsIn-from_Any, each-from_All}
 use Rattle.placement_core.proofs.OrderLemmas.{ascends-map}
 use Rattle.cluster_core.specs.Lists.{At}
 use Rattle.cluster_core.proofs.ListLemmas.{at_in, at_within}
@@ -27,13 +29,6 @@ use Rattle.cluster_upkeep.specs.declared.rows.Row.{Row}
 
 permuted_in : {X : Type 0} (xs ys : List X) → IsPermutation xs ys → (x : X) → IsIn ys x → IsIn xs x
 permuted_in xs ys p = each-from_All (IsIn xs) ys (All-permutation (IsIn xs) xs ys p (All-from_each (IsIn xs) xs (λ y m. m)))
-
-ascends_append : {X : Type 0} (R : X → X → Type 0) (xs ys : List X) → Ascends R xs → Ascends R ys → ((x y : X) → IsIn xs x → IsIn ys y → R x y) → Ascends R (xs ++ ys)
-ascends_append R [] ys of_xs of_ys across = of_ys
-ascends_append R (x ∷ xs) ys of_xs of_ys across = (
-  λ y m. elim (IsIn-append_cases xs ys y m) as (λ _. R x y) [ inl before ↦ of_xs.0 y before | inr behind ↦ across x y (inl refl) behind ],
-  ascends_append R xs ys of_xs.1 of_ys (λ a b m n. across a b (inr m) n),
-)
 
 -- a shard that has an assignment is there
 shard_there : (shards : List Shard) (s : ℕ) (a : Assignment) → IsIn (slice_index_or shards s []) a → At shards s (slice_index_or shards s [])
@@ -126,7 +121,7 @@ rows_in_order : (place : Placement) → IsLawful place → (n : ℕ) (rows : Lis
 rows_in_order place lawful zero rows h = subst (Ascends (λ a b. IsSlotBelow place (slot_in a) (slot_in b))) (sym h) tt
 rows_in_order place lawful (suc n) rows (before, earlier, here) =
     subst (Ascends (λ a b. IsSlotBelow place (slot_in a) (slot_in b))) (sym here.rows_are)
-    (ascends_append (λ a b. IsSlotBelow place (slot_in a) (slot_in b)) before (map (row_at n) here.members) (rows_in_order place lawful n before earlier) (shard_in_order place n before rows here lawful)
+    (Ascends-append (λ a b. IsSlotBelow place (slot_in a) (slot_in b)) before (map (row_at n) here.members) (rows_in_order place lawful n before earlier) (shard_in_order place n before rows here lawful)
     (λ x y old new.
     let low = (row_below place n before earlier x old).below in
     let own : n ≡ y.slot.shard = ap (λ (r : Row). r.slot.shard) (shard_row place n before rows here y new).2 in

@@ -7,6 +7,7 @@ use Rattle.std.specs.FinMap.{get}
 use Rattle.m3_model.specs.Members.{IsIn}
 use Rattle.m3_model.specs.Ascends.{Ascends}
 use Rattle.m3_model.proofs.MemberLemmas.{IsIn-append_left, IsIn-append_cases, IsIn-push}
+use Rattle.m3_model.proofs.Ascending.{Ascends-push}
 use Rattle.m3_outside.specs.declared.file_name.FileName.{FileName}
 use Rattle.m3_outside.specs.Files.{Files, IsPresent, files_with_zeros}
 use Rattle.m3_outside.specs.DiskState.{DiskState, IsLawfulDisk, StepOf, Elapses}
@@ -129,14 +130,6 @@ may_add_log number chunk chunks x y log may =
 pub adds_log : (number : ℕ) (chunk : List ℕ) (chunks : List (List ℕ)) (x y : Files) → IsLog chunks number x → Adds (segment number) chunk x y → IsLog (chunks ++ chunk ∷ []) number y
 adds_log number chunk chunks x y log adds = with_more number chunks x y log adds.others adds.chunks adds.before chunk adds.after
 
--- a fresh segment
-ascend_push : (ns : List ℕ) (number : ℕ) → Ascends (λ a b. a < b) ns → ((n : ℕ) → IsIn ns n → n < number) → Ascends (λ a b. a < b) (ns ++ number ∷ [])
-ascend_push [] number up below = ((λ k m. absurd m), tt)
-ascend_push (n ∷ ns) number up below = (
-  (λ k m. ⊎_elim (λ (r : IsIn ns k). up.0 k r) (λ (r : IsIn (number ∷ []) k). ⊎_elim (λ (same : number ≡ k). let lt = below n (inl refl) in omega (arith, lt, same)) (λ (none : ⊥). absurd none) r) (IsIn-append_cases ns (number ∷ []) k m)),
-  ascend_push ns number up.1 (λ k m. below k (inr m)),
-)
-
 module _ (last number : ℕ) (lt : last < number) (chunks : List (List ℕ)) (x y : Files) (log : IsLog chunks last x) (is : y ≡ files_with_zeros (segment number) 65536 x) where
   here : get y (segment number) ≡ Some (replicate 65536 0)
   here = ap (λ (m : Files). get m (segment number)) is ∙ get_here x (segment number) (replicate 65536 0)
@@ -148,7 +141,7 @@ module _ (last number : ℕ) (lt : last < number) (chunks : List (List ℕ)) (x 
   below n m = let le = none_there x last n log.above m in omega (arith, le, lt)
 
   numbers_more : numbers y ≡ numbers x ++ number ∷ []
-  numbers_more = same_members (numbers y) (numbers x ++ number ∷ []) (ascend y) (ascend_push (numbers x) number (ascend x) below) to back
+  numbers_more = same_members (numbers y) (numbers x ++ number ∷ []) (ascend y) (Ascends-push (λ a b. a < b) (numbers x) number (ascend x) below) to back
     where
       to : (n : ℕ) → IsIn (numbers y) n → IsIn (numbers x ++ number ∷ []) n
       to n m =

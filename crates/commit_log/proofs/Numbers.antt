@@ -2,7 +2,7 @@
 use Rattle.std.proofs.Common.{◌≡◌, inl, inr, ℕ, ◌<◌, ◌≤◌, List, [], ◌∷◌, map, refl, sym, ap, ◌∙◌, Bool, true, false, cond, ◌&&◌, Some, None, Option, arith, max, subst}
 use Rattle.std.specs.Prelude.{nat_lt, ◌==◌}
 use Rattle.std.specs.List.{filter}
-use Rattle.std.proofs.lemmas.Bool.{eqb-true, ltb-true}
+use Rattle.std.proofs.lemmas.Bool.{eqb-true, ltb-true, and_parts}
 use Rattle.std.specs.FinMap.{get, keys, entries}
 use Rattle.std.specs.Ordering.{nat_cmp}
 use Rattle.std.specs.Cmp.{ranked}
@@ -18,15 +18,11 @@ use Rattle.commit_log.specs.Segment.{segment}
 use Rattle.commit_log.specs.LogEnd.{NoneFrom}
 use Rattle.commit_log.specs.Contents.{is_segment, numbers_of, numbers, next_after}
 
-both_true : (a b : Bool) → (a && b) ≡ true → (a ≡ true) × (b ≡ true)
-both_true true b e = (refl, e)
-both_true false b e = absurd (cc)
-
 -- a segment's name is that of its number
 pub named : (name : FileName) → is_segment name ≡ true → name ≡ segment name.number
 named name e =
-    let first = both_true (name.kind == 0) ((name.ns == 0) && (name.block == 0)) e in
-    let second = both_true (name.ns == 0) (name.block == 0) first.1 in
+    let first = and_parts (name.kind == 0) ((name.ns == 0) && (name.block == 0)) e in
+    let second = and_parts (name.ns == 0) (name.block == 0) first.1 in
     let kind = eqb-true name.kind 0 first.0 in
     let ns = eqb-true name.ns 0 second.0 in
     let block = eqb-true name.block 0 second.1 in

@@ -1,7 +1,8 @@
 -- What segments hold, one after another.
-use Rattle.std.proofs.Common.{◌≡◌, inl, inr, ℕ, List, [], ◌∷◌, ◌++◌, refl, sym, ap, subst, ◌∙◌, Some, arith, append_assoc}
+use Rattle.std.proofs.Common.{◌≡◌, inl, inr, ℕ, List, [], ◌∷◌, ◌++◌, refl, sym, ap, subst, ◌∙◌, arith, append_assoc}
 use Rattle.std.proofs.lemmas.List.{append-nil}
 use Rattle.std.specs.FinMap.{get}
+use Rattle.std.proofs.lemmas.Option.{same_Some}
 use Rattle.m3_model.specs.Members.{IsIn}
 use Rattle.m3_outside.specs.Files.{Files}
 use Rattle.commit_log.specs.Segment.{segment, ReadsChunks, HasChunks}
@@ -52,12 +53,9 @@ pub parts_same : (ns : List ℕ) (x y : Files) (chunks : List (List ℕ)) → ((
 parts_same [] x y chunks same p = p
 parts_same (n ∷ ns) x y chunks same p = record { first = p.first; rest = p.rest; split = p.split; has = has_same n x y p.first (same n (inl refl)) p.has; later = parts_same ns x y p.rest (λ k m. same k (inr m)) p.later }
 
-same_some : (x y : List ℕ) → Some x ≡ Some y → x ≡ y
-same_some x y e = cc
-
 -- a segment has one list of chunks
 pub has_one : (n : ℕ) (files : Files) (cs ds : List (List ℕ)) → HasChunks (segment n) cs files → HasChunks (segment n) ds files → cs ≡ ds
-has_one n files cs ds a b = one_reading cs ds a.file (omega (arith, a.size)) a.reads (subst (ReadsChunks ds) (same_some b.file a.file (sym b.there ∙ a.there)) b.reads)
+has_one n files cs ds a b = one_reading cs ds a.file (omega (arith, a.size)) a.reads (subst (ReadsChunks ds) (same_Some b.file a.file (sym b.there ∙ a.there)) b.reads)
 
 -- and so have all
 pub parts_one : (ns : List ℕ) (files : Files) (cs ds : List (List ℕ)) → PartsHold ns files cs → PartsHold ns files ds → cs ≡ ds

@@ -24,7 +24,7 @@ const AFTERWARDS: &str = r#"{"op":"bootstrap","node":"c"}
 {"op":"fetch","ns":"m","id":"hello","from":0,"to":2000,"level":"one"}
 "#;
 
-// The places of replies, from that to `init` on.
+// The positions of replies, from that to `init` on.
 const WRITE: usize = 3;
 
 const SNAPSHOT: usize = 4;

@@ -24,7 +24,7 @@ const LINES: &str = r#"{"op":"now","now":600}
 {"op":"fetch","ns":"m","id":"hello","from":0,"to":2000,"level":"one"}
 "#;
 
-// The places of replies, from that to `init` on.
+// The positions of replies, from that to `init` on.
 const WRITE: usize = 6;
 
 const FLUSH: usize = 8;
@@ -53,9 +53,9 @@ const HELD: &str = r#"{"ok":true,"series":[{"id":"hello","points":[[1000,7]]}],"
 
 const NOTHING: &str = r#"{"ok":true,"series":[],"short":false}"#;
 
-/// The reply at this place.
-pub fn reply_at(replies: &str, place: usize) -> &str {
-    let mut rest = replies.lines().skip(place);
+/// The reply at this position.
+pub fn reply_at(replies: &str, position: usize) -> &str {
+    let mut rest = replies.lines().skip(position);
     rest.next().unwrap_or("")
 }
 

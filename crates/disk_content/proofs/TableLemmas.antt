@@ -1,5 +1,5 @@
 -- The entries of a hash map as a table of files.
-use Rattle.std.proofs.Common.{◌≡◌, ◌+◌, ◌≤◌, ℕ, List, [], ◌∷◌, length, map as each, refl, sym, ap, subst, ◌∙◌, true, false, cond, ◌&&◌, ◌||◌, Bool, T, IsPermutation, IsSorted, is_some, arith}
+use Rattle.std.proofs.Common.{◌≡◌, ◌+◌, ◌≤◌, ℕ, List, [], ◌∷◌, length, map as each, refl, sym, ap, subst, ◌∙◌, true, false, cond, ◌&&◌, ◌||◌, Bool, T, IsPermutation, IsSorted, is_some}
 use Rattle.std.specs.Prelude.{Some, None, nat_eq}
 use Rattle.std.specs.FinMap as map
 use Rattle.std.specs.FinMap.{find, is_sorted, from_entries, get-from_entries, contains_key-keys, entries_sorted, get-insert, get-remove, same_map}
@@ -9,13 +9,12 @@ use Rattle.std.specs.HashMap.{HashMap, get_by, WritesThrough}
 use Rattle.std.specs.Cmp.{eq_by_cmp_equiv}
 use Rattle.std.specs.List.{AllByRecursion, IsDistinct, dedup_from, list_any}
 use Rattle.std.specs.List.Sorted.{IsStrictlySortedBy}
-use Rattle.std.specs.Ordering.{is_lt, is_eq, eq_by_cmp, nat_cmp, ordering_then}
-use Rattle.std.specs.declared.cmp.Ordering.{Ordering}
-use Rattle.std.specs.declared.cmp.Ordering.TheVariants.{Less, Equal, Greater}
-use Rattle.std.proofs.lemmas.Bool.Decides.{nat_tests}
+use Rattle.std.specs.Ordering.{is_lt, is_eq, eq_by_cmp, nat_cmp}
+use Rattle.std.specs.declared.cmp.Ordering.TheVariants.{Less}
 use Rattle.std.proofs.lemmas.List.Kept.{IsStrictlySortedBy-dedup}
 use Rattle.std.proofs.lemmas.List.Sorted.{list_any-IsPermutation}
 use Rattle.std.proofs.lemmas.Map.Keys.{IsDistinct-IsPermutation}
+use Rattle.m3_model.proofs.Orders.{is_eq-nat_cmp, is_eq-then}
 use Rattle.m3_outside.specs.declared.file_name.FileName.{FileName}
 use Rattle.m3_outside.specs.Files.{Files, IsInside, name_cmp, patched}
 use Rattle.m3_outside.proofs.Names.{name_total, name_same, is_remove, get_apart}
@@ -32,20 +31,12 @@ table es = from_entries es
 abbrev pub name_eq : FileName → FileName → Bool
 name_eq m n = nat_eq m.kind n.kind && (nat_eq m.ns n.ns && (nat_eq m.block n.block && nat_eq m.number n.number))
 
-number_tie : (a b : ℕ) → is_eq (nat_cmp a b) ≡ nat_eq a b
-number_tie a b = grind (arith, nat_tests)
-
-then_tie : (a b : Ordering) → is_eq (ordering_then a b) ≡ (is_eq a && is_eq b)
-then_tie Less b = refl
-then_tie Equal b = refl
-then_tie Greater b = refl
-
 -- names tie just where they are equal
 name_tie : (m n : FileName) → eq_by_cmp name_cmp m n ≡ name_eq m n
 name_tie m n =
-    then_tie (nat_cmp m.kind n.kind) _
-    ∙ ap (λ b. is_eq (nat_cmp m.kind n.kind) && b) (then_tie (nat_cmp m.ns n.ns) _ ∙ ap (λ b. is_eq (nat_cmp m.ns n.ns) && b) (then_tie (nat_cmp m.block n.block) _))
-    ∙ (λ i. number_tie m.kind n.kind i && (number_tie m.ns n.ns i && (number_tie m.block n.block i && number_tie m.number n.number i)))
+    is_eq-then (nat_cmp m.kind n.kind) _
+    ∙ ap (λ b. is_eq (nat_cmp m.kind n.kind) && b) (is_eq-then (nat_cmp m.ns n.ns) _ ∙ ap (λ b. is_eq (nat_cmp m.ns n.ns) && b) (is_eq-then (nat_cmp m.block n.block) _))
+    ∙ (λ i. is_eq-nat_cmp m.kind n.kind i && (is_eq-nat_cmp m.ns n.ns i && (is_eq-nat_cmp m.block n.block i && is_eq-nat_cmp m.number n.number i)))
 
 name_flips : (m n : FileName) → name_eq m n ≡ name_eq n m
 name_flips m n = sym (name_tie m n) ∙ (eq_by_cmp_equiv name_total).symm m n ∙ name_tie n m

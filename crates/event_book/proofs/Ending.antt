@@ -1,5 +1,6 @@
 -- A seat that ends in another keeps the rule.
 use Rattle.std.proofs.Common.{◌≡◌, ℕ, Bool, true, List, [], ◌∷◌, ◌++◌, set, refl, sym, ◌∙◌, subst}
+use Rattle.std.proofs.lemmas.List.{set_comm}
 use mathlib.Core.Option.{some}
 use lib.ListN.{get_elem?}
 use Rattle.atomic_table.proofs.Lists.{set_else}
@@ -10,7 +11,7 @@ use Rattle.event_book.specs.declared.view.View.{View}
 use Rattle.event_book.specs.Lists.{HasEnded}
 use Rattle.event_book.specs.Views.{note_of, joined_view}
 use Rattle.event_book.specs.Rule.{NoneNamed, FitsList, IsApart, HoldsList}
-use Rattle.event_book.proofs.Members.{set_swap, each_set, pair_set}
+use Rattle.event_book.proofs.Members.{each_set, pair_set}
 use Rattle.event_book.proofs.Looking.{Rule, none_named_like}
 use Rattle.event_book.proofs.Passing.{unnamed, keeps_spent}
 
@@ -39,7 +40,7 @@ module _ {E : Type 0} (lawful : Bool → List (Made E) → Type 0) where
       let away : (l : ℕ) (u : View E) → get_elem? views l ≡ some u → u.named ≡ true → NoneNamed (gone ∷ w.ended) u =
       each_set (λ l u. u.named ≡ true → NoneNamed (gone ∷ w.ended) u) s.views j (note_of []) unnamed
       (λ l u n at''. λ live. let a = k.apart j l w u there at'' in ((λ e. n (sym (a.same ended live e))), (λ o. (k.apart l j u w at'' there).free live ended o), a.gone live)) in
-      let swap : set (set s.views i b) j (note_of []) ≡ set views i b = set_swap s.views i j b (note_of []) (λ e. ne (sym e)) in
+      let swap : set (set s.views i b) j (note_of []) ≡ set views i b = set_comm s.views i j b (note_of []) (λ e. ne (sym e)) in
       subst (λ (l : List (View E)). HoldsList lawful s.words l) (sym swap) record {
         log = k.log;
         tells = k.tells;

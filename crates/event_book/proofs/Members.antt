@@ -5,13 +5,6 @@ use lib.ListN.{get_elem?}
 use Rattle.atomic_table.proofs.Lists.{at_set}
 
 module _ {A : Type 0} where
-  pub set_swap : (l : List A) (i j : ℕ) (a b : A) → i ≢ j → set (set l i a) j b ≡ set (set l j b) i a
-  set_swap [] i j a b n = refl
-  set_swap (x ∷ xs) zero zero a b n = absurd (n refl)
-  set_swap (x ∷ xs) zero (suc j) a b n = refl
-  set_swap (x ∷ xs) (suc i) zero a b n = refl
-  set_swap (x ∷ xs) (suc i) (suc j) a b n = ap (λ (l : List A). x ∷ l) (set_swap xs i j a b (λ e. n (ap suc e)))
-
   at_end : (l : List A) (a b : A) (j : ℕ) → get_elem? (l ++ a ∷ []) j ≡ some b → (get_elem? l j ≡ some b) ⊎ ((j ≡ length l) × (a ≡ b))
   at_end [] a b zero e = inr (refl, some-injective a b e)
   at_end [] a b (suc j) e = absurd (some-ne-none b (sym e))

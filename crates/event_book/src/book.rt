@@ -10,12 +10,14 @@ use crate::rule::LengthTable;
 use crate::seat::Seat;
 use crate::steps::{add_entry, end_in, split_from, tell_seen};
 use std::marker::PhantomData;
+use thiserror::Error;
 
 /// So many entries a book takes.
 pub const MOST_ENTRIES: u64 = 1 << 62;
 
 /// The book has 2^62 entries.
-#[derive(Debug, Drop)]
+#[derive(Debug, Drop, Error)]
+#[error("the list is full")]
 pub struct Full;
 
 /// One list of entries that all threads agree on, and of which it keeps the length alone.

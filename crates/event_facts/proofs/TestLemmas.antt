@@ -1,6 +1,7 @@
 -- What the tests of a row tell.
 use Rattle.std.proofs.Common.{◌≡◌, ◌↔◌, ℕ, zero, suc, ◌+◌, List, [], ◌∷◌, ◌++◌, map, take, refl, sym, ap, ◌∙◌, subst, inl, inr, All, Any, Bool, true, false, IsTrue, length, ◌<◌, add-one, append-nil, append_assoc}
 use Rattle.std.specs.Prelude.{MatchBool}
+use Rattle.std.proofs.lemmas.Option.{same_Some}
 use Rattle.m3_model.specs.Ascends.{Ascends}
 use Rattle.m3_model.specs.Members.{IsIn}
 use mathlib.Core.Bool.{beq}
@@ -9,10 +10,10 @@ use Rattle.m3_model.specs.Tags.{IsBelow, HasTags, MatcherHolds}
 use Rattle.m3_model.specs.declared.point.Matcher.{Matcher}
 use Rattle.m3_model.specs.declared.point.Point.{Point}
 use Rattle.m3_model.specs.declared.point.Series.{Series}
-use Rattle.placement_core.proofs.ListLemmas.{IsIn-from_Any, Any-from_IsIn, each-from_All, All-from_each}
+use Rattle.m3_model.proofs.Lists.{All-from_each}
+use Rattle.placement_core.proofs.ListLemmas.{IsIn-from_Any, Any-from_IsIn, each-from_All}
 use Rattle.cluster_core.specs.Answers.{HoldsOf}
 use Rattle.cluster_core.specs.Lists.{At}
-use Rattle.cluster_core.proofs.ListLemmas.{some_same}
 
 pub any_in : {X : Type 0} (xs : List X) (x : X) → Any (λ y. y ≡ x) xs ↔ IsIn xs x
 any_in xs x = (λ h. let a = IsIn-from_Any (λ y. y ≡ x) xs h in subst (IsIn xs) a.2 a.1, λ m. Any-from_IsIn (λ y. y ≡ x) xs x m refl)
@@ -73,7 +74,7 @@ ordered_decided series ids = (
 points_suc : (ns : ℕ) (series : List Series) (i : ℕ) (x : Series) → At series i x → points_in ns (take (suc i) series) ≡ points_in ns (take i series) ++ map (λ y. record { ns = ns; id = x.id; t = y.0; v = y.1 }) x.points
 points_suc ns [] i x e = cc
 points_suc ns (y ∷ ys) zero x e =
-    append-nil (map (λ z. record { ns = ns; id = y.id; t = z.0; v = z.1 }) y.points) ∙ ap (λ (w : Series). map (λ z. record { ns = ns; id = w.id; t = z.0; v = z.1 }) w.points) (some_same y x e)
+    append-nil (map (λ z. record { ns = ns; id = y.id; t = z.0; v = z.1 }) y.points) ∙ ap (λ (w : Series). map (λ z. record { ns = ns; id = w.id; t = z.0; v = z.1 }) w.points) (same_Some y x e)
 points_suc ns (y ∷ ys) (suc i) x e =
     ap (λ zs. map (λ z. record { ns = ns; id = y.id; t = z.0; v = z.1 }) y.points ++ zs) (points_suc ns ys i x e)
     ∙ sym (append_assoc (map (λ z. record { ns = ns; id = y.id; t = z.0; v = z.1 }) y.points) (points_in ns (take i ys)) (map (λ z. record { ns = ns; id = x.id; t = z.0; v = z.1 }) x.points))

@@ -23,6 +23,7 @@ call_of (calls.Tick rules) = call.Tick rules.value
 call_of (calls.Flush rules) = call.Flush rules.value
 call_of calls.Snapshot = call.Snapshot
 call_of calls.Report = call.Report
+call_of calls.End = call.End
 call_of calls.Stop = call.Stop
 call_of calls.Restart = call.Restart
 
@@ -35,6 +36,7 @@ reply_of (replies.Told report) = reply.Told report.value
 reply_of (replies.Refused reason) = reply.Refused reason.value
 
 abbrev pub event_of : EventParts → Event
+event_of (events.AskPlace place) = event.Ask (asked.Place place.value [])
 event_of (events.Place place) = event.Place place.value []
 event_of (events.AskClock rules) = event.Ask (asked.Clock rules.value)
 event_of (events.Clock rules) = event.Clock rules.value

@@ -26,6 +26,7 @@ enum CallParts {
     Flush(Snapshot<Rules>),
     Snapshot,
     Report,
+    End,
     Stop,
     Restart,
 }
@@ -131,6 +132,15 @@ impl CallView {
     {
         CallView {
             parts: CallParts::Report,
+        }
+    }
+
+    /// The call that ends a tenure.
+    pub fn end() -> CallView
+        ensures { result ≡ call.End }
+    {
+        CallView {
+            parts: CallParts::End,
         }
     }
 
@@ -240,6 +250,7 @@ pub struct EventView {
 
 #[derive(Drop)]
 enum EventParts {
+    AskPlace(Snapshot<Placement>),
     Place(Snapshot<Placement>),
     AskClock(Snapshot<Rules>),
     Clock(Snapshot<Rules>),
@@ -262,6 +273,15 @@ impl Model for EventView {
 }
 
 impl EventView {
+    /// That this placement is asked for, with which no move ends.
+    pub fn ask_place(place: &Placement) -> EventView
+        ensures { result ≡ event.Ask (asked.Place place.now []) }
+    {
+        EventView {
+            parts: EventParts::AskPlace(Snapshot::of(place)),
+        }
+    }
+
     /// The placement from now on, with which no move ends.
     pub fn place(place: &Placement) -> EventView
         ensures { result ≡ event.Place place.now [] }

@@ -2,6 +2,7 @@
 use Rattle.std.proofs.Common.{◌≡◌, ◌≢◌, ◌<◌, ◌∙◌, ℕ, suc, true, false, List, [], ◌∷◌, refl, sym, subst, ap, inl, inr, arith}
 use Rattle.std.specs.Prelude.{Some, None, pos, codes, slice_get, drop, decimal, IsTrue}
 use Rattle.std.specs.List.{list_any}
+use Rattle.std.proofs.lemmas.Option.{same_Some}
 use Rattle.transcripts.specs.Caused.{Caused, OnDisk, InFiles}
 use Rattle.transcripts.specs.Levels.{MissesLevel}
 use Rattle.transcripts.specs.Reasons.{MayRefuse, IsShown}
@@ -23,20 +24,20 @@ use Rattle.m3_model.specs.declared.turn.Turn.{Turn}
 use Rattle.model_laws.specs.Building.{begun, life_of, line, nodes, place}
 use Rattle.model_laws.specs.Messages.{stopped}
 use Rattle.fault_laws.specs.Faulty.{fails, untaken, write_all, all_but_c, without_c, c_restarted, c_bootstrapped, down_restarted, boot_bootstrapped, boot_covered, disk_at_once, corrupt_at_once, restart_failed, init_failed, bootstrapped_stopped, bootstrapped_missing, restarted_running, damaged_boot, back_again, no_shard_restarted, no_shard_made}
-use Rattle.model_laws.proofs.EachLemmas.{same_of_some, texts_differ}
+use Rattle.model_laws.proofs.EachLemmas.{texts_differ}
 use Rattle.model_laws.proofs.PositionLemmas.{position_after, due_after, only_used}
 use Rattle.model_laws.proofs.SampleLemmas.{call_with, of_shard}
 
 -- what is so of the name of a node that is known
 pub holds_of : (Holds : List ℕ → Type 0) (node : ℕ) (one : Instance) → slice_get place.instances node ≡ Some one → OfNode place node Holds → Holds one.name
-holds_of Holds node one stood fact = subst (λ (i : Instance). Holds i.name) (same_of_some fact.instance_ one (sym fact.stands ∙ stood)) fact.holds
+holds_of Holds node one stood fact = subst (λ (i : Instance). Holds i.name) (same_Some fact.instance_ one (sym fact.stands ∙ stood)) fact.holds
 
 -- why c may have refused the write that all have to take
 pub c_may : {faults : List Fault} (lines : List Turn) (why : Reason) → placement_after None (inner_turns lines) ≡ Some place → MissesLevel true faults None (position_after lines (write_all 100 (pos 5)) (all_but_c why)) 2 3 ((2, why) ∷ []) 0
     → MayRefuse true faults None (position_after lines (write_all 100 (pos 5)) (all_but_c why)) place 0 2 why
 c_may {faults = faults} lines why stood due =
     let p = position_after lines (write_all 100 (pos 5)) (all_but_c why) in
-    let known : call_with (needed_write write_level.All) ≡ due.call = same_of_some (call_with (needed_write write_level.All)) due.call due.of_act in
+    let known : call_with (needed_write write_level.All) ≡ due.call = same_Some (call_with (needed_write write_level.All)) due.call due.of_act in
     let used : MayUse None p None due.place = subst (λ call. MayUse None p call.version due.place) (sym known) due.may_use in
     let same : place ≡ due.place = only_used lines (write_all 100 (pos 5)) (all_but_c why) place due.place stood used in
     subst (λ x. MayRefuse true faults None p x 0 2 why) (sym same) (due.silent.refused (2, why) (inl refl))
@@ -93,7 +94,7 @@ other_init-refused caused =
     elim due.3 as (λ _. ⊥) [
       | inl e ↦
           let of_a : Some (codes "a", codes "g1") ≡ Some (codes "b", due.1.0) = subst (λ node. slice_get nodes node ≡ Some (codes "b", due.1.0)) (sym (ap (λ (f : Fault). f.node) e)) due.1.1 in
-          let same : codes "a" ≡ codes "b" = ap (λ (node : List ℕ × List ℕ). node.0) (same_of_some _ _ of_a) in
+          let same : codes "a" ≡ codes "b" = ap (λ (node : List ℕ × List ℕ). node.0) (same_Some _ _ of_a) in
           texts_differ (codes "a") (codes "b") refl refl same
       | inr none ↦ absurd none
     ]

@@ -2,6 +2,7 @@
 use Rattle.std.proofs.Common.{◌≡◌, ◌≤◌, ◌<◌, ◌∙◌, ℕ, Bool, true, false, List, [], ◌∷◌, length, refl, sym, subst, inl, inr, arith}
 use Rattle.std.specs.Prelude.{Option, Some, None, pos, codes}
 use Rattle.std.specs.declared.cmp.Ordering.TheVariants.{Less, Equal}
+use Rattle.std.proofs.lemmas.Option.{same_Some}
 use Rattle.transcripts.specs.Caused.{Caused}
 use Rattle.transcripts.specs.Placements.{MayUse}
 use Rattle.transcripts.specs.Calls.{Call, call_of}
@@ -28,7 +29,7 @@ use Rattle.m3_model.specs.declared.reason.Reason.TheVariants as reason
 use Rattle.m3_model.specs.declared.turn.Turn.{Turn}
 use Rattle.model_laws.specs.Building.{begun, write, acks, unmet, by_each, place, life_of}
 use Rattle.model_laws.specs.Messages.{fated, stopped, unstrict, b_then_c_late, without_b, lost_and_acked, stopped_and_acked, down_unstopped, cut_by_other_fate, not_short_enough, stopped_again, delivered_twice, fate_of_nobody}
-use Rattle.model_laws.proofs.EachLemmas.{same_of_some, ◌also◌}
+use Rattle.model_laws.proofs.EachLemmas.{◌also◌}
 use Rattle.model_laws.proofs.PositionLemmas.{position_after, each_position, only, due_after, only_used}
 use Rattle.model_laws.proofs.SampleLemmas.{call_with}
 use Rattle.model_laws.proofs.UncausedLives.{due_at, names_below}
@@ -120,7 +121,7 @@ alone = each_position (λ q. (q.client ≡ 0) × (q.earlier ≡ [])) lines_befor
 used_by : (m : LateMessage) → IsLateMessage None delivery m → place ≡ m.used
 used_by m late = each_position (λ q. (point : Point) → point_of (rules_at None delivery).spaces q.turn.act ≡ Some point → (call : Call) → call_of q.turn.act ≡ Some call → MayUse None q call.version m.used → place ≡ m.used) lines_before (
     only (λ point e. cc) also only (λ point e. cc) also only (λ point e. cc) also only (λ point e. cc)
-    also only (λ point e call is may. only_used (begun 100 (b_then_c_late ∷ [])) (write 100 (pos 5)) (acks (0 ∷ 2 ∷ [])) place m.used refl (subst (λ (c : Call). MayUse None (position_after (begun 100 (b_then_c_late ∷ [])) (write 100 (pos 5)) (acks (0 ∷ 2 ∷ []))) c.version m.used) (sym (same_of_some (call_with (needed_write write_level.Majority)) call is)) may))
+    also only (λ point e call is may. only_used (begun 100 (b_then_c_late ∷ [])) (write 100 (pos 5)) (acks (0 ∷ 2 ∷ [])) place m.used refl (subst (λ (c : Call). MayUse None (position_after (begun 100 (b_then_c_late ∷ [])) (write 100 (pos 5)) (acks (0 ∷ 2 ∷ []))) c.version m.used) (sym (same_Some (call_with (needed_write write_level.Majority)) call is)) may))
     also tt) m.position (made_by m late) m.point late.of_act late.call late.of_call late.may_use
 
 -- two messages of that write to the same node aren't one before the other

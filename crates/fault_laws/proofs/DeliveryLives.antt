@@ -1,6 +1,7 @@
 -- Late messages that are delivered once, twice, or of nobody.
 use Rattle.std.proofs.Common.{◌≡◌, ◌≢◌, ◌∙◌, ℕ, suc, Bool, true, false, List, [], ◌∷◌, length, map, drop, refl, sym, subst, inl, inr, arith}
 use Rattle.std.specs.Prelude.{Option, Some, None, pos, codes, IsTrue}
+use Rattle.std.proofs.lemmas.Option.{same_Some}
 use Rattle.transcripts.specs.Caused.{Caused, CausedAt, IsDueBy}
 use Rattle.transcripts.specs.Deliveries.{LateMessage, IsLateMessage, IsLateBefore, IsDelivered, IsOutcomeOf, IsSamePosition, delivers_nothing}
 use Rattle.transcripts.specs.Levels.{IsAcked}
@@ -30,7 +31,7 @@ use Rattle.m3_model.specs.declared.reason.Reason.TheVariants as reason
 use Rattle.m3_model.specs.declared.turn.Turn.{Turn}
 use Rattle.model_laws.specs.Building.{begun, wrote, write, acks, unmet, place, space, life_of}
 use Rattle.model_laws.specs.Messages.{b_came, b_then_c_late, without_b, then_b_late, stopped, delivered, delivered_beside, delivered_again, delivered_of_nobody, delivered_in_two_lines, delivered_to_stopped, after_c_lost, c_lost, tick_cut}
-use Rattle.model_laws.proofs.EachLemmas.{same_of_some, ascends_by, ◌also◌}
+use Rattle.model_laws.proofs.EachLemmas.{ascends_by, ◌also◌}
 use Rattle.model_laws.proofs.PositionLemmas.{EachInRun, EachInLine, each_in_line, only_used, position_after, position_after-stands, position_in, each_position, only, due, due_beside, due_after}
 use Rattle.model_laws.proofs.SampleLemmas.{call_with}
 use Rattle.model_laws.proofs.CausedLives.{begun_delivering, counted_0, counted_2, below_0_2}
@@ -286,7 +287,7 @@ stopped-refused faults caused =
     let told : IsDelivered true faults None p (caused.delivered p) b_came = due_after before_stopped act.Deliver (answer.Outcomes b_came) [] (λ e. cc) (λ e. cc) caused in
     let m = one_message p (caused.delivered p) None told in
     let same = used_by p m.0 refl (only (λ point e. cc) also only (λ point e. cc) also only (λ point e. cc) also only (λ point e. cc)
-    also only (λ point e call is may. only_used (begun 100 (b_then_c_late ∷ [])) (write 100 (pos 5)) (acks (0 ∷ 2 ∷ [])) place m.0.used refl (subst (λ (c : Call). MayUse None (position_after (begun 100 (b_then_c_late ∷ [])) (write 100 (pos 5)) (acks (0 ∷ 2 ∷ []))) c.version m.0.used) (sym (same_of_some (call_with (needed_write write_level.Majority)) call is)) may))
+    also only (λ point e call is may. only_used (begun 100 (b_then_c_late ∷ [])) (write 100 (pos 5)) (acks (0 ∷ 2 ∷ [])) place m.0.used refl (subst (λ (c : Call). MayUse None (position_after (begun 100 (b_then_c_late ∷ [])) (write 100 (pos 5)) (acks (0 ∷ 2 ∷ []))) c.version m.0.used) (sym (same_Some (call_with (needed_write write_level.Majority)) call is)) may))
     also only (λ point e. cc) also tt) (only (λ point e. cc)) m.2.message in
     let runs : OfNode place 1 (λ name. is_stopped (inner_turns before_stopped) name ≡ false) = subst (λ n. OfNode place n (λ name. is_stopped (inner_turns before_stopped) name ≡ false)) (sym m.2.node_is) (subst (λ x. OfNode x m.0.node (λ name. is_stopped (inner_turns before_stopped) name ≡ false)) (sym same) m.2.came.1) in
     let bad : true ≡ false = holds_of (λ name. is_stopped (inner_turns before_stopped) name ≡ false) 1 _ refl runs in

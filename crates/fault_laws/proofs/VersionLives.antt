@@ -14,6 +14,7 @@ use Rattle.m3_model.specs.declared.placement.Placement.{Placement}
 use Rattle.m3_model.specs.declared.reason.Reason.TheVariants as reason
 use Rattle.m3_model.specs.declared.turn.Turn.{Turn}
 use Rattle.std.specs.Ordering.{is_gt}
+use Rattle.std.proofs.lemmas.Option.{same_Some}
 use Rattle.placement_plan.specs.Choices.{taking_cmp}
 use Rattle.placement_plan.specs.First.{IsInitial, IsPlaced, first_instances}
 use Rattle.placement_plan.specs.Nodes.{load}
@@ -28,7 +29,7 @@ use Rattle.placement_core.specs.NodeNames.{IsNamedBelow}
 use Rattle.model_laws.specs.Building.{begun, at_moment, life_of, line, acks, place, two_nodes, assigned}
 use Rattle.fault_laws.specs.Faulty.{write_all, all_but_c}
 use Rattle.fault_laws.specs.Versions.{at_version, held_2, reopened, c_left, waits_from_start, waits_after_boot, write_at, two_on}
-use Rattle.model_laws.proofs.EachLemmas.{each_in, ascends_by, same_of_some, ◌also◌}
+use Rattle.model_laws.proofs.EachLemmas.{each_in, ascends_by, ◌also◌}
 use Rattle.model_laws.proofs.PositionLemmas.{position_after, position_after-stands, after_all, only, due, due_from, due_here, due_after, used_from, caused_by_positions}
 use Rattle.model_laws.proofs.SampleLemmas.{call_with, of_shard}
 use Rattle.model_laws.proofs.CausedLives.{at_moment-caused, first_placement_of_two, counted_0, counted_1, counted_2, below_0_1, below_0_2, below_1_2}
@@ -148,7 +149,7 @@ booted-refused faults caused =
     let b = all_but_c reason.Boot in
     let missed : MissesLevel true faults (Some held_2) (position_after lines a b) 2 3 ((2, reason.Boot) ∷ []) 0 = due_here true faults [] (Some held_2) (caused.delivered (position_after lines a b)) lines a b (λ e. cc) (λ e. cc) (caused.each (position_after lines a b) (position_after-stands lines a b [])) in
     let call = call_with (needed_write write_level.All) in
-    let known : call ≡ missed.call = same_of_some call missed.call missed.of_act in
+    let known : call ≡ missed.call = same_Some call missed.call missed.of_act in
     let same : at_version 2 ≡ missed.place = used_from (Some held_2) lines a b (at_version 2) missed.place refl (subst (λ c. MayUse (Some held_2) (position_after lines a b) c.version missed.place) (sym known) missed.may_use) in
     let waits = subst (λ x. MayRefuse true faults (Some held_2) (position_after lines a b) x 0 2 reason.Boot) (sym same) (missed.silent.refused (2, reason.Boot) (inl refl)) refl in
     let bad : false ≡ true = holds_of (λ name. (waiting_after (of_shard 2 name) (Some held_2) lines).waits ≡ true) 2 _ refl (record { instance_ = waits.instance_; stands = waits.stands; holds = waits.holds }) in

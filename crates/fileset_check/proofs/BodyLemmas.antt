@@ -1,12 +1,10 @@
 -- Series that are read from the data of a volume.
-use Rattle.std.proofs.Common.{◌≡◌, inl, ℕ, ℤ, pos, ◌<◌, List, [], length, take, drop, get_or, Result, Err, IsErrAnd, IfErr, refl, sym, ap, subst, ◌∙◌, FitsSigned, take-append-drop}
+use Rattle.std.proofs.Common.{◌≡◌, ℕ, ℤ, pos, List, [], get_or, Result, Err, IsErrAnd, IfErr, sym, ap, subst, ◌∙◌, FitsSigned}
 use Rattle.std.specs.Int.{w64}
-use Rattle.std.proofs.lemmas.List.{drop_more}
 use Rattle.std.proofs.lemmas.List.Elements.{All-from_get_or}
 use Rattle.std.proofs.lemmas.Result.{err_from_is_err_and}
-use Rattle.m3_model.specs.Members.{IsIn}
-use Rattle.m3_model.proofs.MemberLemmas.{IsIn-append_right}
 use Rattle.m3_model.specs.declared.point.Series.{Series}
+use Rattle.m3_model.proofs.Lists.{IsIn-get_or}
 use Rattle.wire_bytes.specs.Volumes.{VolumeHead, IsVolume, data_bytes}
 use Rattle.volume_bytes.specs.Heads.{AllFit}
 use Rattle.fileset_read.specs.Rows.{AreSpelled, Gives}
@@ -15,9 +13,6 @@ use Rattle.fileset_read.specs.declared.row_err.RowErr.TheVariants as errors
 use Rattle.fileset_read.proofs.FileLemmas.{rows_spelled}
 use Rattle.fileset_check.specs.PartFiles.{MayBeNoData}
 
-get_in : {X : Type 0} (xs : List X) (i : ℕ) (d : X) → i < length xs → IsIn xs (get_or xs i d)
-get_in xs i d lt = subst (λ l. IsIn l (get_or xs i d)) (take-append-drop i xs) (IsIn-append_right (take i xs) (drop i xs) (get_or xs i d) (subst (λ l. IsIn l (get_or xs i d)) (sym (drop_more xs i d lt)) (inl refl)))
-
 -- a volume's rows fit the fields of their records
 pub all_fit : (v : VolumeHead) (rows : List Series) → IsVolume v rows → AllFit rows
 all_fit v rows values s m =
@@ -25,7 +20,7 @@ all_fit v rows values s m =
     record {
       id = row.most;
       long = row.long;
-      values = All-from_get_or (λ (x : ℕ × ℤ). FitsSigned w64 x.1) s.points (0, pos 0) (λ i lt. row.value (get_or s.points i (0, pos 0)) (get_in s.points i (0, pos 0) lt));
+      values = All-from_get_or (λ (x : ℕ × ℤ). FitsSigned w64 x.1) s.points (0, pos 0) (λ i lt. row.value (get_or s.points i (0, pos 0)) (IsIn-get_or s.points i (0, pos 0) lt));
     }
 
 -- bytes that aren't read as rows are the data of no volume

@@ -3,6 +3,7 @@ use Rattle.std.proofs.Common.{◌≡◌, inl, inr, ℕ, ◌≤◌, List, [], ◌
 use Rattle.std.specs.Prelude.{unwrap_or, is_some}
 use Rattle.std.proofs.lemmas.List.{take_all}
 use Rattle.std.specs.FinMap.{get}
+use Rattle.std.proofs.lemmas.Option.{same_Some}
 use Rattle.sha2.specs.Sha256.{sha256}
 use Rattle.sha2.proofs.Facts256.{length-sha256}
 use Rattle.m3_model.specs.Members.{IsIn}
@@ -14,9 +15,6 @@ use Rattle.shard_files.specs.Parts.{part_name, kind_of}
 use Rattle.shard_files.specs.Damage.{Damage, OfForm, OfDigest, Look, AtForm, AtDigest, bytes_at, BreaksForm, BreaksDigest, IsGone, Differs, BreaksKept, IsGate, kept_of}
 use Rattle.fileset_check.specs.PartFiles.{AreParts, AreDigests, AreSealed, Keeps, part_in, bytes_in, file_of}
 use Rattle.fileset_check.specs.Told.{LookTells, at_gates, at_digests}
-
-pub some_one : {X : Type 0} (a b : X) → Some a ≡ Some b → a ≡ b
-some_one a b e = cc
 
 pub not_none : {X : Type 0} (o : Option X) (a : X) → o ≡ Some a → o ≡ None → ⊥
 not_none o a e f = cc
@@ -42,7 +40,7 @@ gate_bytes bytes g = ap length g.is ∙ (let long = g.long in omega (arith, long
 -- a file that keeps to its digest breaks none
 pub unbroken : (kept other : List ℕ) (files : Files) (name : FileName) (d : Damage) → Keeps kept (get files name) → other ≡ kept → BreaksDigest other files name d → ⊥
 unbroken kept other files name d k same (IsGone gone told) = not_none (get files name) k.bytes k.there gone
-unbroken kept other files name d k same (Differs bytes have differ told) = differ (same ∙ k.is ∙ ap sha256 (some_one k.bytes bytes (sym k.there ∙ have)))
+unbroken kept other files name d k same (Differs bytes have differ told) = differ (same ∙ k.is ∙ ap sha256 (same_Some k.bytes bytes (sym k.there ∙ have)))
 
 -- bytes that were read are those of the file
 pub bytes_are : (of : FileName) (files : Files) (parts : List (Option (List ℕ))) (kind : ℕ) → AreParts of files parts → 1 ≤ kind → kind ≤ 7 → bytes_in parts kind ≡ bytes_at files (file_of kind of)
@@ -77,7 +75,7 @@ module _ (of : FileName) (files : Files) (parts : List (Option (List ℕ))) (p :
   pub kept_none : (kept : List ℕ) → part_in parts 7 ≡ Some (1 ∷ kept) → Keeps kept (part_in parts 6) → (d : Damage) → Tells (AtDigest Digests) d → ⊥
   kept_none kept is k d b =
       let of_gate : drop 1 (bytes_at files (file_of 7 of)) ≡ kept = ap (drop 1) (here 7 (1 ∷ kept) (omega arith) (omega arith) is) in
-      unbroken kept b.kept files (file_of 6 of) d (keeps_here 6 kept (omega arith) (omega arith) k) (sym (some_one _ b.kept b.is_kept) ∙ of_gate) b.breaks
+      unbroken kept b.kept files (file_of 6 of) d (keeps_here 6 kept (omega arith) (omega arith) k) (sym (same_Some _ b.kept b.is_kept) ∙ of_gate) b.breaks
 
   pub breaks_kept : (kept : List ℕ) (d : Damage) → part_in parts 7 ≡ Some (1 ∷ kept) → BreaksDigest kept files (file_of 6 of) d → Tells (AtDigest Digests) d
   breaks_kept kept d is b = record { kept = kept; is_kept = ap (λ (l : List ℕ). Some (drop 1 l)) (here 7 (1 ∷ kept) (omega arith) (omega arith) is); breaks = b }
@@ -97,7 +95,7 @@ module _ (of : FileName) (files : Files) (parts : List (Option (List ℕ))) (p :
 
     -- one of the five keeps to its digest
     pub one_none : (part : Part) (kept : List ℕ) → 1 ≤ kind_of part → kind_of part ≤ 7 → kept_of part of.ns of.block of.number files ≡ Some kept → Keeps kept (part_in parts (kind_of part)) → (d : Damage) → BreaksKept part of.ns of.block of.number files d → ⊥
-    one_none part kept low high is k d b = unbroken kept b.kept files (file_of (kind_of part) of) d (keeps_here (kind_of part) kept low high k) (some_one b.kept kept (sym b.is_kept ∙ is)) b.breaks
+    one_none part kept low high is k d b = unbroken kept b.kept files (file_of (kind_of part) of) d (keeps_here (kind_of part) kept low high k) (same_Some b.kept kept (sym b.is_kept ∙ is)) b.breaks
 
     pub one_breaks : (part : Part) (kept : List ℕ) (d : Damage) → kept_of part of.ns of.block of.number files ≡ Some kept → BreaksDigest kept files (file_of (kind_of part) of) d → BreaksKept part of.ns of.block of.number files d
     one_breaks part kept d is b = record { kept = kept; is_kept = is; breaks = b }

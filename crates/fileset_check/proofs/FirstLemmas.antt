@@ -1,7 +1,6 @@
 -- The first of some looks that tells anything, and errors that tell of it.
 use Rattle.std.proofs.Common.{◌≡◌, inl, inr, ℕ, List, [], ◌∷◌, ◌++◌, Result, Ok, Err, IsErrAnd, IfErr, refl, sym, ap, subst, ◌∙◌, append_assoc}
 use Rattle.std.proofs.lemmas.Result.{err_from_is_err_and}
-use Rattle.std.specs.Prelude.{OnOk}
 use Rattle.m3_model.specs.Members.{IsIn}
 use Rattle.shard_files.specs.Damage.{Damage, FirstFound}
 use Rattle.fileset_check.specs.Told.{Says, MayTell, of_part}
@@ -58,7 +57,3 @@ no_fault {T} r e is f = let p = err_from_is_err_and r is in by r p.0 e p.1 p.2 f
 pub err_as : {T : Type 0} (r : Result T PartErr) (P Q : Damage → Type 0) → ((d : Damage) → P d → Q d) → IfErr r (Says P) → IfErr r (Says Q)
 err_as (Ok x) P Q to s = tt
 err_as (Err e) P Q to s = says_as P Q e to s
-
-pub ok_as : {T E : Type 0} (r : Result T E) (P Q : Type 0) → (P → Q) → OnOk r P → OnOk r Q
-ok_as (Ok x) P Q to s = to s
-ok_as (Err e) P Q to s = tt

@@ -6,7 +6,8 @@ use Rattle.std.proofs.lemmas.List.{drop-drop, drop_more, take_more, take_all, ma
 use Rattle.std.proofs.lemmas.Result.{err_from_is_err_and}
 use Rattle.sha2.specs.Sha256.{sha256}
 use Rattle.m3_model.specs.Members.{IsIn}
-use Rattle.m3_model.proofs.MemberLemmas.{IsIn-map, IsIn-append_right}
+use Rattle.m3_model.proofs.MemberLemmas.{IsIn-map}
+use Rattle.m3_model.proofs.Lists.{IsIn-get_or}
 use Rattle.m3_model.specs.declared.point.Series.{Series}
 use Rattle.m3_outside.specs.Files.{Files}
 use Rattle.m3_outside.specs.declared.file_name.FileName.{FileName}
@@ -180,12 +181,9 @@ not_disk {T} r is f = let p = err_from_is_err_and r is in by r p.0 p.1 p.2 f
     by : (r : Result T CheckErr) (e : CheckErr) → r ≡ Err e → e ≡ failures.Memory → r ≡ Err failures.Disk → ⊥
     by r e a b f = cc
 
-get_in : {X : Type 0} (xs : List X) (i : ℕ) (d : X) → i < length xs → IsIn xs (get_or xs i d)
-get_in xs i d lt = subst (λ l. IsIn l (get_or xs i d)) (take-append-drop i xs) (IsIn-append_right (take i xs) (drop i xs) (get_or xs i d) (subst (λ l. IsIn l (get_or xs i d)) (sym (drop_more xs i d lt)) (inl refl)))
-
 -- each of the checkpoints that count is named as one
 pub checkpoint_is : (files : Files) (names : List FileName) (i : ℕ) (d : FileName) → names ≡ counted_volumes files → i < length names → file_of 7 (get_or names i d) ≡ get_or names i d
 checkpoint_is files names i d all lt =
     let name : FileName = get_or names i d in
-    let kind : name.kind ≡ 7 = volume_kind name (counted_asked is_volume_checkpoint files name (subst (λ (l : List FileName). IsIn l name) all (get_in names i d lt))) in
+    let kind : name.kind ≡ 7 = volume_kind name (counted_asked is_volume_checkpoint files name (subst (λ (l : List FileName). IsIn l name) all (IsIn-get_or names i d lt))) in
     λ j. record { kind = sym kind j; ns = name.ns; block = name.block; number = name.number }

@@ -1,10 +1,12 @@
 -- Bits of rows in the bytes of their filter.
-use Rattle.std.proofs.Common.{◌≡◌, inl, inr, ℕ, zero, suc, ◌+◌, ◌-◌, ◌*◌, ◌/◌, ◌%◌, ◌<◌, ◌≤◌, ◌^◌, Bool, true, false, if◌then◌else◌, ◌==◌, ◌&&◌, ◌||◌, nat_lt, List, [], ◌∷◌, ◌++◌, length, take, drop, get_or, refl, sym, ap, subst, ◌∙◌, arith, length-append}
+use Rattle.std.proofs.Common.{◌≡◌, inl, inr, ℕ, zero, suc, ◌+◌, ◌-◌, ◌*◌, ◌/◌, ◌%◌, ◌<◌, ◌≤◌, ◌^◌, Bool, true, false, if◌then◌else◌, ◌==◌, ◌&&◌, ◌||◌, nat_lt, List, [], ◌∷◌, ◌++◌, length, take, drop, get_or, refl, ap, subst, ◌∙◌, arith, length-append}
 use Rattle.std.specs.Int.{bit_at}
 use Rattle.std.specs.List.{list_all, list_any}
-use Rattle.std.proofs.Math.Nat.{mod-lt, div-div-eq-div-mul, pow-suc, mul_comm}
+use Rattle.std.proofs.Math.Nat.{mod-lt}
 use Rattle.std.proofs.lemmas.Bool.{eq-eqb, lt-ltb, ltb-true, ltb-false}
 use Rattle.std.proofs.lemmas.List.{drop_at}
+use Rattle.std.proofs.Math.Bool.{or-true}
+use Rattle.std.proofs.lemmas.Nat.Bits.{bit_at-suc}
 use Rattle.byteorder.specs.Endian.{big_bytes, big_number}
 use Rattle.byteorder.specs.Numbers.{big_number-reads_back}
 use Rattle.m3_model.specs.Members.{IsIn}
@@ -28,9 +30,6 @@ other_bits : (b : Bool) (later : ℕ) → ((if b then 1 else 0) + 2 * later) / 2
 other_bits true later = omega arith
 other_bits false later = omega arith
 
-next_bit : (n i : ℕ) → bit_at n (suc i) ≡ bit_at (n / 2) i
-next_bit n i = ap (λ (p : ℕ). n / p % 2) (pow-suc 2 i ∙ mul_comm (2 ^ i) 2) ∙ ap (λ (q : ℕ). q % 2) (sym (div-div-eq-div-mul n 2 (2 ^ i)))
-
 -- each bit of a number made up of bits is that bit
 bit_of_number : (m : ℕ) (rows : List Series) (start count i : ℕ) → i < count → (bit_at (number_of_bits m rows start count) i == 1) ≡ is_set m rows (start + i)
 bit_of_number m rows start zero i h = absurd (omega (arith, h))
@@ -42,7 +41,7 @@ bit_of_number m rows start (suc count) zero h =
 bit_of_number m rows start (suc count) (suc i) h =
     let later = number_of_bits m rows (start + 1) count in
     let offset : start + 1 + i ≡ start + suc i = omega arith in
-    ap (λ (n : ℕ). n == 1) (next_bit ((if is_set m rows start then 1 else 0) + 2 * later) i ∙ ap (λ (n : ℕ). bit_at n i) (other_bits (is_set m rows start) later))
+    ap (λ (n : ℕ). n == 1) (bit_at-suc ((if is_set m rows start then 1 else 0) + 2 * later) i ∙ ap (λ (n : ℕ). bit_at n i) (other_bits (is_set m rows start) later))
     ∙ bit_of_number m rows (start + 1) count i (omega (arith, h))
     ∙ ap (is_set m rows) offset
 
@@ -96,14 +95,10 @@ all_true : (p : ℕ → Bool) (l : List ℕ) → ((b : ℕ) → IsIn l b → p b
 all_true p [] each = refl
 all_true p (b ∷ l) each = ap (λ (x : Bool). x && list_all p l) (each b (inl refl)) ∙ all_true p l (λ c m. each c (inr m))
 
-one_true : (x : Bool) → (x || true) ≡ true
-one_true true = refl
-one_true false = refl
-
 any_true : {X : Type 0} (p : X → Bool) (l : List X) (x : X) → IsIn l x → p x ≡ true → list_any p l ≡ true
 any_true p [] x m e = absurd m
 any_true p (y ∷ l) x (inl same) e = ap (λ (b : Bool). b || list_any p l) (ap p same ∙ e)
-any_true p (y ∷ l) x (inr m) e = ap (λ (b : Bool). p y || b) (any_true p l x m e) ∙ one_true (p y)
+any_true p (y ∷ l) x (inr m) e = ap (λ (b : Bool). p y || b) (any_true p l x m e) ∙ or-true (p y)
 
 bits_below : (m : ℕ) (id : List ℕ) → 0 < m → (b : ℕ) → IsIn (bits_of m id) b → b < m
 bits_below m id some b (inl is) = subst (λ (c : ℕ). c < m) is (mod-lt _ some)

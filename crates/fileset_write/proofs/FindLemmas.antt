@@ -4,12 +4,12 @@ use Rattle.std.specs.Prelude.{is_some, option_map, filter}
 use Rattle.std.specs.FinMap.{get}
 use Rattle.std.proofs.lemmas.List.{take_more, get_or-drop, drop-drop}
 use Rattle.std.proofs.lemmas.List.Elements.{filter-append}
+use Rattle.m3_model.proofs.Lists.{IsIn-filter, IsIn-filter_passes}
 use Rattle.m3_outside.specs.declared.file_name.FileName.{FileName}
 use Rattle.m3_outside.specs.Files.{Files}
 use Rattle.m3_outside.specs.Removal.{AreRemovable}
 use Rattle.m3_outside.proofs.Removal.{Distinct, removable}
 use Rattle.shard_files.specs.Steps.{those_there, files_of_volume, parts_there}
-use Rattle.shard_files.proofs.CountedLemmas.{IsIn-filter, chosen}
 use Rattle.fileset_write.proofs.WriteLemmas.{apart_by_kinds, seven_kinds}
 
 -- a size is known of what is there
@@ -44,9 +44,6 @@ rest_more xs ys count i le same =
     let at : i + 1 ≡ count + 1 + (i - count) = omega (arith, le) in
     ap (λ k. drop k xs) at ∙ sym (drop-drop (i - count) (count + 1) xs) ∙ ap (drop (i - count)) same ∙ drop-drop (i - count) (count + 1) ys ∙ ap (λ k. drop k ys) (sym at)
 
-pub rest_next : (xs ys : List FileName) (i : ℕ) → drop i xs ≡ drop i ys → drop (i + 1) xs ≡ drop (i + 1) ys
-rest_next xs ys i same = sym (drop-drop 1 i xs) ∙ ap (drop 1) same ∙ drop-drop 1 i ys
-
 -- ---- the files of a volume
 
 some_there : (o : Option (List ℕ)) → is_some o ≡ true → (file : List ℕ) × (o ≡ Some file)
@@ -69,4 +66,4 @@ pub parts_removable : (ns start number : ℕ) (files : Files) → AreRemovable (
 parts_removable ns start number files =
     let p : FileName → Bool = λ name. is_some (get files name) in
     removable (parts_there ns start number files) files (filter_distinct p (files_of_volume ns start number) (seven_apart ns start number))
-    (λ q m. let f = some_there (get files q) (chosen p (files_of_volume ns start number) q m) in record { file = f.0; there = f.1 })
+    (λ q m. let f = some_there (get files q) (IsIn-filter_passes p (files_of_volume ns start number) q m) in record { file = f.0; there = f.1 })

@@ -1,6 +1,7 @@
 -- A gate that is opened last, over any disk.
 use Rattle.std.proofs.Common.{◌≡◌, ◌⊎◌, inl, inr, ⊎_elim, ℕ, List, [], ◌∷◌, length, true, false, Bool, ◌==◌, refl, sym, ap, subst, ◌∙◌, Some, arith, rules}
 use Rattle.std.specs.FinMap.{get, insert}
+use Rattle.std.proofs.lemmas.Option.{same_Some}
 use Rattle.m3_model.specs.Members.{IsIn}
 use Rattle.m3_outside.specs.declared.file_name.FileName.{FileName}
 use Rattle.m3_outside.specs.Files.{Files, Torn, Wrote, Stays, IsInside, IsPresent, IsAbsent, patched}
@@ -12,9 +13,6 @@ use Rattle.shard_files.specs.Parts.{is_open}
 use Rattle.fileset_write.specs.declared.new_file.NewFile.{NewFile}
 use Rattle.fileset_write.proofs.FilesLemmas.{made_others}
 use Rattle.fileset_write.specs.Putting.{MayPut, IsBehind, behind, with_file, with_files, names_of, OthersOf, IsShut, MayOpen, opened, with_volume, MayPutAll, PutNone}
-
-some_is : (a b : List ℕ) → Some a ≡ Some b → a ≡ b
-some_is a b h = cc
 
 -- ---- the gate alone
 
@@ -36,7 +34,7 @@ module _ (name : FileName) (digest : List ℕ) where
   -- the file with another gate
   regated : (x z : Files) (b : ℕ) → IsClosed x → Wrote name 0 (b ∷ []) x z → z ≡ insert x name (b ∷ digest)
   regated x z b shut wrote =
-      wrote.after ∙ ap (λ (l : List ℕ). insert x name (patched l 0 (b ∷ []))) (some_is _ _ (sym wrote.there ∙ shut))
+      wrote.after ∙ ap (λ (l : List ℕ). insert x name (patched l 0 (b ∷ []))) (same_Some _ _ (sym wrote.there ∙ shut))
 
   gate_is : (b : ℕ) → ((b == 1) ≡ false) ⊎ (b ≡ 1)
   gate_is b = elim (b == 1) as (λ (v : Bool). (b == 1) ≡ v → ((b == 1) ≡ false) ⊎ (b ≡ 1)) [ true ↦ λ e. inr (search (rules, e)) | false ↦ λ e. inl e ] refl

@@ -5,6 +5,7 @@ use Rattle.m3_outside.specs.declared.disk_err.DiskErr.{DiskErr}
 use Rattle.m3_outside.specs.declared.disk_err.DiskErr.TheVariants.{Memory, Failed as DiskFailed}
 use Rattle.std.proofs.lemmas.List.{length-replicate, replicate-append-replicate, append-nil}
 use Rattle.std.specs.FinMap.{get, insert}
+use Rattle.std.proofs.lemmas.Option.{same_Some}
 use Rattle.m3_outside.specs.declared.file_name.FileName.{FileName}
 use Rattle.m3_outside.specs.Files.{Files, Torn, Wrote, Stays, DoneOrNot, IsInside, IsPresent, patched, files_with_zeros}
 use Rattle.m3_outside.specs.DiskState.{DiskState, Elapses, Becomes}
@@ -55,14 +56,11 @@ module _ (name : FileName) (front : ℕ) (bytes : List ℕ) where
   over_made : (x y z : Files) (any : List ℕ) → length any ≡ n → y ≡ made x → Wrote name front any y z → z ≡ insert x name (behind front any)
   over_made x y z any long e wrote =
       let there : get y name ≡ Some (replicate (front + n) 0) = ap (λ (f : Files). get f name) e ∙ get_here x name (replicate (front + n) 0) in
-      let same : wrote.file ≡ replicate (front + n) 0 = some_is _ _ (sym wrote.there ∙ there) in
+      let same : wrote.file ≡ replicate (front + n) 0 = same_Some _ _ (sym wrote.there ∙ there) in
       wrote.after
       ∙ ap (λ (f : Files). insert f name (patched wrote.file front any)) e
       ∙ insert_over x name (replicate (front + n) 0) (patched wrote.file front any)
       ∙ ap (insert x name) (ap (λ (l : List ℕ). patched l front any) same ∙ written_over front n any long)
-    where
-      some_is : (a b : List ℕ) → Some a ≡ Some b → a ≡ b
-      some_is a b h = cc
 
   torn_put : (x y z : Files) → y ≡ made x → Torn name front n y z → MayPut name front n x z
   torn_put x y z e torn = new_put x z torn.bytes torn.same_length (over_made x y z torn.bytes torn.same_length e torn.wrote)

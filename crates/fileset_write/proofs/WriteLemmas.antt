@@ -2,6 +2,7 @@
 use Rattle.std.proofs.Common.{◌≡◌, inl, inr, ⊎_elim, ℕ, ◌<◌, ◌==◌, ◌&&◌, ◌||◌, Bool, true, false, not, List, [], ◌∷◌, map, refl, sym, ap, subst, ◌∙◌, Some, rules}
 use Rattle.std.specs.List.{list_any}
 use Rattle.std.specs.FinMap.{get}
+use Rattle.std.proofs.Math.Bool.{or-true}
 use Rattle.sha2.specs.Sha256.{sha256}
 use Rattle.m3_model.specs.Members.{IsIn}
 use Rattle.m3_model.specs.declared.limits.TheConstants.{NUMBER_END}
@@ -31,11 +32,7 @@ all_apart (k ∷ ks) = not (list_any (λ j. j == k) ks) && all_apart ks
 any_in : (ks : List ℕ) (k : ℕ) → IsIn ks k → list_any (λ j. j == k) ks ≡ true
 any_in [] k m = absurd m
 any_in (j ∷ ks) k (inl same) = let h : (j == k) ≡ true = search (rules, same) in ap (λ (b : Bool). b || list_any (λ i. i == k) ks) h
-any_in (j ∷ ks) k (inr rest) = ap (λ (b : Bool). (j == k) || b) (any_in ks k rest) ∙ or_true (j == k)
-  where
-    or_true : (b : Bool) → (b || true) ≡ true
-    or_true true = refl
-    or_true false = refl
+any_in (j ∷ ks) k (inr rest) = ap (λ (b : Bool). (j == k) || b) (any_in ks k rest) ∙ or-true (j == k)
 
 both_true : (a b : Bool) → (not a && b) ≡ true → (a ≡ false) × (b ≡ true)
 both_true true b e = absurd (cc)

@@ -7,9 +7,11 @@ use Rattle.placement_core.proofs.OrderLemmas.{ascends-map}
 use Rattle.std.proofs.lemmas.List.Folds.{list_any-append}
 use Rattle.std.proofs.lemmas.Option.{slice_get_within}
 use Rattle.std.proofs.lemmas.Slice.Eq.{bytes_eq-Decides}
+use Rattle.std.proofs.Math.Bool.{or-true, or-false}
 use Rattle.m3_model.specs.Ascends.{Ascends}
 use Rattle.m3_model.specs.Members.{IsIn}
 use Rattle.m3_model.proofs.MemberLemmas.{IsIn-map}
+use Rattle.m3_model.proofs.Lists.{take_whole}
 use Rattle.m3_model.specs.declared.placement.Assignment.{Assignment}
 use Rattle.m3_model.specs.declared.placement.Instance.{Instance}
 use Rattle.m3_model.specs.declared.limits.TheConstants.{MOST_SHARDS}
@@ -21,17 +23,9 @@ use Rattle.placement_plan.specs.Loads.{AreLoads, IsRaised}
 use Rattle.placement_plan.specs.First.{MayHold, first_at, IsPlaced, IsPlacedShard, HasGroups}
 use Rattle.placement_plan.proofs.PlaceLemmas.{push_cases}
 use Rattle.placement_plan.proofs.LoadLemmas.{load_split, load_bound, weight, one_if, serves_lacks}
-use Rattle.placement_plan.proofs.DrainLemmas.{least_same, take_whole}
+use Rattle.placement_plan.proofs.DrainLemmas.{least_same}
 
 -- ---- loads where a shard grows by a replica
-
-or_none : (b : Bool) → (b || false) ≡ b
-or_none true = refl
-or_none false = refl
-
-or_true : (b : Bool) → (b || true) ≡ true
-or_true true = refl
-or_true false = refl
 
 serves_push : (n node : ℕ) (shard : Shard) → serves n (shard ++ first_at node ∷ []) ≡ (serves n shard || nat_eq node n)
 serves_push n node shard =
@@ -44,11 +38,11 @@ serves_push n node shard =
 pub weight_own : (node : ℕ) (shard : Shard) → ¬ Has node shard → weight node (shard ++ first_at node ∷ []) ≡ weight node shard + 1
 weight_own node shard lacks =
     let was : weight node shard ≡ 0 = ap one_if (serves_lacks node shard lacks) in
-    let is : weight node (shard ++ first_at node ∷ []) ≡ 1 = ap one_if (serves_push node node shard ∙ ap (λ b. serves node shard || b) (eq-eqb node node refl) ∙ or_true (serves node shard)) in
+    let is : weight node (shard ++ first_at node ∷ []) ≡ 1 = ap one_if (serves_push node node shard ∙ ap (λ b. serves node shard || b) (eq-eqb node node refl) ∙ or-true (serves node shard)) in
     omega (arith, was, is)
 
 pub weight_other : (n node : ℕ) (shard : Shard) → n ≢ node → weight n (shard ++ first_at node ∷ []) ≡ weight n shard
-weight_other n node shard ne = ap one_if (serves_push n node shard ∙ ap (λ b. serves n shard || b) (ne_eqb node n (λ e. ne (sym e))) ∙ or_none (serves n shard))
+weight_other n node shard ne = ap one_if (serves_push n node shard ∙ ap (λ b. serves n shard || b) (ne_eqb node n (λ e. ne (sym e))) ∙ or-false (serves n shard))
 
 -- ---- replicas placed in turn
 

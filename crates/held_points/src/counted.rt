@@ -6,7 +6,7 @@ ghost use Rattle.m3_model.specs.declared.limits.TheConstants.{MOST_REPLICA_POINT
 ghost use Rattle.m3_model.specs.declared.point.Matcher.{Matcher};
 ghost use Rattle.m3_model.specs.declared.point.Pick.TheVariants as pick;
 ghost use Rattle.series_slots.specs.Ranges.{IsRangeOf};
-ghost use Rattle.block_buffer.specs.Blocks.{IsBlocksOf};
+ghost use Rattle.block_buffer.specs.Blocks.{IsClosedBlocksOf};
 ghost use Rattle.block_buffer.specs.Spots.{IsKeyWithin};
 ghost use Rattle.block_buffer.specs.Held.{has_expired};
 ghost use Rattle.block_buffer.specs.Taken.{HasId, HasNone, IsTaken, settled_at};
@@ -169,12 +169,17 @@ impl CountedBuffer {
         self.buffer.block(alloc, ns, start, size)
     }
 
-    // The namespaces and starts of the blocks of the rules that have points, as `Buffer::blocks` finds them.
-    pub(crate) fn blocks(&self, alloc: Global, rules: &Rules) -> Result<Seq<(u8, u64)>, Memory>
+    // The namespaces and starts of the blocks of the rules that have points and of which no write is taken any more, as
+    // `Buffer::closed_blocks` finds them.
+    pub(crate) fn closed_blocks(
+        &self,
+        alloc: Global,
+        rules: &Rules,
+    ) -> Result<Seq<(u8, u64)>, Memory>
         requires { All (λ space. 0 < space.block) rules.now.spaces }
-        ensures { IfOk result (IsBlocksOf rules.entry.now self.now.points) }
+        ensures { IfOk result (IsClosedBlocksOf rules.entry.now self.now.points) }
     {
-        self.buffer.blocks(alloc, rules)
+        self.buffer.closed_blocks(alloc, rules)
     }
 
     // The identifier of the series, if no point with it stands.

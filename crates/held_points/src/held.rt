@@ -6,7 +6,7 @@ ghost use Rattle.m3_model.specs.Answers.{IsAnswer};
 ghost use Rattle.m3_model.specs.declared.point.Matcher.{Matcher};
 ghost use Rattle.m3_model.specs.declared.point.Pick.TheVariants as pick;
 ghost use Rattle.series_slots.specs.Ranges.{IsRangeOf};
-ghost use Rattle.block_buffer.specs.Blocks.{IsBlocksOf};
+ghost use Rattle.block_buffer.specs.Blocks.{IsClosedBlocksOf};
 ghost use Rattle.block_buffer.specs.Spots.{IsKeyWithin};
 ghost use Rattle.block_buffer.specs.Held.{without, has_expired, is_in_block};
 ghost use Rattle.block_buffer.specs.Joins.{points_of_series};
@@ -140,19 +140,19 @@ impl HeldPoints {
         }
     }
 
-    /// The namespace and the start of each block of the rules that has a point, ascending. Costs for each block in proportion to
-    /// the series, and for each of them the logarithm of its times.
+    /// The namespace and the start of each block of the rules that has a point and of which no write is taken any more, ascending.
+    /// Costs as `Buffer::closed_blocks`.
     ///
     /// Block sizes are at least 1, as in all rules within their limits.
-    pub fn blocks(&self, rules: &Rules) -> Result<Seq<(u8, u64)>, Memory>
+    pub fn closed_blocks(&self, rules: &Rules) -> Result<Seq<(u8, u64)>, Memory>
         requires { All (λ space. 0 < space.block) rules.now.spaces }
-        ensures { IfOk result (IsBlocksOf rules.entry.now self.now.points) }
+        ensures { IfOk result (IsClosedBlocksOf rules.entry.now self.now.points) }
     {
-        self.buffer.blocks(self.alloc, rules)
+        self.buffer.closed_blocks(self.alloc, rules)
     }
 
     /// The points of the namespace with `start <= t < start + size`, as the rows of a volume: identifiers ascend strictly by
-    /// bytes, times ascend strictly, and no series is empty. Costs in proportion to the series, to the answer and to its order.
+    /// bytes, times ascend strictly, and no series is empty. Costs as `Buffer::block`.
     ///
     /// The end of the block is below 2^64, as that of each block of rules within their limits.
     pub fn block(&self, ns: u8, start: u64, size: u64) -> Result<Seq<Series>, Memory>
@@ -162,8 +162,8 @@ impl HeldPoints {
         self.buffer.block(self.alloc, ns, start, size)
     }
 
-    /// Takes the expired points out, and answers how many went. Takes no memory; costs in proportion to
-    /// the series, for each point that goes the logarithm of its series' times, and for each identifier that goes the removal of its tags.
+    /// Takes the expired points out, and answers how many went. Takes no memory; costs as `Buffer::expire`, and for each identifier that
+    /// goes the removal of its tags.
     pub fn expire(&mut self, rules: &Rules) -> u64
         requires { self.old.room ≡ None }
         ensures taken { self.new ≡ record { points = without self.old.points (has_expired rules.entry.now); room = None } }

@@ -4,8 +4,10 @@ use Rattle.std.proofs.lemmas.List.{length-take, take_all}
 use Rattle.std.proofs.lemmas.Bool.{cases_eq}
 use Rattle.std.specs.List.{flat_map}
 use Rattle.std.specs.Prelude.{None, Some, slice_get}
+use Rattle.std.proofs.lemmas.Option.{same_Some, slice_get-get_or}
 use Rattle.m3_model.specs.Members.{IsIn}
 use Rattle.m3_model.proofs.MemberLemmas.{IsIn-append_left, IsIn-append_right, IsIn-append_cases}
+use Rattle.m3_model.proofs.Lists.{All-from_each}
 use Rattle.m3_model.specs.Reads.{Covers, points_in, space_picked, IsOrdered}
 use Rattle.m3_model.specs.declared.placement.Placement.{Placement}
 use Rattle.m3_model.specs.declared.point.Pick.{Pick}
@@ -13,7 +15,7 @@ use Rattle.m3_model.specs.declared.point.Point.{Point}
 use Rattle.m3_model.specs.declared.point.Series.{Series}
 use Rattle.m3_model.specs.declared.rules.Rules.{Rules}
 use Rattle.placement_core.specs.Steps.{IsStep}
-use Rattle.placement_core.proofs.ListLemmas.{each-from_All, All-from_each, IsIn-from_Any, Any-from_IsIn}
+use Rattle.placement_core.proofs.ListLemmas.{each-from_All, IsIn-from_Any, Any-from_IsIn}
 use Rattle.cluster_core.specs.Earlier.{GaveAnswer, AreCounted, HasPut, last_place, last_clock}
 use Rattle.legal_events.specs.Fetches.{JoinsTo, CanJoin}
 use Rattle.cluster_core.specs.Legal.{EachAnswered, IsJoined, Lawful, LawfulAt, Legal, IsNextClock, IsNextPlace, JoinedAt, AcksSend, IsAck, EndsFetch, IsFetched}
@@ -30,8 +32,7 @@ use Rattle.cluster_core.specs.declared.event.Event.{Event}
 use Rattle.cluster_core.specs.declared.event.Event.TheVariants as event
 use Rattle.cluster_core.specs.declared.event.StepCall.TheVariants as call
 use Rattle.cluster_core.specs.declared.event.StepReply.TheVariants as reply
-use Rattle.placement_core.proofs.AscendLemmas.{at_read}
-use Rattle.cluster_core.proofs.ListLemmas.{any_at, at_same, at_in, at_within, some_same}
+use Rattle.cluster_core.proofs.ListLemmas.{any_at, at_same, at_in, at_within}
 
 -- a longer list begins no shorter one
 pub prefix_short : {X : Type 0} (xs ys : List X) → IsPrefix xs ys → length xs ≤ length ys
@@ -139,7 +140,7 @@ pub clock_decided : (past : List Event) (rules last : Rules) → last_clock past
 clock_decided past rules last is = (
   λ t. record { last = last; last_is = is; not_lower = t.0; grows = t.1 },
   λ h.
-      let same = some_same h.last last (sym h.last_is ∙ is) in
+      let same = same_Some h.last last (sym h.last_is ∙ is) in
       (subst (λ (r : Rules). r.now ≤ rules.now) same h.not_lower, subst (λ (r : Rules). IsPrefix r.spaces rules.spaces) same h.grows),
 )
 
@@ -150,7 +151,7 @@ pub place_decided : (past : List Event) (place last : Placement) (done : List (�
 place_decided past place last done is = (
   λ t. record { last = last; last_is = is; step = t.1; joined = t.0 },
   λ h.
-      let same = some_same h.last last (sym h.last_is ∙ is) in
+      let same = same_Some h.last last (sym h.last_is ∙ is) in
       (subst (λ (p : Placement). All (λ d. JoinedAt past p d.0 d.1) done) same h.joined, subst (λ (p : Placement). IsStep p place done) same h.step),
 )
 
@@ -194,7 +195,7 @@ legal_more events n e at here was i x lt there = elim (cases_eq i n) as (λ _. L
 pub legal_done : (events : List Event) (n : ℕ) → length events ≤ n → LegalBelow events n → Legal true events × All HasNoSums events
 legal_done events n le was = (
   λ i e at. (was i e (omega (arith, at_within events i e at, le)) at).0,
-  λ k d lt. (was k (get_or events k d) (omega (arith, lt, le)) (at_read events k d lt)).1,
+  λ k d lt. (was k (get_or events k d) (omega (arith, lt, le)) (slice_get-get_or events k d lt)).1,
 )
 
 pub not_legal : (events : List Event) (n : ℕ) (e : Event) → At events n e → ¬ (LawfulAt true n (take n events) e × HasNoSums e) → ¬ (Legal true events × All HasNoSums events)

@@ -1,12 +1,13 @@
 -- What a loop over a list knows of the elements so far.
 use Rattle.std.proofs.Common.{◌≡◌, ℕ, zero, suc, ◌+◌, ◌<◌, ◌≤◌, List, [], ◌∷◌, get_or, length, sym, ap, ◌∙◌, subst, inl, inr, arith, All}
 use Rattle.std.proofs.lemmas.Bool.{cases_eq}
+use Rattle.std.proofs.lemmas.Option.{same_Some}
 use Rattle.cluster_core.specs.Lists.{At}
-use Rattle.cluster_core.proofs.ListLemmas.{some_same, at_within}
+use Rattle.cluster_core.proofs.ListLemmas.{at_within}
 
 pub at_get : {X : Type 0} (xs : List X) (i : ℕ) (x d : X) → At xs i x → get_or xs i d ≡ x
 at_get [] i x d e = cc
-at_get (y ∷ ys) zero x d e = some_same y x e
+at_get (y ∷ ys) zero x d e = same_Some y x e
 at_get (y ∷ ys) (suc i) x d e = at_get ys i x d e
 
 -- the first elements are of the kind

@@ -57,7 +57,3 @@ pub all_of_texts : (texts : List (Bor (List ℕ))) (members : List (Bor (List �
     → list_all (λ one. list_any (λ text. pointwise nat_eq text.now one.0.now) texts) members ≡ list_all (λ one. is_one_of (map (λ text. text.now) texts) one.0.now) members
 all_of_texts texts [] = refl
 all_of_texts texts (one ∷ members) = ap₂ (λ b c. b && c) (one_of_texts texts one.0.now) (all_of_texts texts members)
-
-pub all_and_none : (b : Bool) → (b && true) ≡ b
-all_and_none true = refl
-all_and_none false = refl

@@ -7,6 +7,7 @@ use Rattle.std.specs.Cmp.Lexicographic.{pointwise, slice_cmp, texts_ties}
 use Rattle.std.specs.List.{list_any}
 use Rattle.std.specs.Ordering.{nat_cmp, ordering_then, eq_by_cmp}
 use Rattle.std.specs.declared.cmp.Ordering.{Ordering}
+use Rattle.std.proofs.Math.Bool.{or-true}
 use Rattle.m3_model.specs.declared.act.Fate.{Fate}
 use Rattle.line_lists.specs.Fates.{is_same_message, messages_differ}
 use Rattle.line_lists.proofs.Differ.{none_of}
@@ -37,10 +38,6 @@ same_message a b =
 abbrev pub Adds : BTreeSet (ℕ × ℕ × List ℕ) → ℕ × ℕ × List ℕ → BTreeSet (ℕ × ℕ × List ℕ) → Type 0
 Adds old message new = (q : ℕ × ℕ × List ℕ) → contains message_cmp new q ≡ cond (eq_by_cmp message_cmp message q) true (contains message_cmp old q)
 
-or_true : (b : Bool) → (b || true) ≡ true
-or_true true = refl
-or_true false = refl
-
 any_added : (old new : BTreeSet (ℕ × ℕ × List ℕ)) (fate : ℕ × ℕ × List ℕ × Fate) → Adds old (message_of fate) new → (fates : List (ℕ × ℕ × List ℕ × Fate)) → list_any (is_seen new) fates ≡ (list_any (is_same_message fate) fates || list_any (is_seen old) fates)
 any_added old new fate added [] = refl
 any_added old new fate added (one ∷ fates) =
@@ -49,7 +46,7 @@ any_added old new fate added (one ∷ fates) =
   where
     by : (n s o ns ss os : Bool) → n ≡ cond s true o → ns ≡ (ss || os) → (n || ns) ≡ ((s || ss) || (o || os))
     by n true o ns ss os e f = ap (λ b. b || ns) e
-    by n false true ns ss os e f = ap (λ b. b || ns) e ∙ sym (or_true ss)
+    by n false true ns ss os e f = ap (λ b. b || ns) e ∙ sym (or-true ss)
     by n false false ns ss os e f = ap (λ b. b || ns) e ∙ f
 
 one_more_message : (old new : BTreeSet (ℕ × ℕ × List ℕ)) (fate : ℕ × ℕ × List ℕ × Fate) (fates : List (ℕ × ℕ × List ℕ × Fate)) → Adds old (message_of fate) new → is_seen old fate ≡ false → are_new new fates ≡ are_new old (fate ∷ fates)

@@ -21,12 +21,18 @@ use Rattle.volume_points.proofs.ReadLemmas.{answer_both}
 use Rattle.listed_volumes.specs.declared.volume.ListedVolume.{ListedVolume}
 use Rattle.listed_volumes.specs.Listed.{AreHeld, known_as, known_in}
 
+pub in_front : (n : ℕ) (vs : List ListedVolume) (k : KnownVolume) → IsIn (known_in (take n vs)) k → IsIn (known_in vs) k
+in_front n vs k m = in_take n (known_in vs) k (subst (λ (l : List KnownVolume). IsIn l k) (sym (take-map known_as n vs)) m)
+
+pub in_back : (n : ℕ) (vs : List ListedVolume) (k : KnownVolume) → IsIn (known_in (drop n vs)) k → IsIn (known_in vs) k
+in_back n vs k m = in_drop n (known_in vs) k (subst (λ (l : List KnownVolume). IsIn l k) (sym (drop-map known_as n vs)) m)
+
 module _ (files : Files) where
   pub held_front : (n : ℕ) (vs : List ListedVolume) → AreHeld (known_in vs) files → AreHeld (known_in (take n vs)) files
-  held_front n vs h = λ k m. h k (in_take n (known_in vs) k (subst (λ (l : List KnownVolume). IsIn l k) (sym (take-map known_as n vs)) m))
+  held_front n vs h = λ k m. h k (in_front n vs k m)
 
   pub held_back : (n : ℕ) (vs : List ListedVolume) → AreHeld (known_in vs) files → AreHeld (known_in (drop n vs)) files
-  held_back n vs h = λ k m. h k (in_drop n (known_in vs) k (subst (λ (l : List KnownVolume). IsIn l k) (sym (drop-map known_as n vs)) m))
+  held_back n vs h = λ k m. h k (in_back n vs k m)
 
   pub held_first : (vs : List ListedVolume) (v : ListedVolume) → 1 ≤ length vs → v ≡ get_or vs 0 v → AreHeld (known_in vs) files → VolumeHolds (head_of v.head) v.rows.value files
   held_first [] v some is h = absurd (omega (arith, some))

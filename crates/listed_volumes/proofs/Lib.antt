@@ -1,3 +1,4 @@
+pub mod CachedLemmas
 mod KeptLemmas
 mod FetchLemmas
 pub use Rattle.volume_points.proofs.AnswerLemmas

@@ -4,9 +4,11 @@
 
 mod fetching;
 mod keeping;
+mod row_cache;
 mod volume;
 
 pub use fetching::fetch;
 pub use keeping::list_volume;
+pub use row_cache::RowCache;
 pub use volume::ListedVolume;
 pub use volume_points::{BlockErr, block_rows, join, read};

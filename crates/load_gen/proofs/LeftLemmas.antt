@@ -1,6 +1,7 @@
 -- What is left of a script behind its next request.
-use Rattle.std.proofs.Common.{◌≡◌, ◌++◌, ℕ, suc, zero, List, [], ◌∷◌, Bool, true, false, drop, cond, refl, sym, ap, ◌∙◌, inl, inr, ◌⊎◌, append_assoc}
+use Rattle.std.proofs.Common.{◌≡◌, ◌++◌, ℕ, suc, zero, List, [], ◌∷◌, drop, cond, refl, sym, ap, ◌∙◌, inl, inr, append_assoc}
 use Rattle.std.specs.Prelude.{◌==◌, ◌%◌, Option, Some, None, slice_get, MatchOption}
+use Rattle.std.proofs.lemmas.Bool.{cases_Bool}
 use Rattle.m3_model.specs.declared.turn.Request.{Request}
 use Rattle.load_gen.specs.Draws.{drawn, after_writes}
 use Rattle.load_gen.specs.Lines.{replace_line, bootstrap_line, flush_line, snapshot_line, match_line, now_line, write_line}
@@ -16,14 +17,10 @@ pub rounds-more : (k x : ℕ) → rounds (suc k) x ≡ round (moment_of k) x ++ 
 unfolding rounds
 rounds-more k x = refl
 
-told : (b : Bool) → (b ≡ true) ⊎ (b ≡ false)
-told true = inl refl
-told false = inr refl
-
 -- behind the move of a round
 pub behind_move : (k x : ℕ) → left_from (next_after_move (moment_of k)) k x ≡ flushes_at (moment_of k) ++ rounds k x
 behind_move k x =
-    elim (told (moment_of k % 100 == 0)) as (λ _. left_from (next_after_move (moment_of k)) k x ≡ flushes_at (moment_of k) ++ rounds k x) [
+    elim (cases_Bool (moment_of k % 100 == 0)) as (λ _. left_from (next_after_move (moment_of k)) k x ≡ flushes_at (moment_of k) ++ rounds k x) [
       | inl due ↦ ap (λ b. left_from (cond b Flush Round) k x) due ∙ sym (ap (λ b. cond b (flush_line ∷ snapshot_line ∷ []) [] ++ rounds k x) due)
       | inr not_due ↦ ap (λ b. left_from (cond b Flush Round) k x) not_due ∙ sym (ap (λ b. cond b (flush_line ∷ snapshot_line ∷ []) [] ++ rounds k x) not_due)
     ]
@@ -31,7 +28,7 @@ behind_move k x =
 -- behind its last write
 pub behind_writes : (k x : ℕ) → left_from (next_by_moment (moment_of k)) k x ≡ (move_at (moment_of k) ++ flushes_at (moment_of k)) ++ rounds k x
 behind_writes k x =
-    elim (told (moment_of k == 250)) as (λ _. left_from (next_by_moment (moment_of k)) k x ≡ (move_at (moment_of k) ++ flushes_at (moment_of k)) ++ rounds k x) [
+    elim (cases_Bool (moment_of k == 250)) as (λ _. left_from (next_by_moment (moment_of k)) k x ≡ (move_at (moment_of k) ++ flushes_at (moment_of k)) ++ rounds k x) [
       | inl due ↦ ap (λ b. left_from (cond b Replace (next_after_move (moment_of k))) k x) due
           ∙ sym (ap (λ b. (cond b (replace_line ∷ bootstrap_line ∷ []) [] ++ flushes_at (moment_of k)) ++ rounds k x) due)
       | inr not_due ↦ ap (λ b. left_from (cond b Replace (next_after_move (moment_of k))) k x) not_due ∙ behind_move k x

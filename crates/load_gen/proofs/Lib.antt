@@ -1,3 +1,4 @@
 pub mod LeftLemmas
 pub mod LengthLemmas
 pub mod LimitLemmas
+pub mod SummaryLemmas

@@ -3,3 +3,5 @@ pub mod Lines
 pub mod Script
 pub mod Left
 pub mod Laws
+pub mod Summaries
+pub mod Sums

@@ -11,8 +11,9 @@ use Rattle.log_chunks.specs.declared.chunk_read.ChunkAt.{ChunkAt}
 use Rattle.log_chunks.specs.declared.chunk_read.ChunkAt.TheVariants as found
 use Rattle.log_chunks.specs.Offsets.{ChunkStands, EndStands, BadStands, IsNext}
 use Rattle.log_chunks.proofs.Chunks.{cut_at, end_few, reads_all, take_sum, written_push}
-use Rattle.log_chunks.proofs.LawLemmas.{both_parts, same_length, same_chunk, no_chunk, chunk_long}
+use Rattle.log_chunks.proofs.LawLemmas.{same_length, same_chunk, no_chunk, chunk_long}
 use Rattle.log_chunks.proofs.Shapes.{reads_written, zeros_end}
+use Rattle.wire_bytes.proofs.PointLemmas.{both_parts}
 
 pub length_chunk : (c : List ℕ) → length (chunk_bytes c) ≡ 5 + length c
 length_chunk c = omega (arith, length-append (big_bytes 4 (length c)) c)

@@ -1,19 +1,13 @@
 -- What is read of a segment is one thing, and what an appended chunk and a new segment do to the whole log.
-use Rattle.std.proofs.Common.{◌≡◌, inl, inr, ℕ, suc, ◌+◌, ◌^◌, ◌<◌, ◌≤◌, List, [], ◌∷◌, ◌++◌, length, take, drop, get_or, refl, sym, ap, subst, ◌∙◌, arith, append_assoc, length-append}
-use Rattle.std.proofs.lemmas.List.{take_at, drop_at}
+use Rattle.std.proofs.Common.{◌≡◌, inl, inr, ℕ, suc, ◌+◌, ◌^◌, ◌<◌, ◌≤◌, List, [], ◌∷◌, ◌++◌, length, drop, get_or, refl, sym, ap, subst, ◌∙◌, arith, append_assoc, length-append}
 use Rattle.byteorder.specs.Endian.{big_bytes, big_from}
 use Rattle.byteorder.specs.Numbers.{big_number-reads_back}
 use Rattle.log_chunks.specs.Segment.{chunk_bytes, IsEnd, ReadsChunks}
+use Rattle.wire_bytes.proofs.PointLemmas.{both_parts}
 
 -- a chunk at the head of bytes that reach to a segment's end has a length that its field can say
 head_same : (x y : ℕ) (r s : List ℕ) → x ∷ r ≡ y ∷ s → (x ≡ y) × (r ≡ s)
 head_same x y r s e = (ap (λ (l : List ℕ). get_or l 0 0) e, ap (λ (l : List ℕ). drop 1 l) e)
-
-pub both_parts : (a b c d : List ℕ) → length a ≡ length c → a ++ b ≡ c ++ d → (a ≡ c) × (b ≡ d)
-both_parts a b c d same e = (
-  sym (take_at a b (length a) refl) ∙ ap (λ (l : List ℕ). take (length a) l) e ∙ take_at c d (length a) (sym same),
-  sym (drop_at a b (length a) refl) ∙ ap (λ (l : List ℕ). drop (length a) l) e ∙ drop_at c d (length a) (sym same),
-)
 
 pub same_length : (m n : ℕ) → m < 256 ^ 4 → n < 256 ^ 4 → big_bytes 4 m ≡ big_bytes 4 n → m ≡ n
 same_length m n p q e = sym (big_number-reads_back 4 m [] p) ∙ ap (λ (l : List ℕ). big_from 0 4 (l ++ [])) e ∙ big_number-reads_back 4 n [] q

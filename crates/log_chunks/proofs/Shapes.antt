@@ -3,6 +3,7 @@ use Rattle.std.proofs.Common.{◌≡◌, inl, inr, ⊎_elim, ℕ, zero, suc, ◌
 use Rattle.std.proofs.lemmas.List.{length-replicate, append-nil}
 use Rattle.std.proofs.lemmas.Bool.{cases_eq}
 use Rattle.std.specs.FinMap.{get, insert}
+use Rattle.std.proofs.lemmas.Option.{same_Some}
 use Rattle.m3_outside.specs.declared.file_name.FileName.{FileName}
 use Rattle.m3_outside.specs.Files.{Files, Torn, Wrote, Stays, patched}
 use Rattle.m3_outside.specs.DiskState.{DiskState, StepOf, Elapses}
@@ -37,9 +38,6 @@ zeros_end n = ends n (replicate n 0) refl
     ends n [] e = tt
     ends zero (x ∷ l) e = absurd (cc)
     ends (suc n) (x ∷ l) e = inl (λ one. absurd (cc))
-
-some_same : (x y : List ℕ) → Some x ≡ Some y → x ≡ y
-some_same x y e = cc
 
 module _ (name : FileName) (chunks : List (List ℕ)) (at n behind : ℕ) (field chunk : List ℕ)
     (offset : length (written chunks) ≡ at) (field_is : length field ≡ 4) (chunk_is : length chunk ≡ n) (field_eq : field ≡ big_bytes 4 (length chunk)) (total : at + (5 + (n + behind)) ≡ 65536) where
@@ -77,7 +75,7 @@ module _ (name : FileName) (chunks : List (List ℕ)) (at n behind : ℕ) (field
   -- the steps, on files
   pub field_step : (x y : Files) → (f b : List ℕ) → get x name ≡ Some (closed f b) → length f ≡ 4 → length b ≡ n → Torn name (at + 1) 4 x y → Over name IsClosed x y
   field_step x y f b there f_is b_is torn =
-      let same = some_same _ _ (sym torn.wrote.there ∙ there) in
+      let same = same_Some _ _ (sym torn.wrote.there ∙ there) in
       record {
         file = patched torn.wrote.file (at + 1) torn.bytes;
         has = record { f = torn.bytes; b = b; f_is = torn.same_length; b_is = b_is; file_is = ap (λ (l : List ℕ). patched l (at + 1) torn.bytes) same ∙ field_patch f b torn.bytes f_is torn.same_length };
@@ -88,7 +86,7 @@ module _ (name : FileName) (chunks : List (List ℕ)) (at n behind : ℕ) (field
   body_step x y z over torn =
       let is = over.has in
       let there : get y name ≡ Some over.file = ap (λ (m : Files). get m name) over.after ∙ get_here x name over.file in
-      let same = some_same _ _ (sym torn.wrote.there ∙ there) ∙ is.file_is in
+      let same = same_Some _ _ (sym torn.wrote.there ∙ there) ∙ is.file_is in
       record {
         file = patched torn.wrote.file (at + 5) torn.bytes;
         has = record { f = is.f; b = torn.bytes; f_is = is.f_is; b_is = torn.same_length; file_is = ap (λ (l : List ℕ). patched l (at + 5) torn.bytes) same ∙ body_patch is.f is.b torn.bytes is.f_is is.b_is torn.same_length };
@@ -114,7 +112,7 @@ module _ (name : FileName) (chunks : List (List ℕ)) (at n behind : ℕ) (field
 
   pub gate_step : (x y z : Files) → Over name IsClosed x y → get y name ≡ Some (closed field chunk) → Torn name at 1 y z → Over name IsGated x z
   gate_step x y z over there torn =
-      let same = some_same _ _ (sym torn.wrote.there ∙ there) in
+      let same = same_Some _ _ (sym torn.wrote.there ∙ there) in
       record {
         file = patched torn.wrote.file at torn.bytes;
         has = record {
@@ -169,17 +167,17 @@ module _ (name : FileName) (chunks : List (List ℕ)) (at n behind : ℕ) (field
   -- what reads give after each write
   pub wrote_field : (x y : Files) (f b bytes : List ℕ) → get x name ≡ Some (closed f b) → length f ≡ 4 → length bytes ≡ 4 → Wrote name (at + 1) bytes x y → get y name ≡ Some (closed bytes b)
   wrote_field x y f b bytes there f_is bytes_is wrote =
-      let same = some_same _ _ (sym wrote.there ∙ there) in
+      let same = same_Some _ _ (sym wrote.there ∙ there) in
       ap (λ (m : Files). get m name) wrote.after ∙ get_here x name _ ∙ ap Some (ap (λ (l : List ℕ). patched l (at + 1) bytes) same ∙ field_patch f b bytes f_is bytes_is)
 
   pub wrote_body : (x y : Files) (f b bytes : List ℕ) → get x name ≡ Some (closed f b) → length f ≡ 4 → length b ≡ n → length bytes ≡ n → Wrote name (at + 5) bytes x y → get y name ≡ Some (closed f bytes)
   wrote_body x y f b bytes there f_is b_is bytes_is wrote =
-      let same = some_same _ _ (sym wrote.there ∙ there) in
+      let same = same_Some _ _ (sym wrote.there ∙ there) in
       ap (λ (m : Files). get m name) wrote.after ∙ get_here x name _ ∙ ap Some (ap (λ (l : List ℕ). patched l (at + 5) bytes) same ∙ body_patch f b bytes f_is b_is bytes_is)
 
   pub wrote_gate : (x y : Files) → get x name ≡ Some (closed field chunk) → Wrote name at (1 ∷ []) x y → get y name ≡ Some (gated 1)
   wrote_gate x y there wrote =
-      let same = some_same _ _ (sym wrote.there ∙ there) in
+      let same = same_Some _ _ (sym wrote.there ∙ there) in
       ap (λ (m : Files). get m name) wrote.after ∙ get_here x name _ ∙ ap Some (ap (λ (l : List ℕ). patched l at (1 ∷ [])) same ∙ gate_patch (1 ∷ []) refl)
 
   -- the runs

@@ -2,7 +2,7 @@
 use crate::counted_disk::CountedDisk;
 use crate::volumes::{evens, id_of, part, value_of, written};
 use fileset_read::FileErr;
-use listed_volumes::{ListedVolume, fetch, list_volume};
+use listed_volumes::{ListedVolume, RowCache, fetch, list_volume};
 use m3_model::{Memory, Pick, Seq, Series, Text};
 use m3_outside::DiskErr;
 use std::alloc::Global;
@@ -59,7 +59,8 @@ fn fetched(
     to: u64,
 ) -> Result<String, Memory> {
     let pick = one(alloc, number)?;
-    let found = fetch(alloc, disk, volumes, &pick, 0, to);
+    let mut kept = RowCache::new();
+    let found = fetch(alloc, disk, volumes, &mut kept, &pick, 0, to);
     tell(alloc, found)
 }
 

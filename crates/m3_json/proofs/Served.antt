@@ -1,7 +1,7 @@
 -- The acts that are served.
-use Rattle.std.proofs.Common.{◌≡◌, ℕ, refl, false}
-use Rattle.std.specs.Prelude.{Option, Some, None, is_some}
-use Rattle.std.proofs.lemmas.Bool.{not-false}
+use Rattle.std.proofs.Common.{◌≡◌, ℕ, refl, ap, false}
+use Rattle.std.specs.Prelude.{Option, Some, None, is_some, IsTrue, not, ◌↔◌}
+use Rattle.std.proofs.lemmas.Bool.{not-false, not-true}
 use Rattle.m3_model.specs.declared.act.Act.{Act}
 use Rattle.m3_model.specs.declared.act.Act.TheVariants as act
 use Rattle.served_acts.specs.NotYet.{fills_its_nodes, IsServedAct}
@@ -35,3 +35,31 @@ act_served act.Flush kept = cc
 act_served act.Snapshot kept = cc
 act_served act.Repair kept = cc
 act_served act.Status kept = cc
+
+-- and one that is served isn't put off
+act_kept : (one : Act) → IsServedAct one → is_put_off one ≡ false
+unfolding is_put_off
+act_kept (act.Init rf shards seed nodes) h = ap not h
+act_kept (act.Namespace name block past future retention) h = refl
+act_kept (act.Now now) h = refl
+act_kept (act.Write ns id t v level version) h = ap is_some h
+act_kept (act.Fetch ns id from to level version) h = ap is_some h
+act_kept (act.Match ns wanted from to level version) h = ap is_some h
+act_kept (act.Fates list) h = refl
+act_kept act.Deliver h = refl
+act_kept (act.Stop node) h = refl
+act_kept (act.Restart node pick) h = refl
+act_kept (act.Bootstrap node shard) h = refl
+act_kept (act.Add node group) h = absurd h
+act_kept (act.Drain node) h = absurd h
+act_kept (act.Cancel node) h = absurd h
+act_kept (act.Remove node) h = absurd h
+act_kept (act.Replace node by group) h = absurd h
+act_kept act.Tick h = refl
+act_kept act.Flush h = refl
+act_kept act.Snapshot h = refl
+act_kept act.Repair h = absurd h
+act_kept act.Status h = refl
+
+pub kept_exactly : (one : Act) → IsTrue (not (is_put_off one)) ↔ IsServedAct one
+kept_exactly one = (λ kept. act_served one (not-true (is_put_off one) kept), λ h. ap not (act_kept one h))

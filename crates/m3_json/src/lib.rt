@@ -1,4 +1,4 @@
-//! Requests as JSON lines.
+//! Requests as JSON lines, and which of them a cluster serves.
 #![tactic(auto)]
 
 mod calls;
@@ -15,3 +15,4 @@ mod placements;
 mod upkeep;
 
 pub use lines::read_line;
+pub use not_yet::is_served;

@@ -1,11 +1,11 @@
-ghost use Rattle.std.specs.Prelude.{◌≡◌, ◌==◌};
+ghost use Rattle.std.specs.Prelude.{◌≡◌, ◌==◌, ◌↔◌, IsTrue};
 ghost use Rattle.std.specs.List.{list_any};
 ghost use Rattle.std.specs.Cmp.Lexicographic.{pointwise};
-ghost use Rattle.served_acts.specs.NotYet.{groups_differ, fills_its_nodes};
+ghost use Rattle.served_acts.specs.NotYet.{groups_differ, fills_its_nodes, IsServed};
 ghost use Rattle.m3_json.specs.NotYet.{refusal_of, is_put_off};
 
 use line_fields::{LineErr, is_one_of};
-use m3_model::{Act, Text};
+use m3_model::{Act, Request, Text};
 
 /// What an op without a row is answered: `Later` where it is put off, else `Form`.
 #[tactic(auto, using(line_fields::proofs::Keys::one_of_texts), unfolding(crate::specs::NotYet::refusal_of))]
@@ -39,6 +39,17 @@ fn fills_its_nodes(rf: u32, nodes: &[(Text, Text)]) -> bool
     ensures { result ≡ fills_its_nodes rf nodes.now }
 {
     nodes.len() == rf as usize && groups_differ(nodes)
+}
+
+/// Whether a cluster serves the request: one act that isn't put off.
+#[tactic(auto, using(crate::proofs::Served::kept_exactly))]
+pub fn is_served(request: &Request) -> bool
+    ensures { IsTrue result ↔ IsServed request.now }
+{
+    match request {
+        Request::One(act) => !is_put_off(act),
+        Request::Par { .. } => false,
+    }
 }
 
 /// Whether the act is put off.

@@ -14,9 +14,10 @@ use Rattle.std.specs.Cmp.Lexicographic.{pointwise, slice_cmp, nat_list_cmp_total
 use Rattle.std.specs.declared.cmp.Ordering.{Ordering}
 use Rattle.std.specs.declared.cmp.Ordering.TheVariants.{Less, Equal, Greater}
 use Rattle.std.proofs.lemmas.Cmp.{nat_cmp_total, ranked}
-use Rattle.std.proofs.lemmas.Bool.{eqb-true, eq-eqb, leb-true, le-leb, ltb-true, lt-ltb}
+use Rattle.std.proofs.lemmas.Bool.{eqb-true, eq-eqb, leb-true, le-leb, ltb-true, lt-ltb, and_parts}
 use Rattle.std.proofs.lemmas.Bool.Decides.{nat_tests}
 use Rattle.std.proofs.lemmas.Slice.Eq.{bytes_eq-Decides}
+pub use Rattle.std.proofs.lemmas.Bool.{and_parts as both_true}
 use Rattle.m3_model.specs.declared.point.Key.{Key}
 use Rattle.m3_model.specs.Keys.{key_cmp, key_cmp_total}
 use Rattle.m3_model.specs.Contents.{Contents, timed, pair_in, range_of}
@@ -25,10 +26,7 @@ use Rattle.m3_model.specs.Ascends.{Ascends}
 use Rattle.m3_model.proofs.Keyed.{key_cmp-IsAntisymmetric}
 use Rattle.m3_model.proofs.FindLemmas.{both_hold, below_member, get-IsIn, IsIn-get}
 use Rattle.m3_model.proofs.MemberLemmas.{IsIn-filter_map, filter_map-IsIn}
-
-pub both_true : (a b : Bool) → (a && b) ≡ true → (a ≡ true) × (b ≡ true)
-both_true true b e = (refl, e)
-both_true false b e = cc
+use Rattle.m3_model.proofs.Orders.{is_eq-nat_cmp}
 
 -- what it says that an entry is in a range
 pub record IsPairIn (ns : ℕ) (id : List ℕ) (from to : ℕ) (e : Key × ℤ) (p : ℕ × ℤ) : Type 0 where
@@ -43,9 +41,9 @@ pair_in-some ns id from to e p h = by_test ((nat_eq ns e.0.ns && pointwise nat_e
     by_test : (b : Bool) → ((nat_eq ns e.0.ns && pointwise nat_eq id e.0.id) && (nat_le from e.0.t && nat_lt e.0.t to)) ≡ b → cond b (Some (e.0.t, e.1)) None ≡ Some p → IsPairIn ns id from to e p
     by_test false t f = cc
     by_test true t f =
-        let outer = both_true (nat_eq ns e.0.ns && pointwise nat_eq id e.0.id) (nat_le from e.0.t && nat_lt e.0.t to) t in
-        let names = both_true (nat_eq ns e.0.ns) (pointwise nat_eq id e.0.id) outer.0 in
-        let times = both_true (nat_le from e.0.t) (nat_lt e.0.t to) outer.1 in
+        let outer = and_parts (nat_eq ns e.0.ns && pointwise nat_eq id e.0.id) (nat_le from e.0.t && nat_lt e.0.t to) t in
+        let names = and_parts (nat_eq ns e.0.ns) (pointwise nat_eq id e.0.id) outer.0 in
+        let times = and_parts (nat_le from e.0.t) (nat_lt e.0.t to) outer.1 in
         let same_ns : e.0.ns ≡ ns = sym (eqb-true ns e.0.ns names.0) in
         let same_id : e.0.id ≡ id = sym ((bytes_eq-Decides id e.0.id).0 names.1) in
         let pair : ◌≡◌ {A = ℕ × ℤ} (e.0.t, e.1) p = cc in
@@ -120,9 +118,6 @@ between_both Equal Less low high = refl
 between_both Equal Equal low high = refl
 between_both Equal Greater low high = refl
 between_both Greater b low high = refl
-
-is_eq-nat_cmp : (a b : ℕ) → is_eq (nat_cmp a b) ≡ nat_eq a b
-is_eq-nat_cmp a b = grind (arith, nat_tests)
 
 is_le-nat_cmp : (a b : ℕ) → is_le (nat_cmp a b) ≡ nat_le a b
 is_le-nat_cmp a b = grind (arith, nat_tests)

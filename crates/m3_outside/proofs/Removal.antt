@@ -1,9 +1,8 @@
 -- Files that are taken away one after another.
-use Rattle.std.proofs.Common.{add-one, ◌≡◌, ◌⊎◌, inl, inr, ⊎_elim, ℕ, ◌+◌, ◌<◌, ◌≤◌, List, [], ◌∷◌, ◌++◌, length, take, drop, get_or, refl, sym, ap, subst, ◌∙◌, arith, true, Result, Ok, Err}
+use Rattle.std.proofs.Common.{◌≡◌, ◌⊎◌, inl, inr, ⊎_elim, ℕ, ◌+◌, ◌<◌, ◌≤◌, List, [], ◌∷◌, ◌++◌, length, take, drop, get_or, refl, sym, ap, subst, ◌∙◌, arith, true, Result, Ok, Err}
 use Rattle.std.specs.Prelude.{⊤, IsErr}
 use Rattle.std.specs.FinMap.{get}
-use Rattle.std.proofs.lemmas.List.{take-append-drop, take_more}
-use Rattle.std.proofs.Math.Seq.{drop-cons}
+use Rattle.std.proofs.lemmas.List.{take-append-drop, take_more, drop_more}
 use Rattle.m3_model.specs.Members.{IsIn}
 use Rattle.m3_outside.specs.Causes.{CountsFaults}
 use Rattle.m3_outside.specs.declared.file_name.FileName.{FileName}
@@ -79,9 +78,6 @@ not_going names a left room = record {
 never_failed : (u : ⊤) → (let r : Result ⊤ Failed = Ok u in IsErr r) → ⊥
 never_failed u e = absurd (cc)
 
-rest_at : (names : List FileName) (i : ℕ) (d : FileName) → i < length names → drop i names ≡ get_or names i d ∷ drop (i + 1) names
-rest_at names i d lt = rw add-one (drop-cons names i d lt)
-
 module _ (names : List FileName) (i : ℕ) (d : FileName) (lt : i < length names) (a b c : DiskState) (going : Going names i a b) where
   abbrev name : FileName
   name = get_or names i d
@@ -124,14 +120,14 @@ module _ (names : List FileName) (i : ℕ) (d : FileName) (lt : i < length names
     becomes = λ t. more (removes.changes.done (going.tells ∙ t) refl) t;
     elapses = λ t. moment (Ok u) removes t;
     left = λ t.
-        let parts = subst (λ (l : List FileName). AreRemovable l b.files) (rest_at names i d lt) (going.left t) in
+        let parts = subst (λ (l : List FileName). AreRemovable l b.files) (drop_more names i d lt) (going.left t) in
         subst (AreRemovable (drop (i + 1) names)) (sym (removes.changes.done (going.tells ∙ t) refl).files) parts.1;
     room = omega (arith, going.room, removes.spare);
     spare = omega (arith, going.spare, removes.spare);
   }
 
   pub present : a.tells ≡ true → IsPresent (get_or names i d) b.files
-  present t = (subst (λ (l : List FileName). AreRemovable l b.files) (rest_at names i d lt) (going.left t)).0
+  present t = (subst (λ (l : List FileName). AreRemovable l b.files) (drop_more names i d lt) (going.left t)).0
 
 -- so far, and at last
 pub taken_so_far : (names : List FileName) (i : ℕ) (a b : DiskState) → Going names i a b → a.tells ≡ true → HasTakenAway names a b

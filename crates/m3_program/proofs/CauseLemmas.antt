@@ -1,10 +1,10 @@
 -- A cause that lies later lies since the beginning.
-use Rattle.std.proofs.Common.{◌≡◌, ℕ, ◌≤◌, inl, inr, arith, true, refl}
+use Rattle.std.proofs.Common.{◌≡◌, ℕ, ◌≤◌, inl, inr, arith}
 use Rattle.std.specs.Prelude.{◌⊎◌}
 use Rattle.m3_outside.specs.Causes.{Rose}
 use Rattle.m3_program.specs.declared.status.Status.{Status}
 use Rattle.m3_program.specs.declared.status.Status.TheVariants as status
-use Rattle.m3_program.specs.Causes.{EndsLine, EndsStep, EndsRun}
+use Rattle.m3_program.specs.Causes.{EndsLine, EndsStep, EndsReading}
 
 pub rose_earlier : (before mid now : ℕ) → before ≤ mid → Rose mid now → Rose before now
 rose_earlier before mid now h r = omega arith
@@ -27,8 +27,8 @@ line_ends_step status.Memory p q a b x y e = tt
 line_ends_step _ p q a b x y e = absurd e
 
 -- what ends a step ends the run, also where the counts were lower when it began
-pub step_ends_run : (s : Status) (p0 p q a0 a b x0 x y : ℕ) → p0 ≤ p → a0 ≤ a → x0 ≤ x → EndsStep s p q a b x y → EndsRun true s p0 q a0 b x0 y
-step_ends_run status.ReadFault p0 p q a0 a b x0 x y h i j e = (refl, rose_earlier p0 p q h e)
-step_ends_run status.WriteFault p0 p q a0 a b x0 x y h i j e = (refl, elim e as (λ _. Rose a0 b ⊎ Rose x0 y) [ inl f ↦ inl (rose_earlier a0 a b i f) | inr t ↦ inr (rose_earlier x0 x y j t) ])
-step_ends_run status.Memory p0 p q a0 a b x0 x y h i j e = refl
+pub step_ends_run : (s : Status) (p0 p q a0 a b x0 x y : ℕ) → p0 ≤ p → a0 ≤ a → x0 ≤ x → EndsStep s p q a b x y → EndsReading s p0 q a0 b x0 y
+step_ends_run status.ReadFault p0 p q a0 a b x0 x y h i j e = rose_earlier p0 p q h e
+step_ends_run status.WriteFault p0 p q a0 a b x0 x y h i j e = elim e as (λ _. Rose a0 b ⊎ Rose x0 y) [ inl f ↦ inl (rose_earlier a0 a b i f) | inr t ↦ inr (rose_earlier x0 x y j t) ]
+step_ends_run status.Memory p0 p q a0 a b x0 x y h i j e = tt
 step_ends_run _ p0 p q a0 a b x0 x y h i j e = absurd e

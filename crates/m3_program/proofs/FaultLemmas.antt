@@ -2,6 +2,7 @@
 use Rattle.std.proofs.Common.{◌≡◌, ℕ, ◌+◌, ◌<◌, List, [], ◌∷◌, length, refl, sym, ap, subst, inl, inr, arith, Bool, true, cond, ◌||◌}
 use Rattle.std.specs.Prelude.{count_by}
 use Rattle.std.proofs.lemmas.List.Sums.{sum_by-cons}
+use Rattle.std.proofs.lemmas.List.{nil_from_length}
 use Rattle.m3_model.specs.Members.{IsIn}
 use Rattle.transcripts.specs.Faults.{Fault, FaultKind, Taking, Failing, Damaged, is_failing, is_taking}
 use Rattle.m3_outside.specs.Causes.{last_count}
@@ -27,13 +28,9 @@ is_faulted Damaged h = absurd (h refl)
 faulted_all : (fs : List Fault) → ((f : Fault) → IsIn fs f → ¬ (f.kind ≡ Damaged)) → times_faulted fs ≡ length fs
 faulted_all fs none = count_all (λ f. is_taking f.kind || is_failing f.kind) fs (λ f i. is_faulted f.kind (none f i))
 
-none_of_length : {X : Type 0} (xs : List X) → length xs ≡ 0 → xs ≡ []
-none_of_length [] e = refl
-none_of_length (x ∷ xs) e = absurd (omega arith)
-
 pub no_causes : ConstantMeansNoFault
 no_causes run before now faults causes same =
     let bound = causes.of_all (subst (λ n. n < last_count) (sym same.all.same) same.all.below) (λ slot. let own = same.of_disks slot in subst (λ n. n < last_count) (sym own.same) own.below) in
     let stays = same.all.same in
     let all = faulted_all faults (λ f i. (each-from_All (IsOfRun true run) faults causes.of_run f i).undamaged refl) in
-    none_of_length faults (omega (arith, bound, stays, all))
+    nil_from_length faults (omega (arith, bound, stays, all))

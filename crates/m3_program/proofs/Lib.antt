@@ -9,3 +9,5 @@ pub mod ExchangeLemmas
 pub mod StreamLemmas
 pub mod RunLemmas
 pub mod PieceLemmas
+pub mod ScriptLemmas
+pub mod PlayLemmas

@@ -2,10 +2,10 @@
 use Rattle.std.proofs.Common.{◌≡◌, ℕ, zero, suc, ◌+◌, ◌-◌, ◌<◌, List, [], ◌∷◌, ◌++◌, take, drop, length, length-drop, get_or, sym, ap, ◌∙◌, subst, inl, inr, arith}
 use Rattle.std.specs.Prelude.{Some, None}
 use Rattle.std.proofs.lemmas.Bool.{eqb-true, eq-eqb}
+use Rattle.std.proofs.lemmas.List.{take_all}
 use Rattle.memchr.specs.Find.{IsFirstByte, is_byte}
 use Rattle.m3_model.specs.Members.{IsIn}
 use Rattle.m3_program.specs.Streams.{NoNewline}
-use Rattle.m3_program.proofs.WrittenLemmas.{take_enough}
 
 position_in : (n : ℕ) (xs : List ℕ) (b : ℕ) → IsIn (take n xs) b → (j : ℕ) × (j < n) × (j < length xs) × (get_or xs j 0 ≡ b)
 position_in zero xs b h = absurd h
@@ -32,12 +32,12 @@ before_newline hay k h m =
 -- where there is none, none is in it
 pub without_newline : (hay : List ℕ) → IsFirstByte (is_byte 10) hay None → NoNewline hay
 without_newline hay h m =
-    let whole : take (length hay) hay ≡ hay = take_enough (length hay) hay (omega arith) in
+    let whole : take (length hay) hay ≡ hay = take_all (length hay) hay (omega arith) in
     let at = position_in (length hay) hay 10 (subst (λ l. IsIn l 10) (sym whole) m) in
     h at.0 (omega arith) at.2 (eq-eqb (get_or hay at.0 0) 10 at.3)
 
 -- the first line of a piece, its newline and the rest
 pub at_newline : (hay : List ℕ) (k : ℕ) → IsFirstByte (is_byte 10) hay (Some k) → hay ≡ (take k hay ++ 10 ∷ []) ++ take (length hay - (k + 1)) (drop (k + 1) hay)
 at_newline hay k h =
-    let rest : take (length hay - (k + 1)) (drop (k + 1) hay) ≡ drop (k + 1) hay = take_enough _ _ (omega (arith, length-drop (k + 1) hay)) in
+    let rest : take (length hay - (k + 1)) (drop (k + 1) hay) ≡ drop (k + 1) hay = take_all _ _ (omega (arith, length-drop (k + 1) hay)) in
     split_here hay k 10 h.0.high (eqb-true (get_or hay k 0) 10 h.1) ∙ ap (λ l. (take k hay ++ 10 ∷ []) ++ l) (sym rest)

@@ -5,8 +5,9 @@ use Rattle.std.proofs.lemmas.List.Elements.{All-nil}
 use Rattle.m3_model.specs.declared.turn.Request.{Request}
 use Rattle.m3_model.specs.declared.turn.Turn.{Turn}
 use Rattle.m3_model.proofs.SplitLemmas.{not_empty}
-use Rattle.placement_core.proofs.ListLemmas.{All-from_each}
+use Rattle.m3_model.proofs.Lists.{All-from_each}
 use Rattle.transcripts.specs.Kept.{Kept}
+use Rattle.transcripts.specs.Record.{Life}
 use Rattle.m3_outside.specs.Causes.{RoseBy}
 use Rattle.m3_outside.specs.DiskState.{DiskState, IsLawfulDisk}
 use Rattle.m3_outside.specs.declared.disk.Disk.{Ghosts}
@@ -17,7 +18,7 @@ use Rattle.served_cluster.proofs.EndLemmas.{caused_where_tracked, kept_where_tra
 use Rattle.served_cluster.specs.Owned.{TracksTurns}
 use Rattle.m3_program.specs.Exchanges.{Exchange, turns_of}
 use Rattle.m3_program.specs.Faults.{Counts, IsOfRun, counts_of, one_for}
-use Rattle.m3_program.specs.Runs.{HasCauses, life_with, record_of}
+use Rattle.m3_program.specs.Runs.{HasCauses}
 use Rattle.m3_program.specs.Streams.{AreExchangesServed, Progress, PromisesSo, Stage}
 
 -- ---- while the disks are out
@@ -33,37 +34,42 @@ promised_more state tells first now xs turn request t = record { more = turn ∷
 
 -- ---- when the disks are given back
 
--- what the reads had to keep
-pub kept_closed : {D : Type 0} {G : Ghosts D} (state : D → DiskState) (first : Depot D) (mid : Stage D G) (xs : List Exchange) (unanswered : Option Request) → AreExchangesServed state true first mid xs unanswered → Kept (life_with [] None xs unanswered)
-kept_closed state first mid xs unanswered served = kept_where_tracked state mid.cluster.members first mid.depot (turns_of xs) served.more mid.cluster.calls unanswered served.tracks
+-- the life of a first run of these turns, and of the request that was taken and not answered, if there is one
+abbrev pub first_life : List Turn → Option Request → Life
+first_life turns unanswered = record { past = []; present = record { start = None; turns = turns; unanswered = unanswered } }
+
+-- what the reads had to keep, also where a turn more was served
+pub kept_closed : {D : Type 0} {G : Ghosts D} (state : D → DiskState) (first : Depot D) (mid : Stage D G) (turns more : List Turn) (unanswered : Option Request) → TracksTurns state true first mid.depot (turns ++ more) mid.cluster
+    → Kept (first_life turns unanswered)
+kept_closed state first mid turns more unanswered tracks = kept_where_tracked state mid.cluster.members first mid.depot turns more mid.cluster.calls unanswered tracks
 
 -- a line of these turns is one of a request that was taken
 line_taken : (turns more : List Turn) (unanswered : Option Request) (line : ℕ) → length more ≤ one_for unanswered → line < length (turns ++ more) → line < length turns + one_for unanswered
 line_taken turns more unanswered line few low = let all = length-append turns more in omega (arith, few, low, all)
 
 -- the causes, shown by the counts
-pub causes_closed : {D : Type 0} {G : Ghosts D} (state : D → DiskState) → ((d : D) → IsLawfulDisk (state d)) → (tells : Bool) (first : Depot D) (mid : Stage D G) (now : Counts) (xs : List Exchange) (unanswered : Option Request)
-    → AreGivenBack state mid.depot mid.cluster.members now.all now.of_disk → AreExchangesServed state tells first mid xs unanswered → HasCauses tells (counts_of first) now (life_with [] None xs unanswered)
-causes_closed state lawful tells first mid now xs unanswered back served =
+pub causes_closed : {D : Type 0} {G : Ghosts D} (state : D → DiskState) → ((d : D) → IsLawfulDisk (state d)) → (tells : Bool) (first : Depot D) (mid : Stage D G) (now : Counts) (turns more : List Turn) (unanswered : Option Request)
+    → length more ≤ one_for unanswered → AreGivenBack state mid.depot mid.cluster.members now.all now.of_disk → TracksTurns state tells first mid.depot (turns ++ more) mid.cluster → HasCauses tells (counts_of first) now (first_life turns unanswered)
+causes_closed state lawful tells first mid now turns more unanswered few back tracks =
     let members = mid.cluster.members in
     let calls = mid.cluster.calls in
-    let shown = shown_where_tracked state lawful members tells first mid.depot (turns_of xs ++ served.more) calls now.all now.of_disk served.tracks back in
+    let shown = shown_where_tracked state lawful members tells first mid.depot (turns ++ more) calls now.all now.of_disk tracks back in
     record {
-      faults = faults_of served.tracks;
+      faults = faults_of tracks;
       counted = record {
-        of_run = All-from_each (IsOfRun tells (record_of None xs unanswered)) (faults_of served.tracks)
-            (λ f i. record { in_run = line_taken (turns_of xs) served.more unanswered f.line served.few (shown.of_lines f i); undamaged = λ e. shown.undamaged e f i });
+        of_run = All-from_each (IsOfRun tells (first_life turns unanswered).present) (faults_of tracks)
+            (λ f i. record { in_run = line_taken turns more unanswered f.line few (shown.of_lines f i); undamaged = λ e. shown.undamaged e f i });
         of_taking = shown.of_taking;
         of_disks = shown.of_disks;
         of_all = shown.of_all;
       };
-      caused = caused_where_tracked state members tells first mid.depot (turns_of xs) served.more calls unanswered served.tracks;
+      caused = caused_where_tracked state members tells first mid.depot turns more calls unanswered tracks;
     }
 
 -- ---- a run without a request
 
 -- nothing was read
-pub kept_nothing : Kept (life_with [] None [] None)
+pub kept_nothing : Kept (first_life [] None)
 kept_nothing p at = absurd (not_empty p.lines p.line at.after at.in_run)
 
 -- a count rose by nothing
@@ -71,10 +77,10 @@ rose_none : (n : ℕ) → RoseBy 0 n n
 rose_none n = omega arith
 
 -- and nothing is caused
-pub causes_nothing : (tells : Bool) (now : Counts) → HasCauses tells now now (life_with [] None [] None)
+pub causes_nothing : (tells : Bool) (now : Counts) → HasCauses tells now now (first_life [] None)
 causes_nothing tells now = record {
   faults = [];
-  counted = record { of_run = All-nil (IsOfRun tells (record_of None [] None)); of_taking = rose_none now.all; of_disks = λ slot. rose_none (now.of_disk slot); of_all = λ low each. omega arith };
+  counted = record { of_run = All-nil (IsOfRun tells (first_life [] None).present); of_taking = rose_none now.all; of_disks = λ slot. rose_none (now.of_disk slot); of_all = λ low each. omega arith };
   caused = record {
     different = tt;
     delivered = λ p. [];

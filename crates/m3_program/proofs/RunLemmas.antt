@@ -11,7 +11,7 @@ use Rattle.served_cluster.specs.Ends.{AreGivenBack}
 use Rattle.m3_program.specs.declared.status.Status.{Status}
 use Rattle.m3_program.specs.declared.status.Status.TheVariants as status
 use Rattle.m3_program.specs.Causes.{EndsStep}
-use Rattle.m3_program.specs.Exchanges.{Exchange, replies_text}
+use Rattle.m3_program.specs.Exchanges.{Exchange, replies_text, turns_of}
 use Rattle.m3_program.specs.Faults.{Counts, counts_of}
 use Rattle.m3_program.specs.Runs.{AreWholeLines, Course, HasRun, IsCutOff, lines_of}
 use Rattle.m3_program.specs.Streams.{Stage, IsFresh, StreamState, TakesOn, Cuts, Finishes, Halted, HaltsLast, HasServed}
@@ -224,10 +224,14 @@ known_limit state first left0 written0 l w n now line known full input before p 
       record { ran = record { taken = h.got; parts = h.parts; few = let count = h.count in omega (arith, count, full); course = course; got_to = (whole_of h.stream, h.told_is, h.count ∙ full) }; promises = promises },
     )
 
--- no line was read
-pub told_of_usage : {D : Type 0} (state : D → DiskState) (first : Depot D) (left written : Option (List ℕ)) (input before : List ℕ) → left ≡ Some input → written ≡ Some before
-    → (rest told : List ℕ) × (left ≡ Some rest) × (written ≡ Some (before ++ told)) × HasRun state first (counts_of first) [] None status.Usage input rest told
-told_of_usage state first left written input before p q = (
+-- all replies were written
+all_written : (told : List ℕ) (xs : List Exchange) → told ≡ replies_text xs → IsCutOff told xs
+all_written told xs is = record { before = xs; last = []; parts = sym (append-nil xs); few = omega arith; part = []; rest = []; of_last = refl; are = is ∙ sym (append-nil (replies_text xs)) }
+
+-- the words couldn't be read, and no line was
+pub told_of_nothing : {D : Type 0} (state : D → DiskState) (first : Depot D) (left written : Option (List ℕ)) (input before : List ℕ) → left ≡ Some input → written ≡ Some before
+    → (rest told : List ℕ) × (left ≡ Some rest) × (written ≡ Some (before ++ told)) × HasRun state first (counts_of first) [] None status.Memory input rest told
+told_of_nothing state first left written input before p q = (
   input,
   [],
   p,
@@ -244,7 +248,7 @@ told_of_usage state first left written input before p q = (
         of_input = record { later = lines_of input; lines_are = refl; next = tt };
         of_taken = record { later = []; lines_are = refl; next = tt };
       };
-      got_to = (refl, refl);
+      got_to = all_written [] [] refl;
     };
     kept = λ empty. kept_nothing;
     causes = λ tells empty. causes_nothing tells (counts_of first);
@@ -255,10 +259,6 @@ told_of_usage state first left written input before p q = (
 abbrev stopped_course : {D : Type 0} {G : Ghosts D} (state : D → DiskState) (first : Depot D) (now : Stage D G) (input before : List ℕ) (left written : Option (List ℕ)) (text : List ℕ) → (h : Stopped state first now input before left written text) → Course None input (h.earlier ++ h.piece)
 stopped_course state first now input before left written text h =
     record { exchanges = h.exchanges ++ h.more; unanswered = h.halted.unanswered; each = h.halted.each; of_input = h.halted.of_input; of_taken = h.halted.of_taken }
-
--- all replies were written
-all_written : (told : List ℕ) (xs : List Exchange) → told ≡ replies_text xs → IsCutOff told xs
-all_written told xs is = record { before = xs; last = []; parts = sym (append-nil xs); few = omega arith; part = []; rest = []; of_last = refl; are = is ∙ sym (append-nil (replies_text xs)) }
 
 pub step_told : {D : Type 0} {G : Ghosts D} (state : D → DiskState) (first : Depot D) (now : Stage D G) (s : Status) (a b x y u v : ℕ) → EndsStep s a b x y u v
     → (input before : List ℕ) (left written written2 : Option (List ℕ)) (text : List ℕ) → (s ≡ status.ReadFault → Told state first now status.ReadFault input before left written2)
@@ -322,7 +322,7 @@ told_closes state lawful first mid last s back input before left written (rest, 
   w,
   record {
     ran = run.ran;
-    kept = λ empty. kept_closed state first mid run.ran.course.exchanges run.ran.course.unanswered (run.promises true (λ e. empty));
-    causes = λ tells empty. causes_closed state lawful tells first mid last run.ran.course.exchanges run.ran.course.unanswered back (run.promises tells empty);
+    kept = λ empty. let served = run.promises true (λ e. empty) in kept_closed state first mid (turns_of run.ran.course.exchanges) served.more run.ran.course.unanswered served.tracks;
+    causes = λ tells empty. let served = run.promises tells empty in causes_closed state lawful tells first mid last (turns_of run.ran.course.exchanges) served.more run.ran.course.unanswered served.few back served.tracks;
   },
 )

@@ -1,20 +1,15 @@
 -- Bytes written one after the other.
 use Rattle.std.proofs.Common.{◌≡◌, ℕ, zero, suc, ◌+◌, ◌-◌, ◌≤◌, ◌<◌, false, length-drop, List, [], ◌∷◌, ◌++◌, take, drop, length, refl, sym, ap, ◌∙◌, subst, append_assoc, append-nil, arith}
-use Rattle.std.specs.Prelude.{Option, Some, None, Result, Ok, Err, OnOk, OnErr, IfErr, nat_eq}
+use Rattle.std.specs.Prelude.{Option, Some, None, Result, Ok, Err, OnErr, IfErr, nat_eq}
 use Rattle.std.proofs.lemmas.Bool.{eq-eqb}
 use Rattle.std.specs.Io.KnownBytes.{Appends, Keeps, Consumes}
+use Rattle.std.proofs.lemmas.List.{take_all}
 
 pub appends_more : (a b c : Option (List ℕ)) (x y : List ℕ) → Appends a b x → Appends b c y → Appends a c (x ++ y)
 appends_more None b c x y p q = tt
 appends_more (Some xs) None c x y p q = absurd p
 appends_more (Some xs) (Some ys) None x y p q = absurd q
 appends_more (Some xs) (Some ys) (Some zs) x y p q = q ∙ ap (λ l. l ++ y) p ∙ append_assoc xs x y
-
-pub take_enough : {X : Type 0} (n : ℕ) (xs : List X) → length xs ≤ n → take n xs ≡ xs
-take_enough zero [] h = refl
-take_enough (suc n) [] h = refl
-take_enough zero (x ∷ xs) h = absurd (omega arith)
-take_enough (suc n) (x ∷ xs) h = ap (λ ys. x ∷ ys) (take_enough n xs (omega arith))
 
 take_suc : {X : Type 0} (n m : ℕ) (x : X) (xs : List X) → take (suc n + m) (x ∷ xs) ≡ x ∷ take (n + m) xs
 take_suc n m x xs = let e : suc n + m ≡ suc (n + m) = omega arith in ap (λ k. take k (x ∷ xs)) e
@@ -32,25 +27,17 @@ take_both (suc n) m (x ∷ xs) = ap (λ ys. x ∷ ys) (take_both n m xs) ∙ sym
 pub wrote_more : (bytes : List ℕ) (at count : ℕ) (a b c : Option (List ℕ)) → Appends a b (take at bytes) → Appends b c (take count (take (length bytes - at) (drop at bytes)))
     → Appends a c (take (at + count) bytes)
 wrote_more bytes at count a b c p q =
-    let whole : take (length bytes - at) (drop at bytes) ≡ drop at bytes = take_enough _ _ (omega (arith, length-drop at bytes)) in
+    let whole : take (length bytes - at) (drop at bytes) ≡ drop at bytes = take_all _ _ (omega (arith, length-drop at bytes)) in
     subst (Appends a c) (ap (λ ys. take at bytes ++ take count ys) whole ∙ take_both at count bytes) (appends_more a b c (take at bytes) (take count (take (length bytes - at) (drop at bytes))) p q)
 
 pub bound_more : (bytes : List ℕ) (at count : ℕ) → at ≤ length bytes → count ≤ length (take (length bytes - at) (drop at bytes)) → at + count ≤ length bytes
 bound_more bytes at count h k =
-    let whole : take (length bytes - at) (drop at bytes) ≡ drop at bytes = take_enough _ _ (omega (arith, length-drop at bytes)) in
+    let whole : take (length bytes - at) (drop at bytes) ≡ drop at bytes = take_all _ _ (omega (arith, length-drop at bytes)) in
     omega (arith, ap length whole, length-drop at bytes)
 
 pub appends_nothing : (a : Option (List ℕ)) → Appends a a []
 appends_nothing None = tt
 appends_nothing (Some xs) = sym (append-nil xs)
-
-pub on_ok_map : {T E P Q : Type 0} (r : Result T E) → (P → Q) → OnOk r P → OnOk r Q
-on_ok_map (Ok x) f h = f h
-on_ok_map (Err e) f h = tt
-
-pub on_err_map : {T E P Q : Type 0} (r : Result T E) → (P → Q) → OnErr r P → OnErr r Q
-on_err_map (Ok x) f h = tt
-on_err_map (Err e) f h = f h
 
 pub on_err_just : {T E P : Type 0} (r : Result T E) → P → OnErr r P
 on_err_just (Ok x) p = tt
@@ -65,10 +52,6 @@ pub keeps_consumes : (a b : Option (List ℕ)) → Keeps a b → Consumes a b []
 keeps_consumes None b h = tt
 keeps_consumes (Some xs) None h = absurd h
 keeps_consumes (Some xs) (Some ys) h = sym h
-
-pub empty_of : {X : Type 0} (xs : List X) → length xs ≡ 0 → xs ≡ []
-empty_of [] e = refl
-empty_of (x ∷ xs) e = absurd (omega arith)
 
 pub some_of : {X : Type 0} (xs : List X) → nat_eq (length xs) 0 ≡ false → 0 < length xs
 some_of [] e = absurd (let yes = eq-eqb 0 0 refl in cc)

@@ -1,5 +1,7 @@
 -- Why a run ends as it does.
-use Rattle.std.specs.Prelude.{◌≡◌, ℕ, Bool, true, false, ◌⊎◌}
+use Rattle.std.specs.Prelude.{ℕ, Option, Some, None, ◌⊎◌}
+use Rattle.command_words.specs.declared.task.Task.{Task}
+use Rattle.command_words.specs.declared.task.Task.TheVariants as task
 use Rattle.m3_outside.specs.Causes.{Rose}
 use Rattle.m3_program.specs.declared.status.Status.{Status}
 use Rattle.m3_program.specs.declared.status.Status.TheVariants as status
@@ -17,12 +19,30 @@ EndsStep status.WriteFault read_before read_now faulted_before faulted_now stall
 EndsStep status.Memory read_before read_now faulted_before faulted_now stalled_before stalled_now = Unit {0}
 EndsStep _ read_before read_now faulted_before faulted_now stalled_before stalled_now = ⊥
 
--- what ends a run; no fault is answered that isn't counted, and a fault of a replica's disk ends none
-abbrev pub EndsRun : Bool → Status → ℕ → ℕ → ℕ → ℕ → ℕ → ℕ → Type 0
-EndsRun asked status.Done read_before read_now faulted_before faulted_now stalled_before stalled_now = asked ≡ true
-EndsRun asked status.TooLong read_before read_now faulted_before faulted_now stalled_before stalled_now = asked ≡ true
-EndsRun asked status.Usage read_before read_now faulted_before faulted_now stalled_before stalled_now = asked ≡ false
-EndsRun asked status.ReadFault read_before read_now faulted_before faulted_now stalled_before stalled_now = (asked ≡ true) × Rose read_before read_now
-EndsRun asked status.WriteFault read_before read_now faulted_before faulted_now stalled_before stalled_now = (asked ≡ true) × (Rose faulted_before faulted_now ⊎ Rose stalled_before stalled_now)
-EndsRun asked status.Memory read_before read_now faulted_before faulted_now stalled_before stalled_now = asked ≡ true
-EndsRun asked _ read_before read_now faulted_before faulted_now stalled_before stalled_now = ⊥
+-- what ends a run that reads lines; no fault is answered that isn't counted, and a fault of a replica's disk ends none
+abbrev pub EndsReading : Status → ℕ → ℕ → ℕ → ℕ → ℕ → ℕ → Type 0
+EndsReading status.Done read_before read_now faulted_before faulted_now stalled_before stalled_now = Unit {0}
+EndsReading status.TooLong read_before read_now faulted_before faulted_now stalled_before stalled_now = Unit {0}
+EndsReading status.ReadFault read_before read_now faulted_before faulted_now stalled_before stalled_now = Rose read_before read_now
+EndsReading status.WriteFault read_before read_now faulted_before faulted_now stalled_before stalled_now = Rose faulted_before faulted_now ⊎ Rose stalled_before stalled_now
+EndsReading status.Memory read_before read_now faulted_before faulted_now stalled_before stalled_now = Unit {0}
+EndsReading _ read_before read_now faulted_before faulted_now stalled_before stalled_now = ⊥
+
+-- what ends a run of a script: nothing is read
+abbrev pub EndsScript : Status → ℕ → ℕ → ℕ → ℕ → Type 0
+EndsScript status.Done faulted_before faulted_now stalled_before stalled_now = Unit {0}
+EndsScript status.WriteFault faulted_before faulted_now stalled_before stalled_now = Rose faulted_before faulted_now ⊎ Rose stalled_before stalled_now
+EndsScript status.Memory faulted_before faulted_now stalled_before stalled_now = Unit {0}
+EndsScript _ faulted_before faulted_now stalled_before stalled_now = ⊥
+
+-- what ends a run whose words ask for nothing: there is no task, or no memory to read the words
+abbrev pub EndsIdly : Status → Type 0
+EndsIdly status.Usage = Unit {0}
+EndsIdly status.Memory = Unit {0}
+EndsIdly _ = ⊥
+
+-- what ends the run of a task
+abbrev pub EndsTask : Option Task → Status → ℕ → ℕ → ℕ → ℕ → ℕ → ℕ → Type 0
+EndsTask None s read_before read_now faulted_before faulted_now stalled_before stalled_now = EndsIdly s
+EndsTask (Some task.Run) s read_before read_now faulted_before faulted_now stalled_before stalled_now = EndsReading s read_before read_now faulted_before faulted_now stalled_before stalled_now
+EndsTask (Some (task.Generate number)) s read_before read_now faulted_before faulted_now stalled_before stalled_now = EndsScript s faulted_before faulted_now stalled_before stalled_now

@@ -1,5 +1,4 @@
 pub mod Codes
-pub mod Words
 pub mod Exchanges
 pub mod Faults
 pub mod FaultLaws
@@ -7,3 +6,5 @@ pub mod Runs
 pub mod Causes
 pub mod Writing
 pub mod Streams
+pub mod Scripts
+pub mod Rounds

@@ -105,7 +105,6 @@ GotTo status.TooLong taken left written xs later = AreWholeLines taken xs × (wr
 GotTo status.ReadFault taken left written xs later = AreWholeLines taken xs × (written ≡ replies_text xs)
 GotTo status.WriteFault taken left written xs later = IsCutInPiece taken written xs
 GotTo status.Memory taken left written xs later = IsCutOff written xs
-GotTo status.Usage taken left written xs later = (taken ≡ []) × (written ≡ [])
 GotTo _ taken left written xs later = ⊥
 
 -- What a run did that took at most so much of this input from a source, left the rest, and wrote this to a sink, over any disks.

@@ -1,4 +1,4 @@
-//! The top call: request lines in, reply lines out.
+//! The top call: request lines in, reply lines out; or a script, and one line of summary out.
 #![tactic(auto)]
 
 mod exchange;
@@ -6,7 +6,7 @@ mod input;
 pub mod laws;
 mod output;
 pub mod run;
+mod script;
 pub mod status;
-mod words;
 
 pub use status::Status;

@@ -1,21 +1,24 @@
-ghost use Rattle.std.specs.Prelude.{◌≡◌, ◌<◌, ◌≤◌, ◌+◌, ℕ, List, [], ◌++◌, Some, None, true, map, length, string_bytes, IfOk, OnOk, IfErr, IsErrOf};
+ghost use Rattle.std.specs.Prelude.{◌≡◌, ◌<◌, ◌≤◌, ◌+◌, ℕ, List, [], ◌++◌, Some, None, map, length, string_bytes, IfOk, OnOk, IfErr, IsErrOf};
 ghost use Rattle.std.specs.Io.KnownBytes.{Appends, Consumes, IsAtEnd};
 ghost use Rattle.m3_model.specs.declared.limits.TheConstants.{INPUT_END};
 ghost use Rattle.m3_outside.specs.Slots.{Out};
 ghost use Rattle.m3_outside.specs.declared.slot.DiskSlot.{DiskSlot};
 ghost use Rattle.served_cluster.specs.Owned.{MayServeCluster};
-ghost use Rattle.m3_program.specs.Words.{is_run};
+ghost use Rattle.command_words.specs.Tasks.{task_of};
+ghost use Rattle.command_words.specs.declared.task.Task.TheVariants as task;
 ghost use Rattle.m3_program.specs.Streams.{TakesOn, Cuts, Finishes, HaltsLast, HasServed, IsFresh, stage};
 ghost use Rattle.m3_program.specs.Writing.{WritesUntil};
-ghost use Rattle.m3_program.specs.Causes.{EndsLine, EndsStep, EndsRun};
+ghost use Rattle.m3_program.specs.Causes.{EndsLine, EndsStep, EndsReading, EndsScript, EndsTask};
 ghost use Rattle.m3_program.specs.Runs.{HasRun};
+ghost use Rattle.m3_program.specs.Scripts.{HasGenerated};
 ghost use Rattle.m3_program.specs.declared.status.Status.TheVariants as status;
 
 use crate::exchange::answer_line;
 use crate::input::serve_piece;
 use crate::output::write_all;
+use crate::script::generate;
 use crate::status::Status;
-use crate::words::is_run;
+use command_words::{Task, WordsErr, task_of};
 use m3_model::limits::INPUT_END;
 use m3_outside::{Disks, Sink, Source};
 use served_cluster::Cluster;
@@ -115,7 +118,7 @@ fn serve_all<S: Source, K: Sink, X: Disks>(
         × HasServed X.D.state (record { held = X.held disks.old; counted = X.counted disks.old; faults = X.all_faults disks.old })
         (stage cluster.new (X.held disks.new) (X.counted disks.new) (X.all_faults disks.new)) result input left written }
     ensures owned { MayServeCluster cluster.new (X.held disks.new) }
-    ensures cause { EndsRun true result (S.faulted source.old) (S.faulted source.new) (K.faulted out.old) (K.faulted out.new) (K.stalled out.old) (K.stalled out.new) }
+    ensures cause { EndsReading result (S.faulted source.old) (S.faulted source.new) (K.faulted out.old) (K.faulted out.new) (K.stalled out.old) (K.stalled out.new) }
 {
     let mut line = Vec::new(alloc);
     let mut buf = [0u8; PIECE];
@@ -144,12 +147,9 @@ fn serve_all<S: Source, K: Sink, X: Disks>(
     Status::TooLong
 }
 
-/// The program: where the words are the one word `run`, reads request lines to the input's end, serves each in order
-/// and writes each reply as a line, before it reads on. The nodes' replicas stand over these disks, which are all given
-/// back at the end.
-pub fn run<S: Source, K: Sink, X: Disks>(
+/// Reads request lines to the input's end, over a cluster that has no nodes yet, and gives all disks back at the end.
+fn run_lines<S: Source, K: Sink, X: Disks>(
     alloc: Global,
-    words: &[String],
     source: &mut S,
     out: &mut K,
     disks: &mut X,
@@ -160,13 +160,57 @@ pub fn run<S: Source, K: Sink, X: Disks>(
         × HasRun X.D.state (record { held = X.held disks.old; counted = X.counted disks.old; faults = X.all_faults disks.old })
         (record { all = X.all_faults disks.new; of_disk = X.counted disks.new }) [] None result input left written }
     ensures none_out { (slot : DiskSlot) → ¬ (X.held disks.new slot ≡ Out) }
-    ensures cause { EndsRun (is_run (map string_bytes words.now)) result (S.faulted source.old) (S.faulted source.new) (K.faulted out.old) (K.faulted out.new) (K.stalled out.old) (K.stalled out.new) }
+    ensures cause { EndsReading result (S.faulted source.old) (S.faulted source.new) (K.faulted out.old) (K.faulted out.new) (K.stalled out.old) (K.stalled out.new) }
 {
-    if !is_run(words) {
-        return Status::Usage;
-    }
     let mut cluster = Cluster::new();
     let status = serve_all(alloc, &mut cluster, disks, source, out);
     cluster.close(disks);
     status
+}
+
+/// Serves the script of a number, over a cluster that has no nodes yet, and gives all disks back at the end.
+fn run_script<K: Sink, X: Disks>(alloc: Global, out: &mut K, disks: &mut X, number: u32) -> Status
+    requires none_out { (slot : DiskSlot) → ¬ (X.held disks.old slot ≡ Out) }
+    ensures told { (before : List ℕ) → K.written out.old ≡ Some before → (written : List ℕ) × (K.written out.new ≡ Some (before ++ written))
+        × HasGenerated X.D.state (record { held = X.held disks.old; counted = X.counted disks.old; faults = X.all_faults disks.old })
+        (record { all = X.all_faults disks.new; of_disk = X.counted disks.new }) [] None number result written }
+    ensures none_out { (slot : DiskSlot) → ¬ (X.held disks.new slot ≡ Out) }
+    ensures cause { EndsScript result (K.faulted out.old) (K.faulted out.new) (K.stalled out.old) (K.stalled out.new) }
+{
+    let mut cluster = Cluster::new();
+    let status = generate(alloc, &mut cluster, disks, out, number);
+    cluster.close(disks);
+    status
+}
+
+/// The program: the words say what is done. By `run` it reads request lines to the input's end, serves each in order and
+/// writes each reply as a line, before it reads on. By `generate` and a number it serves the number's script, reads nothing,
+/// and writes one line of summary. The nodes' replicas stand over these disks, which are all given back at the end.
+pub fn run<S: Source, K: Sink, X: Disks>(
+    alloc: Global,
+    words: &[String],
+    source: &mut S,
+    out: &mut K,
+    disks: &mut X,
+) -> Status
+    requires none_out { (slot : DiskSlot) → ¬ (X.held disks.old slot ≡ Out) }
+    ensures told { task_of (map string_bytes words.now) ≡ Some task.Run → (input before : List ℕ) → S.left source.old ≡ Some input → K.written out.old ≡ Some before
+        → (left written : List ℕ) × (S.left source.new ≡ Some left) × (K.written out.new ≡ Some (before ++ written))
+        × HasRun X.D.state (record { held = X.held disks.old; counted = X.counted disks.old; faults = X.all_faults disks.old })
+        (record { all = X.all_faults disks.new; of_disk = X.counted disks.new }) [] None result input left written }
+    ensures generated { (number : ℕ) → task_of (map string_bytes words.now) ≡ Some (task.Generate number) → (before : List ℕ) → K.written out.old ≡ Some before
+        → (written : List ℕ) × (K.written out.new ≡ Some (before ++ written))
+        × HasGenerated X.D.state (record { held = X.held disks.old; counted = X.counted disks.old; faults = X.all_faults disks.old })
+        (record { all = X.all_faults disks.new; of_disk = X.counted disks.new }) [] None number result written }
+    ensures unread { (task_of (map string_bytes words.now) ≡ Some task.Run → ⊥) → source.new ≡ source.old }
+    ensures idle { task_of (map string_bytes words.now) ≡ None → (out.new ≡ out.old) × (disks.new ≡ disks.old) }
+    ensures none_out { (slot : DiskSlot) → ¬ (X.held disks.new slot ≡ Out) }
+    ensures cause { EndsTask (task_of (map string_bytes words.now)) result (S.faulted source.old) (S.faulted source.new) (K.faulted out.old) (K.faulted out.new) (K.stalled out.old) (K.stalled out.new) }
+{
+    match task_of(alloc, words) {
+        Ok(Task::Run) => run_lines(alloc, source, out, disks),
+        Ok(Task::Generate { number }) => run_script(alloc, out, disks, number),
+        Err(WordsErr::Usage) => Status::Usage,
+        Err(WordsErr::Memory) => Status::Memory,
+    }
 }

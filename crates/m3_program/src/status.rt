@@ -4,9 +4,9 @@ ghost use Rattle.m3_program.specs.Codes.{code_of};
 /// How a run ends.
 #[derive(Clone, Copy, Debug, PartialEq, Eq)]
 pub enum Status {
-    /// The input was read to its end, and all replies were written.
+    /// The input was read to its end, and all replies were written; or a script was served to its end, and its line was written.
     Done,
-    /// The words weren't a command.
+    /// The words ask for nothing.
     Usage,
     /// The source failed.
     ReadFault,
@@ -16,7 +16,7 @@ pub enum Status {
     DiskFault,
     /// The placement log is damaged.
     Corrupt,
-    /// Want of memory for a line, its reply or the run itself.
+    /// Want of memory for the words, a line, its reply or the run itself.
     Memory,
     /// 2^32 bytes were taken, and the input's end wasn't reached.
     TooLong,
@@ -43,7 +43,7 @@ impl Status {
     pub fn message(self) -> Option<&'static str> {
         match self {
             Status::Done => None,
-            Status::Usage => Some("usage: m3 run"),
+            Status::Usage => Some("usage: m3 run or m3 generate N"),
             Status::ReadFault => Some("m3: read fault"),
             Status::WriteFault => Some("m3: write fault"),
             Status::DiskFault => Some("m3: disk fault"),

@@ -1,7 +1,7 @@
 -- Values that have no float and nest no deeper than a bound.
-use Rattle.std.proofs.Common.{◌≡◌, ℕ, ℤ, pos, negsuc, suc, ◌≤◌, List, [], ◌∷◌, map, Bool, false, ◌||◌, refl, ap, ◌∙◌, subst, sym, arith}
+use Rattle.std.proofs.Common.{◌≡◌, ℕ, ℤ, pos, negsuc, suc, ◌≤◌, List, [], ◌∷◌, map, Bool, false, refl, subst, sym, arith}
 use Rattle.std.specs.Prelude.{fold}
-use Rattle.std.proofs.lemmas.Bool.{or_parts}
+use Rattle.std.proofs.lemmas.Bool.{or_parts, or_from}
 use Rattle.std.specs.declared.cmp.Ordering.TheVariants.{Less, Equal, Greater}
 use Rattle.std.specs.Cmp.Lexicographic.{slice_cmp}
 use Rattle.std.specs.FinMap.{put}
@@ -29,9 +29,6 @@ pub record HavePlain (n : ℕ) (fields : List (List ℕ × Data)) : Type 0 where
   pub no_float : members_have_float (members_in fields) ≡ false
   pub shallow : members_depth (members_in fields) ≤ n
 
-neither : (a b : Bool) → a ≡ false → b ≡ false → (a || b) ≡ false
-neither a b p q = ap (λ x. x || b) p ∙ q
-
 integer_no_float : (z : ℤ) → is_float (of_integer z) ≡ false
 integer_no_float (pos n) = refl
 integer_no_float (negsuc n) = refl
@@ -55,7 +52,7 @@ pub no_items_plain : (n : ℕ) → ArePlain n []
 no_items_plain n = record { no_float = refl; shallow = omega arith }
 
 pub item_plain : {n : ℕ} {d : Data} {ds : List Data} → IsPlain n d → ArePlain n ds → ArePlain n (d ∷ ds)
-item_plain p q = record { no_float = neither _ _ p.no_float q.no_float; shallow = omega arith }
+item_plain p q = record { no_float = or_from _ _ p.no_float q.no_float; shallow = omega arith }
 
 pub plain_array : (n : ℕ) {ds : List Data} → ArePlain n ds → IsPlain (suc n) (array_of ds)
 plain_array n p = record { no_float = p.no_float; shallow = omega arith }
@@ -71,7 +68,7 @@ pub no_fields_plain : (n : ℕ) → HavePlain n []
 no_fields_plain n = record { no_float = refl; shallow = omega arith }
 
 pub field_plain : {n : ℕ} {k : List ℕ} {d : Data} {fields : List (List ℕ × Data)} → IsPlain n d → HavePlain n fields → HavePlain n ((k, d) ∷ fields)
-field_plain p q = record { no_float = neither _ _ p.no_float q.no_float; shallow = omega arith }
+field_plain p q = record { no_float = or_from _ _ p.no_float q.no_float; shallow = omega arith }
 
 pub plain_object : (n : ℕ) {fields : List (List ℕ × Data)} → HavePlain n fields → IsPlain (suc n) (object_of fields)
 plain_object n p = record { no_float = p.no_float; shallow = omega arith }

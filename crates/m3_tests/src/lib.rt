@@ -8,6 +8,8 @@ mod calls;
 #[cfg(test)]
 mod disks;
 #[cfg(test)]
+mod generated;
+#[cfg(test)]
 mod lines;
 #[cfg(test)]
 mod messages;
@@ -17,3 +19,5 @@ mod nodes;
 mod statuses;
 #[cfg(test)]
 mod stories;
+#[cfg(test)]
+mod words;

@@ -3,17 +3,6 @@ use line_runs::{INIT, PLACED, Status, ended};
 use std::test::Fail;
 
 #[test]
-fn words_other_than_run(rt: HostRuntime) -> Result<(), Fail> {
-    let cases: [&[&str]; 5] = [&[], &["frob"], &["run", "run"], &["Run"], &["run", ""]];
-    for words in cases {
-        let (status, written) = ended(rt.alloc(), words, INIT, &[], &[])?;
-        assert_eq!(rt; status, Status::Usage);
-        assert_eq!(rt; written.as_str(), "");
-    }
-    Ok(())
-}
-
-#[test]
 fn source_that_fails(rt: HostRuntime) -> Result<(), Fail> {
     let (status, written) = ended(rt.alloc(), &["run"], INIT, &[0], &[])?;
     assert_eq!(rt; status, Status::ReadFault);

@@ -1,5 +1,5 @@
 -- Forms one after another: where a field fails, the whole fails there.
-use Rattle.std.proofs.Common.{◌≡◌, ℕ, zero, suc, ◌<◌, ◌≤◌, ◌^◌, List, [], ◌++◌, refl, sym, ap, ◌∙◌, arith, append_assoc, append-nil, Bool, Result, Ok, Err, IfOk, IfErr}
+use Rattle.std.proofs.Common.{◌≡◌, ℕ, zero, suc, ◌<◌, ◌≤◌, ◌^◌, List, [], ◌++◌, refl, sym, ap, ◌∙◌, arith, append_assoc, append-nil, Bool}
 use Rattle.byteorder.specs.Endian.{big_bytes}
 use Rattle.wire_bytes.specs.Fields.{Stands, IsFault}
 use Rattle.wire_bytes.specs.Numbers.{ANumber}
@@ -162,13 +162,3 @@ behind whole f g fair s bytes at offset mid b st = λ e a. b e (may_second f g f
 
 pub fails : (whole f g : Form) → IsFair f → IsFair g → (bytes : List ℕ) (at offset : ℕ) → Behind whole (Both f g) bytes at offset → (e : ReadErr) → MayFault (Has f) bytes offset e → MayFault (Has whole) bytes at e
 fails whole f g fair more bytes at offset b e a = b e (may_first f g fair more bytes offset e a)
-
--- ---- answers passed on
-
-pub err_as : {T E : Type 0} (r : Result T E) (P Q : E → Type 0) → ((e : E) → P e → Q e) → IfErr r P → IfErr r Q
-err_as (Ok x) P Q f h = tt
-err_as (Err e) P Q f h = f e h
-
-pub ok_as : {T E : Type 0} (r : Result T E) (P Q : T → Type 0) → ((x : T) → P x → Q x) → IfOk r P → IfOk r Q
-ok_as (Ok x) P Q f h = f x h
-ok_as (Err e) P Q f h = tt

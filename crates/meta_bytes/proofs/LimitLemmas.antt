@@ -2,8 +2,9 @@
 use Rattle.std.proofs.Common.{ℕ, suc, ◌+◌, ◌-◌, ◌<◌, ◌≤◌, ◌^◌, List, [], ◌∷◌, ◌++◌, length, Bool, true, false, ◌||◌, Option, Some, None, refl, sym, ap, subst, ◌∙◌, inl, inr, ◌&&◌, arith, All, IsTrue}
 use Rattle.std.specs.Prelude.{◌==◌, nat_le, IfSome}
 use Rattle.std.specs.List.{flat_map, list_all}
-use Rattle.std.proofs.lemmas.Bool.{cases_eq, leb-true, lt-ltb}
+use Rattle.std.proofs.lemmas.Bool.{cases_eq, leb-true, lt-ltb, and_parts}
 use Rattle.std.proofs.lemmas.List.Elements.{All-weaker}
+use Rattle.std.proofs.lemmas.Option.{slice_get_within}
 use Rattle.byteorder.specs.Endian.{big_bytes}
 use Rattle.m3_model.specs.Members.{IsIn}
 use Rattle.m3_model.specs.Names.{is_name_byte, is_name}
@@ -14,15 +15,15 @@ use Rattle.m3_model.specs.declared.placement.Instance.{Instance}
 use Rattle.m3_model.specs.declared.placement.Placement.{Placement}
 use Rattle.m3_model.specs.declared.rules.Space.{Space}
 use Rattle.m3_model.specs.declared.rules.MetaState.{MetaState}
+use Rattle.m3_model.proofs.Lists.{All-from_each}
 use Rattle.placement_core.specs.Shards.{Shard}
 use Rattle.placement_core.specs.Lawful.{IsMoving, IsLawful}
 use Rattle.placement_core.proofs.HolderLemmas.{same_node}
-use Rattle.placement_core.proofs.ListLemmas.{All-from_each, at_within}
 use Rattle.wire_bytes.specs.Numbers.{ANumber}
 use Rattle.meta_bytes.specs.Forms.{Form, AByte, Times, CountHas, Has}
 use Rattle.meta_bytes.specs.States.{counted_bytes, name_bytes, name_form, flags_of, instance_bytes, instance_form, code_of, source_of, is_source, assignment_bytes, assignment_form, shard_bytes, shard_form, space_bytes, space_form, state_bytes, state_form, FitsInstance, FitsAssignment, FitsShard, FitsSpace, FitsState, IsSpaceOf, IsMetaState, IsInForm, StatesFit}
 use Rattle.meta_bytes.proofs.LengthLemmas.{state_short}
-use Rattle.meta_bytes.proofs.NameLemmas.{both_true, letters}
+use Rattle.meta_bytes.proofs.NameLemmas.{letters}
 
 -- ---- lists
 
@@ -49,8 +50,8 @@ record NameFits (name : List ℕ) : Type 0 where
 
 name_fits : (name : List ℕ) → IsTrue (is_name name) → NameFits name
 name_fits name h =
-    let p = both_true (nat_le 1 (length name) && nat_le (length name) 32) (list_all is_name_byte name) h in
-    let q = both_true (nat_le 1 (length name)) (nat_le (length name) 32) p.0 in
+    let p = and_parts (nat_le 1 (length name) && nat_le (length name) 32) (list_all is_name_byte name) h in
+    let q = and_parts (nat_le 1 (length name)) (nat_le (length name) 32) p.0 in
     let least = leb-true 1 (length name) q.0 in
     let most = leb-true (length name) 32 q.1 in
     record {
@@ -135,7 +136,7 @@ assignment_fits a s =
 
 module _ (place : Placement) (law : IsLawful place) (shard : Shard) (stands : IsIn place.shards shard) where
   node_there : (a : Assignment) → IsIn shard a → a.node < length place.instances
-  node_there a m = let listed = (law.spread shard stands).listed a m in at_within place.instances a.node listed.0 listed.1
+  node_there a m = let listed = (law.spread shard stands).listed a m in slice_get_within place.instances a.node listed.0 listed.1
 
   node_small : (a : Assignment) → IsIn shard a → a.node < 16
   node_small a m = let there = node_there a m in let few = law.limits.few_nodes in omega (arith, there, few)

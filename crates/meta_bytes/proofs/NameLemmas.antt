@@ -1,9 +1,9 @@
 -- Names as bytes.
-use Rattle.std.proofs.Common.{◌≡◌, ◌⊎◌, inl, inr, ⊎_elim, ℕ, zero, suc, ◌+◌, ◌-◌, ◌<◌, ◌≤◌, List, [], ◌∷◌, ◌++◌, length, take, drop, get_or, Bool, true, false, ◌&&◌, ◌||◌, refl, sym, ap, subst, ◌∙◌, arith, IsUtf8, length-drop, Result, Ok, Err, MatchResult}
+use Rattle.std.proofs.Common.{◌≡◌, ◌⊎◌, ⊎_elim, ℕ, zero, suc, ◌+◌, ◌-◌, ◌<◌, ◌≤◌, List, [], ◌∷◌, ◌++◌, length, take, drop, get_or, true, false, ◌&&◌, ◌||◌, refl, sym, ap, subst, ◌∙◌, arith, IsUtf8, length-drop, Result, Ok, Err, MatchResult}
 use Rattle.std.specs.Prelude.{nat_le, ◌==◌, IsOk}
 use Rattle.std.specs.List.{list_all}
 use Rattle.std.proofs.Math.Nat.{mod-eq_of_lt}
-use Rattle.std.proofs.lemmas.Bool.{leb-true, eqb-true}
+use Rattle.std.proofs.lemmas.Bool.{leb-true, eqb-true, or_cases, and_parts}
 use Rattle.std.proofs.lemmas.List.{get_or-drop, drop_more, take_more}
 use Rattle.std.proofs.Math.ListN.{drop_of_length-le}
 use Rattle.std.proofs.lemmas.Str.{IsUtf8-nil}
@@ -17,25 +17,17 @@ use Rattle.meta_bytes.specs.Forms.{Number, Byte, Times, Has, StandsAs}
 use Rattle.meta_bytes.specs.States.{name_form, name_bytes}
 use Rattle.meta_bytes.proofs.FormLemmas.{count_stands, times_later, form_ends}
 
-pub both_true : (a b : Bool) → (a && b) ≡ true → (a ≡ true) × (b ≡ true)
-both_true true b e = (refl, e)
-both_true false b e = absurd (cc)
-
-pub either_true : (a b : Bool) → (a || b) ≡ true → (a ≡ true) ⊎ (b ≡ true)
-either_true true b e = inl refl
-either_true false b e = inr e
-
 below : (low high b : ℕ) → high < 128 → (nat_le low b && nat_le b high) ≡ true → b < 128
-below low high b small e = let h = leb-true b high (both_true (nat_le low b) (nat_le b high) e).1 in omega (arith, h, small)
+below low high b small e = let h = leb-true b high (and_parts (nat_le low b) (nat_le b high) e).1 in omega (arith, h, small)
 
 -- each byte of a name is below 128
 pub small_byte : (b : ℕ) → is_name_byte b ≡ true → b < 128
 small_byte b e =
     ⊎_elim (λ (p : (is_letter b || is_digit b) ≡ true).
-    ⊎_elim (λ (q : is_letter b ≡ true). ⊎_elim (below 97 122 b (omega arith)) (below 65 90 b (omega arith)) (either_true (nat_le 97 b && nat_le b 122) (nat_le 65 b && nat_le b 90) q))
-    (λ (q : is_digit b ≡ true). below 48 57 b (omega arith) q) (either_true (is_letter b) (is_digit b) p))
-    (λ (p : (b == 95 || b == 45) ≡ true). ⊎_elim (λ q. let h = eqb-true b 95 q in omega (arith, h)) (λ q. let h = eqb-true b 45 q in omega (arith, h)) (either_true (b == 95) (b == 45) p))
-    (either_true (is_letter b || is_digit b) (b == 95 || b == 45) e)
+    ⊎_elim (λ (q : is_letter b ≡ true). ⊎_elim (below 97 122 b (omega arith)) (below 65 90 b (omega arith)) (or_cases (nat_le 97 b && nat_le b 122) (nat_le 65 b && nat_le b 90) q))
+    (λ (q : is_digit b ≡ true). below 48 57 b (omega arith) q) (or_cases (is_letter b) (is_digit b) p))
+    (λ (p : (b == 95 || b == 45) ≡ true). ⊎_elim (λ q. let h = eqb-true b 95 q in omega (arith, h)) (λ q. let h = eqb-true b 45 q in omega (arith, h)) (or_cases (b == 95) (b == 45) p))
+    (or_cases (is_letter b || is_digit b) (b == 95 || b == 45) e)
 
 abbrev NameByte : List ℕ → Type 0
 NameByte = Has (Byte is_name_byte)
@@ -49,15 +41,15 @@ name_byte b e = let lt = small_byte b e in record { n = b; small = omega (arith,
 
 pub letters : (l : List ℕ) → list_all is_name_byte l ≡ true → Times (length l) NameByte l
 letters [] e = refl
-letters (b ∷ l) e = let p = both_true (is_name_byte b) (list_all is_name_byte l) e in record { a = b ∷ []; b = l; first = name_byte b p.0; second = letters l p.1; joined = refl }
+letters (b ∷ l) e = let p = and_parts (is_name_byte b) (list_all is_name_byte l) e in record { a = b ∷ []; b = l; first = name_byte b p.0; second = letters l p.1; joined = refl }
 
 pub name_utf8 : (l : List ℕ) → list_all is_name_byte l ≡ true → IsUtf8 l
 name_utf8 [] e = IsUtf8-nil
-name_utf8 (b ∷ l) e = let p = both_true (is_name_byte b) (list_all is_name_byte l) e in let lt = small_byte b p.0 in with_first1 b l (omega (arith, lt)) (name_utf8 l p.1)
+name_utf8 (b ∷ l) e = let p = and_parts (is_name_byte b) (list_all is_name_byte l) e in let lt = small_byte b p.0 in with_first1 b l (omega (arith, lt)) (name_utf8 l p.1)
 
 pub all_more : (l : List ℕ) (b : ℕ) → list_all is_name_byte l ≡ true → is_name_byte b ≡ true → list_all is_name_byte (l ++ b ∷ []) ≡ true
 all_more [] b e f = ap (λ t. t && true) f
-all_more (x ∷ l) b e f = let p = both_true (is_name_byte x) (list_all is_name_byte l) e in ap (λ t. t && list_all is_name_byte (l ++ b ∷ [])) p.0 ∙ all_more l b p.1 f
+all_more (x ∷ l) b e f = let p = and_parts (is_name_byte x) (list_all is_name_byte l) e in ap (λ t. t && list_all is_name_byte (l ++ b ∷ [])) p.0 ∙ all_more l b p.1 f
 
 -- so many bytes of a name
 a_name : (n : ℕ) → (l : List ℕ) × Times n NameByte l

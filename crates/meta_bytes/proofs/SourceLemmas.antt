@@ -1,13 +1,13 @@
 -- The byte of a source.
 use Rattle.std.proofs.Common.{◌≡◌, ⊎_elim, ℕ, ◌+◌, ◌-◌, ◌<◌, ◌≤◌, List, [], ◌∷◌, length, drop, get_or, refl, sym, ap, subst, ◌∙◌, arith, length-drop, true}
 use Rattle.std.specs.Prelude.{nat_lt, ◌==◌}
-use Rattle.std.proofs.lemmas.Bool.{ltb-true, eqb-true}
+use Rattle.std.proofs.lemmas.Bool.{ltb-true, eqb-true, or_cases}
 use Rattle.std.proofs.lemmas.List.{get_or-drop}
 use Rattle.std.proofs.Math.ListN.{drop_of_length-le}
 use Rattle.wire_bytes.specs.Fields.{Stands, GoesOn, Misfits}
 use Rattle.meta_bytes.specs.Forms.{Byte, Has, StandsAs}
 use Rattle.meta_bytes.specs.States.{is_source}
-use Rattle.meta_bytes.proofs.NameLemmas.{either_true, byte_stands, same_head}
+use Rattle.meta_bytes.proofs.NameLemmas.{byte_stands, same_head}
 
 none_goes : GoesOn (Has (Byte is_source)) []
 none_goes = record { next = 255; rest = []; whole = record { n = 255; small = omega arith; passed = refl; spelled = refl } }
@@ -29,7 +29,7 @@ misfits (b ∷ l) lt low other = record {
   none = λ g.
       let t = g.whole in
       let is : b ≡ t.n = same_head b t.n _ t.small t.spelled in
-      ⊎_elim (λ (p : nat_lt t.n 16 ≡ true). let h = ltb-true t.n 16 p in omega (arith, h, is, low)) (λ (p : (t.n == 255) ≡ true). other (is ∙ eqb-true t.n 255 p)) (either_true (nat_lt t.n 16) (t.n == 255) t.passed);
+      ⊎_elim (λ (p : nat_lt t.n 16 ≡ true). let h = ltb-true t.n 16 p in omega (arith, h, is, low)) (λ (p : (t.n == 255) ≡ true). other (is ∙ eqb-true t.n 255 p)) (or_cases (nat_lt t.n 16) (t.n == 255) t.passed);
 }
 
 pub source_bad : (bytes : List ℕ) (at : ℕ) → at < length bytes → 16 ≤ get_or bytes at 0 → (get_or bytes at 0 ≡ 255 → ⊥) → (at ≤ at) × Misfits (Has (Byte is_source)) (drop at bytes) (at - at)

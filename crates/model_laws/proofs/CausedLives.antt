@@ -1,11 +1,12 @@
 -- Why each answer of the accepted transcripts has its cause.
 use Rattle.std.proofs.Common.{◌≡◌, ◌≢◌, ◌+◌, ◌<◌, ◌≤◌, ◌∙◌, ℕ, zero, suc, ℤ, Bool, true, false, cond, List, [], ◌∷◌, length, nat_lt, take, get_or, refl, sym, subst, ap, inl, inr, arith}
 use Rattle.std.proofs.lemmas.Bool.Decides.{nat_tests}
-use Rattle.std.proofs.lemmas.Option.{slice_get-get_or}
+use Rattle.std.proofs.lemmas.Option.{slice_get-get_or, same_Some}
 use Rattle.std.specs.Prelude.{Some, None, pos, slice_get, codes, option_map, count_by, ◌⊎◌, nat_eq, if◌then◌else◌, ◌&&◌}
 use Rattle.std.specs.List.{list_all}
 use Rattle.std.specs.Ordering.{is_gt}
 use Rattle.std.specs.Option.{option_or}
+use Rattle.std.proofs.lemmas.Bool.{and_parts}
 use Rattle.transcripts.specs.Caused.{Caused, CausedAt, IsDueBy, refusal_after}
 use Rattle.transcripts.specs.Calls.{call_of}
 use Rattle.transcripts.specs.Levels.{IsAcked, MissesLevel, IsFoundFor}
@@ -42,7 +43,7 @@ use Rattle.transcripts.specs.Points.{point_of}
 use Rattle.m3_model.specs.declared.turn.Turn.{Turn}
 use Rattle.model_laws.specs.Building.{life_of, made, named, begun, at_moment, eight_made, with_eight, two_made, with_two_shards, place, place_of_two, nodes, two_nodes, write, write_in, fetch, acks, unmet, by_each, space, narrow}
 use Rattle.model_laws.specs.Accepted.{write_then_read, edge_writes, narrow_writes, unmet_then_read}
-use Rattle.model_laws.proofs.EachLemmas.{and_parts, Each, EachPair, same_of_some, each_in, ascends_by, texts_differ, ◌also◌}
+use Rattle.model_laws.proofs.EachLemmas.{Each, EachPair, each_in, ascends_by, texts_differ, ◌also◌}
 use Rattle.model_laws.proofs.PositionLemmas.{EachSplit, EachInLine, DeliversOnce, is_not_whole, caused_with, caused_by_positions, position_after, only, due, stands_then}
 use Rattle.model_laws.proofs.SampleLemmas.{rules_when, StandsAt, stands, reached_by, WindowRefuses, call_with}
 
@@ -53,7 +54,7 @@ EachAt P (x ∷ xs) = P 0 x × EachAt (λ n. P (suc n)) xs
 
 pub each_at : {X : Type 0} (P : ℕ → X → Type 0) (xs : List X) → EachAt P xs → (i : ℕ) (x : X) → slice_get xs i ≡ Some x → P i x
 each_at P [] each i x e = cc
-each_at P (y ∷ ys) each zero x e = subst (P zero) (same_of_some y x e) each.0
+each_at P (y ∷ ys) each zero x e = subst (P zero) (same_Some y x e) each.0
 each_at P (y ∷ ys) each (suc i) x e = each_at (λ n. P (suc n)) ys each.1 i x e
 
 -- two nodes that are known

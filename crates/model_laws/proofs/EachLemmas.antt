@@ -1,6 +1,5 @@
 -- Facts of each element of a list that is written out.
-use Rattle.std.proofs.Common.{◌≡◌, ◌≢◌, ◌∙◌, sym, Bool, true, false, nat_eq, ℕ, List, [], ◌∷◌, refl, subst, ap, inl, inr, ◌&&◌}
-use Rattle.std.specs.Prelude.{Some}
+use Rattle.std.proofs.Common.{◌≡◌, ◌≢◌, ◌∙◌, sym, true, false, nat_eq, ℕ, List, [], ◌∷◌, refl, subst, ap, inl, inr}
 use Rattle.std.specs.Cmp.Lexicographic.{pointwise}
 use Rattle.m3_model.specs.Ascends.{Ascends}
 use Rattle.m3_model.specs.Members.{IsIn}
@@ -32,15 +31,8 @@ pub ascends_by : {X : Type 0} (R : X → X → Type 0) (xs : List X) → EachPai
 ascends_by R [] pairs = tt
 ascends_by R (x ∷ xs) pairs = (each_in (R x) xs pairs.0, ascends_by R xs pairs.1)
 
-pub same_of_some : {X : Type 0} (x y : X) → Some x ≡ Some y → x ≡ y
-same_of_some x y e = cc
-
 -- two texts that a test tells apart
 pub texts_differ : (a b : List ℕ) → pointwise nat_eq a a ≡ true → pointwise nat_eq a b ≡ false → a ≢ b
 texts_differ a b same other e =
     let clash : true ≡ false = sym same ∙ ap (pointwise nat_eq a) e ∙ other in
     cc
-
-pub and_parts : (a b : Bool) → a && b ≡ true → (a ≡ true) × (b ≡ true)
-and_parts true b e = (refl, e)
-and_parts false b e = cc

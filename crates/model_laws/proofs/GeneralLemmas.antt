@@ -3,6 +3,7 @@ use Rattle.std.proofs.Common.{◌≡◌, ◌≤◌, ℕ, ℤ, Bool, true, false,
 use Rattle.std.specs.Prelude.{Option, Some, None, option_map, ◌⊎◌}
 use Rattle.std.specs.List.{flat_map, filter_map}
 use Rattle.std.proofs.lemmas.Bool.Decides.{nat_tests}
+use Rattle.std.proofs.lemmas.Option.{same_Some}
 use Rattle.m3_model.specs.Members.{IsIn}
 use Rattle.m3_model.specs.Levels.{majority}
 use Rattle.transcripts.specs.Record.{Life, TurnPosition, acts_of, turns_before}
@@ -18,7 +19,6 @@ use Rattle.m3_model.specs.declared.act.WriteLevel.{WriteLevel}
 use Rattle.m3_model.specs.declared.answer.Answer.TheVariants as answer
 use Rattle.m3_model.proofs.MemberLemmas.{IsIn-append_cases, IsIn-filter_map, filter_map-IsIn}
 use Rattle.model_laws.specs.General.{AnsweredRead, FindsAcknowledged, FindsOnlySent, Writes, EarlierWrite, FindsEarlierWrites, TurnWrites, LeftUnanswered, FindsOnlyWritten}
-use Rattle.model_laws.proofs.EachLemmas.{same_of_some}
 use Rattle.model_laws.proofs.PositionLemmas.{points_kept}
 
 read_keeps : (life : Life) → Kept life → (r : AnsweredRead life) → KeepsPoints (rules_at life.present.start r.position) (acked_at life.past life.present.start r.position) (sent_at life.past life.present.start r.position) r.read r.found
@@ -57,7 +57,7 @@ writes_by : (spaces : List Space) (ns id : List ℕ) (t : ℕ) (v : ℤ) (level 
 writes_by spaces ns id t v level version point None at e = cc
 writes_by spaces ns id t v level version point (Some k) at e =
     let made : Point = record { ns = k; id = id; t = t; v = v } in
-    subst (λ x. Writes spaces (act.Write ns id t v level version) x) (same_of_some made point e) (record { ns = ns; level = level; version = version; act_is = refl; space_is = at })
+    subst (λ x. Writes spaces (act.Write ns id t v level version) x) (same_Some made point e) (record { ns = ns; level = level; version = version; act_is = refl; space_is = at })
 
 writes_of : (spaces : List Space) (a : Act) (point : Point) → point_of spaces a ≡ Some point → Writes spaces a point
 writes_of spaces (act.Write ns id t v level version) point e = writes_by spaces ns id t v level version point (namespace_position ns spaces) refl e

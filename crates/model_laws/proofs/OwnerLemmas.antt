@@ -3,6 +3,7 @@ use Rattle.std.proofs.Common.{ℕ, zero, suc, ◌≡◌, ◌<◌, ◌≤◌, ◌
 use Rattle.std.specs.Prelude.{Option, Some, None, ◌⊎◌, if◌then◌else◌, nat_lt, slice_get}
 use Rattle.std.proofs.lemmas.Grind.{flat_map-append}
 use Rattle.std.specs.List.{filter_map}
+use Rattle.std.proofs.lemmas.Option.{same_Some}
 use Rattle.m3_model.specs.Members.{IsIn}
 use Rattle.m3_model.proofs.MemberLemmas.{IsIn-append_cases, IsIn-append_right, IsIn-append_left, IsIn-filter_map, filter_map-IsIn}
 use Rattle.m3_model.specs.declared.act.Act.{Act}
@@ -18,18 +19,18 @@ use Rattle.transcripts.specs.Placements.{IsCounted, has_replica, later_placement
 use Rattle.transcripts.specs.Record.{InnerTurn, inner_turns, joined, lists_of}
 use Rattle.transcripts.specs.Waiting.{Replica, is_assigned, is_member}
 use Rattle.model_laws.specs.Building.{place}
-use Rattle.model_laws.proofs.EachLemmas.{◌also◌, each_in, same_of_some}
+use Rattle.model_laws.proofs.EachLemmas.{◌also◌, each_in}
 use Rattle.model_laws.proofs.PositionLemmas.{position_after, only_used}
 use Rattle.model_laws.proofs.SampleLemmas.{of_shard, StandsAt}
 
 -- of two placements the newer one is one of them
 newer_is : (next : Placement) (o : Option Placement) (q : Placement) → Some (newer next o) ≡ Some q → (o ≡ Some q) ⊎ (next ≡ q)
-newer_is next None q e = inr (same_of_some next q e)
+newer_is next None q e = inr (same_Some next q e)
 newer_is next (Some p) q e = chosen (nat_lt next.version p.version) e
   where
     chosen : (test : Bool) → Some (if test then p else next) ≡ Some q → (Some p ≡ Some q) ⊎ (next ≡ q)
     chosen true e = inl e
-    chosen false e = inr (same_of_some next q e)
+    chosen false e = inr (same_Some next q e)
 
 -- the placement that stands after one more answer is the one before, or the answer prints it
 later_is : (answer : Option Placement) (o : Option Placement) (q : Placement) → later_placement answer o ≡ Some q → (o ≡ Some q) ⊎ (answer ≡ Some q)
@@ -54,7 +55,7 @@ after_is o (turn ∷ turns) q e =
 -- it is known
 pub standing_known : (start : Option MetaState) (turns : List InnerTurn) (q : Placement) → placement_after (start_placement start) turns ≡ Some q → IsIn (placements start turns) q
 standing_known None turns q e = elim (after_is None turns q e) as (λ _. IsIn (placements None turns) q) [ inl none ↦ cc | inr known ↦ known ]
-standing_known (Some state) turns q e = elim (after_is (Some state.place) turns q e) as (λ _. IsIn (placements (Some state) turns) q) [ inl found ↦ inl (same_of_some state.place q found) | inr known ↦ inr known ]
+standing_known (Some state) turns q e = elim (after_is (Some state.place) turns q e) as (λ _. IsIn (placements (Some state) turns) q) [ inl found ↦ inl (same_Some state.place q found) | inr known ↦ inr known ]
 
 -- the first lines have turns of the lines
 first_turns : (k : ℕ) (lines : List Turn) (x : InnerTurn) → IsIn (inner_turns (take k lines)) x → IsIn (inner_turns lines) x
@@ -67,7 +68,7 @@ pub turn_in : (lines : List Turn) (k : ℕ) (line : Turn) → slice_get lines k 
 turn_in [] k line stands x h = cc
 turn_in (first ∷ lines) zero line stands x h =
     elim (IsIn-append_cases (joined (lists_of line)) [] x h) as (λ _. IsIn (inner_turns (first ∷ lines)) x) [
-      | inl own ↦ IsIn-append_left (joined (lists_of first)) (inner_turns lines) x (subst (λ (l : Turn). IsIn (joined (lists_of l)) x) (sym (same_of_some first line stands)) own)
+      | inl own ↦ IsIn-append_left (joined (lists_of first)) (inner_turns lines) x (subst (λ (l : Turn). IsIn (joined (lists_of l)) x) (sym (same_Some first line stands)) own)
       | inr none ↦ absurd none
     ]
 turn_in (first ∷ lines) (suc k) line stands x h = IsIn-append_right (joined (lists_of first)) (inner_turns lines) x (turn_in lines k line stands x h)

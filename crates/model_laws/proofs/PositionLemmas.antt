@@ -2,6 +2,9 @@
 use Rattle.std.proofs.Common.{◌≡◌, ◌≢◌, Bool, true, false, List, [], ◌∷◌, ◌++◌, length, refl, sym, ap, ◌∙◌, subst, inl, inr, append_assoc}
 use Rattle.std.specs.Prelude.{Option, Some, None}
 use Rattle.std.specs.List.{list_all}
+use Rattle.std.proofs.lemmas.Option.{same_Some}
+use Rattle.std.proofs.lemmas.Bool.{and_parts}
+use Rattle.std.proofs.lemmas.List.{append-nil}
 use Rattle.m3_model.specs.Members.{IsIn}
 use Rattle.transcripts.specs.Record.{Record, Life, InnerTurn, TurnPosition, IsTurnPosition, IsInLine, IsAfter, AreSomeOf, client_at, lists_of, joined, inner_turns}
 use Rattle.transcripts.specs.Rules.{rules_at}
@@ -23,7 +26,6 @@ use Rattle.m3_model.specs.declared.act.Act.{Act}
 use Rattle.m3_model.specs.declared.answer.Answer.{Answer}
 use Rattle.m3_model.specs.declared.answer.Answer.TheVariants as answer
 use Rattle.m3_model.proofs.SplitLemmas.{not_empty}
-use Rattle.model_laws.proofs.EachLemmas.{same_of_some, and_parts}
 pub use Rattle.model_laws.specs.Building.{position_after}
 use Rattle.model_laws.specs.Building.{line, life_of}
 
@@ -32,16 +34,12 @@ abbrev pub EachSplit : {X : Type 0} → (List X → X → List X → Type 0) →
 EachSplit Q front [] = Unit {0}
 EachSplit Q front (x ∷ back) = Q front x back × EachSplit Q (front ++ x ∷ []) back
 
-append_nil : {X : Type 0} (xs : List X) → xs ++ [] ≡ xs
-append_nil [] = refl
-append_nil (x ∷ xs) = ap (λ ys. x ∷ ys) (append_nil xs)
-
 pub each_split : {X : Type 0} (Q : List X → X → List X → Type 0) (front xs ys : List X) (z : X) (zs : List X) → EachSplit Q front xs → xs ≡ ys ++ z ∷ zs → Q (front ++ ys) z zs
 each_split Q front [] ys z zs each e = absurd (not_empty ys z zs e)
 each_split Q front (x ∷ xs) [] z zs each e =
     let same : x ≡ z = cc in
     let rest : xs ≡ zs = cc in
-    subst (λ w. Q (front ++ []) w zs) same (subst (λ ws. Q (front ++ []) x ws) rest (subst (λ ws. Q ws x xs) (sym (append_nil front)) each.0))
+    subst (λ w. Q (front ++ []) w zs) same (subst (λ ws. Q (front ++ []) x ws) rest (subst (λ ws. Q ws x xs) (sym (append-nil front)) each.0))
 each_split Q front (x ∷ xs) (y ∷ ys) z zs each e =
     let same : x ≡ y = cc in
     let rest : xs ≡ ys ++ z ∷ zs = cc in
@@ -128,14 +126,14 @@ position_after-stands lines a b after = record { after = after; in_run = refl; s
 
 -- outside `par` an answer is given after all lines before
 pub only_after : (lines : List Turn) (a : Act) (b : Answer) (turns : List InnerTurn) → IsAfter (position_after lines a b) turns → turns ≡ inner_turns lines
-only_after lines a b turns after = after.are ∙ ap (λ xs. inner_turns lines ++ xs) (none_of after.others after.some_of) ∙ append_nil (inner_turns lines)
+only_after lines a b turns after = after.are ∙ ap (λ xs. inner_turns lines ++ xs) (none_of after.others after.some_of) ∙ append-nil (inner_turns lines)
   where
     none_of : (others : List InnerTurn) → AreSomeOf others [] → others ≡ []
     none_of [] some = refl
     none_of (x ∷ others) some = absurd some
 
 pub after_all : (lines : List Turn) (a : Act) (b : Answer) → IsAfter (position_after lines a b) (inner_turns lines)
-after_all lines a b = record { others = []; some_of = tt; are = sym (append_nil (inner_turns lines)) }
+after_all lines a b = record { others = []; some_of = tt; are = sym (append-nil (inner_turns lines)) }
 
 -- an answer that is due after all that is before it has its cause
 pub due_beside : (tells : Bool) (faults : List Fault) (messages : List LateMessage) (p : TurnPosition) → IsDueBy tells faults None messages p (refusal_after None p (inner_turns p.lines ++ (p.earlier ++ []))) → CausedAt tells faults [] None messages p
@@ -174,7 +172,7 @@ stands_then lines a b x stood = (inner_turns lines, after_all lines a b, stood)
 
 -- and no other one
 pub used_from : (start : Option MetaState) (lines : List Turn) (a : Act) (b : Answer) (x used : Placement) → placement_after (start_placement start) (inner_turns lines) ≡ Some x → MayStand start (position_after lines a b) used → x ≡ used
-used_from start lines a b x used stood may = same_of_some x used (sym stood ∙ subst (λ turns. placement_after (start_placement start) turns ≡ Some used) (only_after lines a b may.0 may.1) may.2)
+used_from start lines a b x used stood may = same_Some x used (sym stood ∙ subst (λ turns. placement_after (start_placement start) turns ≡ Some used) (only_after lines a b may.0 may.1) may.2)
 
 pub only_used : (lines : List Turn) (a : Act) (b : Answer) (x used : Placement) → placement_after None (inner_turns lines) ≡ Some x → MayStand None (position_after lines a b) used → x ≡ used
 only_used lines a b x used stood may = used_from None lines a b x used stood may
@@ -187,11 +185,11 @@ no_read past start p none found e = cc
 pub kept_read : (past : List Record) (start : Option MetaState) (p : TurnPosition) (read : Read) (found : Found) → found_of p.turn.answer ≡ Some found → read_of (rules_at start p).spaces p.turn.act ≡ Some read
     → KeepsPoints (rules_at start p) (acked_at past start p) (sent_at past start p) read found → KeptAt past start p
 kept_read past start p read found is asked keeps other e =
-    subst (λ f. KeepsRead past start p f) (same_of_some found other (sym is ∙ e)) (record { read = read; asked = asked; keeps = keeps })
+    subst (λ f. KeepsRead past start p f) (same_Some found other (sym is ∙ e)) (record { read = read; asked = asked; keeps = keeps })
 
 -- what a kept read that is known keeps
 pub points_kept : (past : List Record) (start : Option MetaState) (p : TurnPosition) (read : Read) (found : Found) → KeptAt past start p → found_of p.turn.answer ≡ Some found → read_of (rules_at start p).spaces p.turn.act ≡ Some read
     → KeepsPoints (rules_at start p) (acked_at past start p) (sent_at past start p) read found
 points_kept past start p read found kept is asked =
     let kept_one : KeepsRead past start p found = kept found is in
-    subst (λ r. KeepsPoints (rules_at start p) (acked_at past start p) (sent_at past start p) r found) (same_of_some kept_one.read read (sym kept_one.asked ∙ asked)) kept_one.keeps
+    subst (λ r. KeepsPoints (rules_at start p) (acked_at past start p) (sent_at past start p) r found) (same_Some kept_one.read read (sym kept_one.asked ∙ asked)) kept_one.keeps

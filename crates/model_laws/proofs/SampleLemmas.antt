@@ -16,6 +16,7 @@ use Rattle.transcripts.specs.Waiting.{Replica, waiting_after}
 use Rattle.transcripts.specs.Fates.{numbering_after, call_number, fate_in, fate_at, is_stopped, is_reached, reaches}
 use Rattle.m3_model.specs.Delivery.{is_cut}
 use Rattle.std.specs.Option.{option_map_or}
+use Rattle.std.proofs.lemmas.Option.{same_Some}
 use Rattle.m3_model.specs.declared.act.Act.{Act}
 use Rattle.m3_model.specs.declared.answer.Answer.{Answer}
 use Rattle.m3_model.specs.declared.placement.Instance.{Instance}
@@ -27,7 +28,7 @@ use Rattle.m3_model.specs.declared.rules.Rules.{Rules}
 use Rattle.m3_model.specs.declared.act.ReadLevel.TheVariants as read_level
 use Rattle.m3_model.specs.declared.turn.Turn.{Turn}
 use Rattle.model_laws.specs.Building.{space, place, line, fetch, matching, found, life_of}
-use Rattle.model_laws.proofs.EachLemmas.{Each, same_of_some}
+use Rattle.model_laws.proofs.EachLemmas.{Each}
 use Rattle.model_laws.proofs.PositionLemmas.{position_after, position_after-stands, points_kept}
 
 -- the rules with the one namespace at a moment
@@ -89,7 +90,7 @@ sought now from to t v above below live = record {
 -- a point that is sought is still kept
 pub sought-live : (now from to t : ℕ) (v : ℤ) → IsSought (rules_when now) (reading from to) (hello t v) → now < t + 500
 sought-live now from to t v s =
-    let same : space ≡ s.live.space = same_of_some space s.live.space s.live.stands in
+    let same : space ≡ s.live.space = same_Some space s.live.space s.live.stands in
     subst (λ x. now < t + x.retention) (sym same) s.live.kept
 
 -- what the fetch at the end of a kept life keeps

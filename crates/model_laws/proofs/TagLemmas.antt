@@ -4,7 +4,7 @@ use Rattle.std.specs.Str.{IsAscii}
 use Rattle.std.specs.List.{list_all}
 use Rattle.std.proofs.lemmas.Bool.Decides.{nat_tests}
 use Rattle.std.proofs.lemmas.Str.{IsUtf8-from_ascii}
-use Rattle.m3_model.proofs.RangeLemmas.{both_true}
+use Rattle.std.proofs.lemmas.Bool.{and_parts}
 use Rattle.m3_model.specs.Tags.{IsSpelledBy, HasTags, IsBelow, is_tag_name}
 use Rattle.model_laws.proofs.EachLemmas.{each_in}
 
@@ -12,7 +12,7 @@ use Rattle.model_laws.proofs.EachLemmas.{each_in}
 IsAscii-from_test : (bytes : List ℕ) → list_all (λ b. nat_lt b 128) bytes ≡ true → IsAscii bytes
 IsAscii-from_test [] e i = omega arith
 IsAscii-from_test (b ∷ bs) e zero = grind (arith, nat_tests)
-IsAscii-from_test (b ∷ bs) e (suc i) = IsAscii-from_test bs (both_true (nat_lt b 128) _ e).1 i
+IsAscii-from_test (b ∷ bs) e (suc i) = IsAscii-from_test bs (and_parts (nat_lt b 128) _ e).1 i
 
 -- two tags
 abbrev pair : List (List ℕ × List ℕ)

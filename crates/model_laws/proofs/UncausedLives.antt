@@ -17,6 +17,7 @@ use Rattle.m3_model.specs.Tags.{IsBelow}
 use Rattle.m3_model.specs.Ascends.{Ascends}
 use Rattle.m3_model.specs.Levels.{needed_write, needed_read}
 use Rattle.std.specs.declared.cmp.Ordering.TheVariants.{Less, Equal, Greater}
+use Rattle.std.proofs.lemmas.Option.{same_Some}
 use Rattle.m3_model.specs.declared.act.Act.{Act}
 use Rattle.m3_model.specs.declared.act.Act.TheVariants as act
 use Rattle.m3_model.specs.declared.act.ReadLevel.TheVariants as read_level
@@ -36,7 +37,7 @@ use Rattle.model_laws.specs.Refused.{with_point_answered}
 use Rattle.model_laws.specs.Uncaused.{write_answered, write_first, made_twice, fetch_short, made_of_two, restart_refused}
 use Rattle.model_laws.specs.Messages.{stopped}
 use Rattle.model_laws.proofs.PositionLemmas.{position_after, position_after-stands, only_after, due_after, only_used}
-use Rattle.model_laws.proofs.EachLemmas.{◌also◌, each_in, not_in_each, same_of_some, texts_differ}
+use Rattle.model_laws.proofs.EachLemmas.{◌also◌, each_in, not_in_each, texts_differ}
 use Rattle.model_laws.proofs.OwnerLemmas.{none_unowned, none_fenced}
 use Rattle.model_laws.proofs.SampleLemmas.{hello, of_shard, rules_when, StandsAt, stands, not_cut, WindowRefuses, call_with}
 
@@ -102,8 +103,8 @@ acks_too_few-refused caused = let enough : 2 ≤ 1 = (taken_at_100 (0 ∷ []) ca
 -- two nodes whose names are known
 pub names_below : (a b : ℕ) (one other : Instance) → slice_get place.instances a ≡ Some one → slice_get place.instances b ≡ Some other → IsNamedBelow place a b → IsBelow one.name other.name
 names_below a b one other of_one of_other below =
-    let first : below.one ≡ one = same_of_some below.one one (sym below.of_one ∙ of_one) in
-    let second : below.other ≡ other = same_of_some below.other other (sym below.of_other ∙ of_other) in
+    let first : below.one ≡ one = same_Some below.one one (sym below.of_one ∙ of_one) in
+    let second : below.other ≡ other = same_Some below.other other (sym below.of_other ∙ of_other) in
     subst (λ x. IsBelow x.name other.name) first (subst (λ x. IsBelow below.one.name x.name) second below.below)
 
 pub acks_repeated-refused : ¬ Caused true (life_of (write_answered (acks (0 ∷ 0 ∷ [])))) []
@@ -126,8 +127,8 @@ acks_of_no_node-refused caused = not_counted_7 ((taken_at_100 (0 ∷ 1 ∷ 7 ∷
 -- the point of a write of `hello` is known, and so is its namespace
 write_known : (t : ℕ) (v : ℤ) (point : Point) (within : Space) → Some (hello t v) ≡ Some point → slice_get (space ∷ []) point.ns ≡ Some within → (point ≡ hello t v) × (within ≡ space)
 write_known t v point within e stood =
-    let same : point ≡ hello t v = sym (same_of_some (hello t v) point e) in
-    (same, sym (same_of_some space within (subst (λ p. slice_get (space ∷ []) p.ns ≡ Some within) same stood)))
+    let same : point ≡ hello t v = sym (same_Some (hello t v) point e) in
+    (same, sym (same_Some space within (subst (λ p. slice_get (space ∷ []) p.ns ≡ Some within) same stood)))
 
 -- a point that is taken lies above the moment less 100, and below the moment and 50
 takes-window : (now t : ℕ) (v : ℤ) → TakesPoint (rules_when now) (write t v) → (now < t + 100) × (t < now + 50)
@@ -177,7 +178,7 @@ window_refuses lines rules a b node _ stood counts may = absurd may
 unmet_by : (now : ℕ) (a : Act) (b : Answer) (needs : ℕ → ℕ) (got needed : ℕ) (reasons : List (ℕ × Reason)) → StandsAt (begun now []) (rules_when now) → call_of a ≡ Some (call_with needs)
     → MissesLevel true [] None (position_after (begun now []) a b) got needed reasons 0 → UnmetBy now a (needs 3) got needed reasons
 unmet_by now a b needs got needed reasons stood is due =
-    let known : call_with needs ≡ due.call = same_of_some (call_with needs) due.call (sym is ∙ due.of_act) in
+    let known : call_with needs ≡ due.call = same_Some (call_with needs) due.call (sym is ∙ due.of_act) in
     let may : MayUse None (position_after (begun now []) a b) None due.place = subst (λ call. MayUse None (position_after (begun now []) a b) call.version due.place) (sym known) due.may_use in
     let same : place ≡ due.place = only_used (begun now []) a b place due.place stood.place_is may in
     let counts : (r : ℕ × Reason) → IsIn reasons r → IsCounted place 0 r.0 = subst (λ x. (r : ℕ × Reason) → IsIn reasons r → IsCounted x 0 r.0) (sym same) due.silent.counted in
@@ -288,7 +289,7 @@ one_reason shard caused =
     let b = answer.Consistency 0 1 ((0, reason.Memory) ∷ []) shard in
     let call = call_with (needed_write write_level.Majority) in
     let due : MissesLevel true [] None (position_after two_made a b) 0 1 ((0, reason.Memory) ∷ []) shard = due_after two_made a b [] (λ e. cc) (λ e. cc) caused in
-    let known : call ≡ due.call = same_of_some call due.call due.of_act in
+    let known : call ≡ due.call = same_Some call due.call due.of_act in
     let same : due.place ≡ place_of_two = sym (only_used two_made a b place_of_two due.place refl (subst (λ c. MayUse None (position_after two_made a b) c.version due.place) (sym known) due.may_use)) in
     record {
       asked = subst (λ x. IsAskedOf (Some (codes "hello")) 0 (length x.shards) shard) same (subst (λ c. IsAskedOf c.id 0 (length due.place.shards) shard) (sym known) due.asked);

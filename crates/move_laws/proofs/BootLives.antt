@@ -1,6 +1,7 @@
 -- What a bootstrap prints.
 use Rattle.std.proofs.Common.{ℕ, zero, suc, ◌≡◌, ◌≢◌, ◌<◌, ◌∙◌, true, false, List, [], ◌∷◌, length, refl, sym, subst, ap, inl, inr, arith}
 use Rattle.std.specs.Prelude.{Option, Some, None, codes, slice_get, IsTrue}
+use Rattle.std.proofs.lemmas.Option.{same_Some}
 use Rattle.m3_model.specs.Members.{IsIn}
 use Rattle.m3_model.specs.declared.act.Act.TheVariants as act
 use Rattle.m3_model.specs.declared.answer.Answer.{Answer}
@@ -20,7 +21,7 @@ use Rattle.transcripts.specs.Record.{AreSomeOf, InnerTurn, TurnPosition}
 use Rattle.transcripts.specs.Waiting.{is_covering}
 use Rattle.model_laws.specs.Building.{begun, life_of, nodes, place}
 use Rattle.fault_laws.specs.Faulty.{bootstrap_c}
-use Rattle.model_laws.proofs.EachLemmas.{◌also◌, each_in, ascends_by, same_of_some, texts_differ}
+use Rattle.model_laws.proofs.EachLemmas.{◌also◌, each_in, ascends_by, texts_differ}
 use Rattle.model_laws.proofs.PositionLemmas.{position_after, position_after-stands, after_all, caused_by_positions, due_after, due_from, due_here, only, only_used, used_from}
 use Rattle.move_laws.specs.Moving.{both_moving, both_on_a, both_to_a, first_on_a, held, holding, leaving, reopened_with, b_to_a, on_a, joining, a_took, a_joined, both_print, bootstrap, reopened_moving}
 use Rattle.move_laws.proofs.MovingLemmas.{of_name}
@@ -29,10 +30,10 @@ use Rattle.move_laws.proofs.MovingLemmas.{of_name}
 
 -- the first placement's shards, and how they stand once a has the second
 ends_there : (k : ℕ) (a b : Shard) → slice_get b_to_a.shards k ≡ Some a → slice_get on_a.shards k ≡ Some b → EndsAsNamed ((1, 0) ∷ []) k a b
-ends_there zero a b is next = same_of_some b a (sym next ∙ is)
+ends_there zero a b is next = same_Some b a (sym next ∙ is)
 ends_there (suc zero) a b is next =
-    subst (λ (s : Shard). EndsAsNamed ((1, 0) ∷ []) 1 s b) (same_of_some (shard_at b_to_a 1) a is)
-    (joining 0 2 1, inr (inl refl), record { node = refl; from = 1; joins = (refl, refl); next_is = same_of_some b (shard_at on_a 1) (sym next) })
+    subst (λ (s : Shard). EndsAsNamed ((1, 0) ∷ []) 1 s b) (same_Some (shard_at b_to_a 1) a is)
+    (joining 0 2 1, inr (inl refl), record { node = refl; from = 1; joins = (refl, refl); next_is = same_Some b (shard_at on_a 1) (sym next) })
 ends_there (suc (suc k)) a b is next = cc
 
 turned_available : IsAvailable b_to_a ((1, 0) ∷ []) on_a
@@ -86,14 +87,14 @@ not_left e = cc
 first_stays : (node : ℕ) → ¬ IsJoiningPair b_to_a.shards (0, node)
 first_stays node pair =
     let joins = pair.joins.1 in
-    each_in (λ (a : Assignment). a.state ≢ Initializing) (shard_at b_to_a 0) (not_joining also tt) joins.0 (subst (λ (s : Shard). IsIn s joins.0) (sym (same_of_some (shard_at b_to_a 0) pair.shard pair.stands)) joins.1) joins.3.0
+    each_in (λ (a : Assignment). a.state ≢ Initializing) (shard_at b_to_a 0) (not_joining also tt) joins.0 (subst (λ (s : Shard). IsIn s joins.0) (sym (same_Some (shard_at b_to_a 0) pair.shard pair.stands)) joins.1) joins.3.0
 
 -- a is joining the second
 a_joins_second : (node : ℕ) → IsJoiningPair b_to_a.shards (1, node) → 0 ≡ node
 a_joins_second node pair =
     let joins = pair.joins.1 in
     each_in (λ (a : Assignment). a.state ≡ Initializing → a.node ≡ node → 0 ≡ node) (shard_at b_to_a 1) ((λ state is. absurd (not_left state)) also (λ state is. is) also tt) joins.0
-    (subst (λ (s : Shard). IsIn s joins.0) (sym (same_of_some (shard_at b_to_a 1) pair.shard pair.stands)) joins.1) joins.3.0 joins.2
+    (subst (λ (s : Shard). IsIn s joins.0) (sym (same_Some (shard_at b_to_a 1) pair.shard pair.stands)) joins.1) joins.3.0 joins.2
 
 pub uncovered-refused : (faults : List Fault) → ¬ Caused true (reopened_moving (bootstrap (codes "a") (Some 0) a_took ∷ [])) faults
 uncovered-refused faults caused = let bad : false ≡ true = (left_of b_to_a faults (codes "a") (Some 0) ((1, 1 ∷ []) ∷ []) on_a 3 refl caused).covered (1, 1 ∷ []) (inl refl) in cc
@@ -148,16 +149,16 @@ other_names-refused faults caused =
 
 -- how a shard stands once a has it
 second_ends : (b : Shard) → Some (holding 0 2 ∷ []) ≡ Some b → Ends (leaving 1 1 ∷ joining 0 2 1 ∷ []) b 0
-second_ends b next = (joining 0 2 1, inr (inl refl), record { node = refl; from = 1; joins = (refl, refl); next_is = same_of_some b (holding 0 2 ∷ []) (sym next) })
+second_ends b next = (joining 0 2 1, inr (inl refl), record { node = refl; from = 1; joins = (refl, refl); next_is = same_Some b (holding 0 2 ∷ []) (sym next) })
 
 both_end : (k : ℕ) (a b : Shard) → slice_get both_to_a.shards k ≡ Some a → slice_get both_on_a.shards k ≡ Some b → EndsAsNamed ((0, 0) ∷ (1, 0) ∷ []) k a b
-both_end zero a b is next = subst (λ (s : Shard). Ends s b 0) (same_of_some (shard_at both_to_a 0) a is) (second_ends b next)
-both_end (suc zero) a b is next = subst (λ (s : Shard). Ends s b 0) (same_of_some (shard_at both_to_a 1) a is) (second_ends b next)
+both_end zero a b is next = subst (λ (s : Shard). Ends s b 0) (same_Some (shard_at both_to_a 0) a is) (second_ends b next)
+both_end (suc zero) a b is next = subst (λ (s : Shard). Ends s b 0) (same_Some (shard_at both_to_a 1) a is) (second_ends b next)
 both_end (suc (suc k)) a b is next = cc
 
 first_ends : (k : ℕ) (a b : Shard) → slice_get both_to_a.shards k ≡ Some a → slice_get first_on_a.shards k ≡ Some b → EndsAsNamed ((0, 0) ∷ []) k a b
-first_ends zero a b is next = subst (λ (s : Shard). Ends s b 0) (same_of_some (shard_at both_to_a 0) a is) (second_ends b next)
-first_ends (suc zero) a b is next = same_of_some b a (sym next ∙ is)
+first_ends zero a b is next = subst (λ (s : Shard). Ends s b 0) (same_Some (shard_at both_to_a 0) a is) (second_ends b next)
+first_ends (suc zero) a b is next = same_Some b a (sym next ∙ is)
 first_ends (suc (suc k)) a b is next = cc
 
 -- a is joining each of them
@@ -225,7 +226,7 @@ nobody-refused faults caused = by_answer (caused.each first_worker (record { aft
   where
     by_boot : IsBootstrapped (Some (held b_to_a)) first_worker (codes "a") None [] on_a 3 → ⊥
     by_boot told = elim told.made as (λ _. ⊥) [
-      | inl base ↦ let same : b_to_a ≡ told.before = same_of_some b_to_a told.before base in omega (arith, ap (λ (q : Placement). q.version) (same ∙ sym told.left))
+      | inl base ↦ let same : b_to_a ≡ told.before = same_Some b_to_a told.before base in omega (arith, ap (λ (q : Placement). q.version) (same ∙ sym told.left))
       | inr t ↦ elim t.1 as (λ _. ⊥) [ inl same ↦ subst (λ (u : InnerTurn). EndsInto u.answer told.before) (sym same) t.2 | inr none ↦ none ]
     ]
 

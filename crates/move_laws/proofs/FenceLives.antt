@@ -1,6 +1,7 @@
 -- Which fences moves leave.
 use Rattle.std.proofs.Common.{ℕ, ◌≡◌, ◌≢◌, ◌<◌, ◌≤◌, ◌∙◌, true, false, List, [], ◌∷◌, ◌++◌, take, drop, suc, refl, sym, subst, inl, inr, arith}
 use Rattle.std.specs.Prelude.{Some, None, codes, ◌⊎◌}
+use Rattle.std.proofs.lemmas.Option.{same_Some}
 use Rattle.m3_model.specs.Members.{IsIn}
 use Rattle.m3_model.specs.declared.act.Act.{Act}
 use Rattle.m3_model.specs.declared.act.Act.TheVariants as act
@@ -19,7 +20,7 @@ use Rattle.transcripts.specs.Placements.{placements}
 use Rattle.transcripts.specs.Reasons.{MayRefuse}
 use Rattle.transcripts.specs.Record.{InnerTurn, TurnPosition, inner_turns}
 use Rattle.model_laws.specs.Building.{place_of_two, two_made}
-use Rattle.model_laws.proofs.EachLemmas.{Each, ◌also◌, each_in, same_of_some, texts_differ}
+use Rattle.model_laws.proofs.EachLemmas.{Each, ◌also◌, each_in, texts_differ}
 use Rattle.model_laws.proofs.PositionLemmas.{only_used, stands_then}
 use Rattle.move_laws.specs.Moving.{asked_after, asked_before, cancelled, b_to_a, on_a, joining, bootstrap, b_drained, a_joined, a_joins, a_prints_move, a_refused, moved_to_a, call_at, MayRefuseAfter, MayRefuseBeside}
 use Rattle.model_laws.proofs.CausedLives.{each_at}
@@ -124,7 +125,7 @@ none_asked-refused faults may =
 -- a placement that gives nobody the shard with this tenure is of no move with it
 gives_none : (q place : Placement) (node : ℕ) → Each (λ (a : Assignment). a.tenure ≢ 2) (shard_at q 1) → (Some q ≡ Some place) ⊎ (Some q ≡ Some place) → ¬ HasAssignment place 1 node (λ tenure. tenure ≡ 2)
 gives_none q place node none stood given =
-    let same : q ≡ place = elim stood as (λ _. q ≡ place) [ inl first ↦ same_of_some q place first | inr last ↦ same_of_some q place last ] in
+    let same : q ≡ place = elim stood as (λ _. q ≡ place) [ inl first ↦ same_Some q place first | inr last ↦ same_Some q place last ] in
     each_in (λ (a : Assignment). a.tenure ≢ 2) (shard_at q 1) none given.assignment (subst (λ x. IsIn (shard_at x 1) given.assignment) (sym same) given.among) given.kind
 
 pub early-refused : (faults : List Fault) → ¬ MayRefuseAfter true faults asked_before place_of_two 1 (reason.Stale 2)
@@ -209,7 +210,7 @@ pub left-of_move : (state : MetaState) (p : TurnPosition) (used : Placement) (sh
 left-of_move state p used shard fence later fenced =
     elim fenced.cause as (λ _. IsOfMove (Some state) p shard fence) [
       | inl left ↦ (
-          let same : state ≡ left.state = same_of_some state left.state left.found in
+          let same : state ≡ left.state = same_Some state left.state left.found in
           let low : fence ≤ state.place.version = subst (λ (s : MetaState). fence ≤ s.place.version) (sym same) left.not_above in
           let high : used.version < fence = fenced.above in
           absurd (omega (arith, low, high, later)))

@@ -1,13 +1,13 @@
 -- What stands and what is known in the worked transcripts in which a shard moves.
 use Rattle.std.proofs.Common.{ℕ, zero, suc, ◌≡◌, ◌<◌, ◌∙◌, List, [], ◌∷◌, ◌++◌, refl, sym, subst, ap, inl, inr, arith}
 use Rattle.std.specs.Prelude.{Some, None, ◌⊎◌, slice_get}
+use Rattle.std.proofs.lemmas.Option.{same_Some}
 use Rattle.m3_model.specs.declared.placement.Instance.{Instance}
 use Rattle.m3_model.specs.declared.placement.Placement.{Placement}
 use Rattle.transcripts.specs.Fates.{OfNode}
 use Rattle.transcripts.specs.Placements.{MayStand, placement_after}
 use Rattle.transcripts.specs.Record.{InnerTurn, TurnPosition, AreSomeOf, inner_turns}
 use Rattle.transcripts.specs.Waiting.{Replica}
-use Rattle.model_laws.proofs.EachLemmas.{same_of_some}
 
 -- b's replica of the shard that moves
 abbrev pub of_b : List ℕ → Replica
@@ -15,7 +15,7 @@ of_b name = record { shard = 1; node = 1; name = name }
 
 -- what is so of the name of a node that is known
 pub of_name : (q : Placement) (Holds : List ℕ → Type 0) (node : ℕ) (one : Instance) → slice_get q.instances node ≡ Some one → OfNode q node Holds → Holds one.name
-of_name q Holds node one stood fact = subst (λ (i : Instance). Holds i.name) (same_of_some fact.instance_ one (sym fact.stands ∙ stood)) fact.holds
+of_name q Holds node one stood fact = subst (λ (i : Instance). Holds i.name) (same_Some fact.instance_ one (sym fact.stands ∙ stood)) fact.holds
 
 -- a number below the next one is below this one, or is it
 pub below_or : (m n : ℕ) → n < suc m → (n < m) ⊎ (n ≡ m)
@@ -29,7 +29,7 @@ pub only_behind : (p : TurnPosition) (x used : Placement) → p.beside ≡ [] �
 only_behind p x used alone stood may =
     let others : may.1.others ≡ [] = none_of may.1.others (subst (AreSomeOf may.1.others) alone may.1.some_of) in
     let turns : may.0 ≡ inner_turns p.lines ++ (p.earlier ++ []) = may.1.are ∙ ap (λ xs. inner_turns p.lines ++ (p.earlier ++ xs)) others in
-    same_of_some x used (sym stood ∙ subst (λ ts. placement_after None ts ≡ Some used) turns may.2)
+    same_Some x used (sym stood ∙ subst (λ ts. placement_after None ts ≡ Some used) turns may.2)
   where
     none_of : (others : List InnerTurn) → AreSomeOf others [] → others ≡ []
     none_of [] some = refl

@@ -1,6 +1,7 @@
 -- Which nodes don't own a shard that moves.
 use Rattle.std.proofs.Common.{ℕ, suc, ◌≡◌, ◌<◌, ◌∙◌, Bool, true, false, List, [], ◌∷◌, ◌++◌, refl, sym, subst, inl, inr, arith}
 use Rattle.std.specs.Prelude.{Some, None, pos, codes, slice_get}
+use Rattle.std.proofs.lemmas.Option.{same_Some}
 use Rattle.m3_model.specs.Levels.{needed_write}
 use Rattle.m3_model.specs.Members.{IsIn}
 use Rattle.m3_model.specs.declared.act.WriteLevel.TheVariants as write_level
@@ -19,7 +20,7 @@ use Rattle.transcripts.specs.Record.{TurnPosition, inner_turns}
 use Rattle.transcripts.specs.Waiting.{is_assigned, is_member}
 use Rattle.model_laws.specs.Building.{begun, life_of, place, place_of_two, two_made, write, unmet, by_each}
 use Rattle.model_laws.specs.Uncaused.{write_answered}
-use Rattle.model_laws.proofs.EachLemmas.{◌also◌, each_in, same_of_some}
+use Rattle.model_laws.proofs.EachLemmas.{◌also◌, each_in}
 use Rattle.model_laws.proofs.PositionLemmas.{position_after, due_after, only_used, stands_then}
 use Rattle.model_laws.proofs.SampleLemmas.{call_with, rules_when, stands}
 use Rattle.model_laws.proofs.OwnerLemmas.{never_assigned, none_unowned}
@@ -35,7 +36,7 @@ one_placement-refused tells faults caused =
     let p = position_after lines a b in
     let call = call_with (needed_write write_level.Majority) in
     let missed : MissesLevel tells faults None p 0 2 (by_each reason.NotOwned) 0 = due_after lines a b [] (λ e. cc) (λ e. cc) caused in
-    let known : call ≡ missed.call = same_of_some call missed.call missed.of_act in
+    let known : call ≡ missed.call = same_Some call missed.call missed.of_act in
     let same : place ≡ missed.place = only_used lines a b place missed.place refl (subst (λ c. MayUse None p c.version missed.place) (sym known) missed.may_use) in
     none_unowned lines (rules_when 100) a b 0 (stands refl refl refl refl refl (λ name. refl) (λ name. refl also refl also refl also tt)) counted_0
     (subst (λ x. MayRefuse tells faults None p x 0 0 reason.NotOwned) (sym same) (missed.silent.refused (0, reason.NotOwned) (inl refl)))

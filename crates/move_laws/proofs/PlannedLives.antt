@@ -3,6 +3,7 @@ use Rattle.std.proofs.Common.{◌≡◌, ◌≢◌, ◌<◌, ◌≤◌, ◌+◌,
 use Rattle.std.specs.Prelude.{◌⊎◌, codes}
 use Rattle.std.specs.Option.{option_or}
 use Rattle.std.specs.Ordering.{is_gt}
+use Rattle.std.proofs.lemmas.Option.{same_Some}
 use Rattle.m3_model.specs.Ascends.{Ascends}
 use Rattle.m3_model.specs.Members.{IsIn}
 use Rattle.m3_model.specs.Names.{is_name}
@@ -29,7 +30,7 @@ use Rattle.transcripts.specs.Placements.{HadReplica, has_replica}
 use Rattle.transcripts.specs.Record.{inner_turns}
 use Rattle.model_laws.specs.Building.{assigned, life_of, place_of_two, two_made, two_nodes, with_two_shards}
 use Rattle.model_laws.proofs.CausedLives.{first_placement_of_two}
-use Rattle.model_laws.proofs.EachLemmas.{◌also◌, ascends_by, each_in, same_of_some, texts_differ}
+use Rattle.model_laws.proofs.EachLemmas.{◌also◌, ascends_by, each_in, texts_differ}
 use Rattle.model_laws.proofs.PositionLemmas.{caused_by_positions, due, due_after, due_from, only, position_after}
 use Rattle.move_laws.specs.Moving.{at_both, held, holding, joining, leaving}
 use Rattle.move_laws.specs.Planned.{CancelIsRefused, a_drained, add_answered, add_c, c_takes_first, c_takes_none, c_takes_second, drain_a, drain_answered, init_answered, remove_answered, uneven, untaken_of}
@@ -116,7 +117,7 @@ drain_plan = record {
     Made = MovesAway nodes place_of_two.shards a_drained.shards 2 0
 
     by : (k : ℕ) (a b x y : Shard) → Some x ≡ Some a → Some y ≡ Some b → Made k x y → Made k a b
-    by k a b x y e f h = subst (λ z. Made k z b) (same_of_some x a e) (subst (Made k x) (same_of_some y b f) h)
+    by k a b x y e f h = subst (λ z. Made k z b) (same_Some x a e) (subst (Made k x) (same_Some y b f) h)
 
     made : (k : ℕ) (a b : Shard) → slice_get place_of_two.shards k ≡ Some a → slice_get a_drained.shards k ≡ Some b → Made k a b
     made zero a b e f =

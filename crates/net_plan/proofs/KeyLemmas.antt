@@ -3,20 +3,14 @@ use Rattle.std.proofs.Common.{◌≡◌, ◌≢◌, Bool, true, false, refl, ap}
 use Rattle.std.specs.FinMap.{IsAntisymmetric, nat_cmp-IsAntisymmetric}
 use Rattle.std.specs.Cmp.{IsTotalOrder, tied_itself}
 use Rattle.std.specs.Ordering.{nat_cmp, ordering_then, eq_by_cmp, is_eq}
-use Rattle.std.specs.declared.cmp.Ordering.{Ordering}
-use Rattle.std.specs.declared.cmp.Ordering.TheVariants.{Less, Equal, Greater}
 use Rattle.std.proofs.lemmas.Cmp.{then_total, on_total, nat_cmp_total}
 use Rattle.m3_model.proofs.Keyed.{equal_of}
+use Rattle.m3_model.proofs.Orders.{both_equal}
 use Rattle.net_plan.specs.FateKeys.{fate_key_cmp}
 use Rattle.net_plan.specs.declared.fate_key.FateKey.{FateKey}
 
 pub fate_key_cmp_total : IsTotalOrder fate_key_cmp
 fate_key_cmp_total = then_total (on_total (λ k. k.client) nat_cmp_total) (then_total (on_total (λ k. k.call) nat_cmp_total) (on_total (λ k. k.node) nat_cmp_total))
-
-both_equal : (a b : Ordering) → ordering_then a b ≡ Equal → (a ≡ Equal) × (b ≡ Equal)
-both_equal Less b e = cc
-both_equal Equal b e = (refl, e)
-both_equal Greater b e = cc
 
 pub fate_key_cmp-IsAntisymmetric : IsAntisymmetric fate_key_cmp
 fate_key_cmp-IsAntisymmetric x y e =

@@ -16,6 +16,7 @@ use Rattle.std.proofs.lemmas.Map.Entries.{lookup_at_gap}
 use Rattle.std.proofs.lemmas.Map.Views.{Contains-from_lookup, lookup-from_Contains}
 use Rattle.m3_model.specs.Ascends.{Ascends}
 use Rattle.m3_model.proofs.MemberLemmas.{IsIn-map, map-IsIn}
+use Rattle.m3_model.proofs.Lists.{All-from_each}
 use Rattle.m3_model.specs.Members.{IsIn}
 use Rattle.m3_model.specs.declared.act.Fate.{Fate}
 use Rattle.m3_model.specs.declared.act.Fate.TheVariants.{Deliver}
@@ -24,7 +25,7 @@ use Rattle.net_plan.specs.Fates.{Item, key_of, entry_of, FateMap, fates_of, fate
 use Rattle.net_plan.specs.Laws.{FindsListed, DeliversOthers, ListsFound}
 use Rattle.net_plan.specs.declared.fate_key.FateKey.{FateKey}
 use Rattle.net_plan.proofs.KeyLemmas.{fate_key_cmp_total, fate_key_cmp-IsAntisymmetric, same_key, keys_apart}
-use Rattle.net_plan.proofs.ListLemmas.{IsIn-from_Contains, Contains-from_IsIn, All-from_each}
+use Rattle.net_plan.proofs.ListLemmas.{IsIn-from_Contains, Contains-from_IsIn}
 
 abbrev pub same : FateKey → FateKey → Bool
 same = eq_by_cmp fate_key_cmp

@@ -5,7 +5,8 @@ use Rattle.std.specs.FinMap as finite
 use Rattle.std.specs.List.{Any, flat_map}
 use Rattle.std.proofs.lemmas.Bool.{eq-eqb, eqb-true, ne_eqb}
 use Rattle.std.proofs.lemmas.Grind.{flat_map-append, fold-append}
-use Rattle.std.proofs.lemmas.List.{append-nil, get_or_default, map-append}
+use Rattle.std.proofs.lemmas.List.{append-nil, get_or_default, map-append, length-map}
+use Rattle.std.proofs.lemmas.Option.{same_Some}
 use Rattle.m3_model.specs.Members.{IsIn}
 use Rattle.m3_model.specs.declared.placement.Assignment.{Assignment}
 use Rattle.m3_model.specs.declared.placement.Placement.{Placement}
@@ -15,7 +16,6 @@ use Rattle.m3_outside.specs.DiskState.{DiskState}
 use Rattle.m3_model.proofs.MemberLemmas.{map-IsIn}
 use Rattle.placement_core.specs.Shards.{Shard, nodes_of, shard_at}
 use Rattle.placement_core.proofs.ListLemmas.{Any-from_IsIn}
-use Rattle.cluster_core.proofs.ListLemmas.{some_same}
 use Rattle.transcripts.specs.Waiting.{is_covering}
 use Rattle.cluster_core.specs.Earlier.{GivesTenure, HasTenure, last_place, place_after}
 use Rattle.cluster_core.specs.Lists.{At}
@@ -101,7 +101,7 @@ tenure_of node (a ∷ shard) tenure e = by_test (nat_eq a.node node) refl e (ten
   where
     by_test : (t : Bool) → nat_eq a.node node ≡ t → (if t then Some a.tenure else tenure_in node shard) ≡ Some tenure
         → (tenure_in node shard ≡ Some tenure → (x : Assignment) × IsIn shard x × (x.node ≡ node) × (x.tenure ≡ tenure)) → (x : Assignment) × IsIn (a ∷ shard) x × (x.node ≡ node) × (x.tenure ≡ tenure)
-    by_test true is e later = (a, inl refl, eqb-true a.node node is, some_same a.tenure tenure e)
+    by_test true is e later = (a, inl refl, eqb-true a.node node is, same_Some a.tenure tenure e)
     by_test false is e later = let rest = later e in (rest.0, inr rest.1, rest.2, rest.3)
 
 pub tenure_any : (node : ℕ) (shard : Shard) (tenure : ℕ) → tenure_in node shard ≡ Some tenure → Any (λ (a : Assignment). (a.node ≡ node) × (a.tenure ≡ tenure)) shard
@@ -206,12 +206,8 @@ module _ {D : Type 0} (state : D → DiskState) (node : ℕ) where
     are = ap (λ es. es ++ next) g.are ∙ ap (λ es. flat_map (begin_at node) g.begun ++ es) h.are ∙ sym (flat_map-append (begin_at node) g.begun h.begun);
   }
 
-  long_map : {X Y : Type 0} (f : X → Y) (xs : List X) → length (map f xs) ≡ length xs
-  long_map f [] = refl
-  long_map f (x ∷ xs) = ap suc (long_map f xs)
-
   pub begun_few : (xs : List Assigned) (old : Tracked D) (events : List Event) → AreBegun state node xs old events → length events ≡ 2 * length xs
-  begun_few xs old events h = ap length h.are ∙ flat_long (begin_at node) (λ b. refl) h.begun ∙ ap (λ n. 2 * n) (sym (long_map (λ (b : Begun). b.assigned) h.begun) ∙ ap length h.of_assigned)
+  begun_few xs old events h = ap length h.are ∙ flat_long (begin_at node) (λ b. refl) h.begun ∙ ap (λ n. 2 * n) (sym (length-map h.begun (λ (b : Begun). b.assigned)) ∙ ap length h.of_assigned)
 
   pub begun_quiet : (xs : List Assigned) (old : Tracked D) (events : List Event) → AreBegun state node xs old events → AreQuiet events
   begun_quiet xs old events h = subst AreQuiet (sym h.are) (quiet_flat (begin_at node) (λ b. quiet_exchange node (b.assigned).shard (call.Begin (b.assigned).tenure) b.reply) h.begun)

@@ -1,12 +1,10 @@
 -- Lists as loops go over them: those that pass a test, and what each of them brings; and lists with one element set.
-use Rattle.std.proofs.Common.{◌≡◌, ◌≢◌, ◌<◌, ◌≤◌, ◌+◌, ◌*◌, ℕ, zero, suc, List, [], ◌∷◌, ◌++◌, length, take, drop, get_or, refl, sym, ap, ◌∙◌, subst, arith, Bool, true, false, cond, inl, inr, length-append}
+use Rattle.std.proofs.Common.{◌≡◌, ◌≢◌, ◌<◌, ◌≤◌, ◌+◌, ◌*◌, ℕ, zero, suc, List, [], ◌∷◌, ◌++◌, length, take, drop, get_or, refl, sym, ap, ◌∙◌, arith, Bool, true, false, cond, length-append}
 use Rattle.std.specs.Prelude.{Some, filter, slice_get, slice_set}
 use Rattle.std.specs.List.{flat_map}
 use Rattle.std.proofs.lemmas.Grind.{flat_map-append}
 use Rattle.std.proofs.lemmas.List.{append-nil}
 use Rattle.std.proofs.lemmas.List.Elements.{filter-append, filter_more}
-use Rattle.m3_model.specs.Members.{IsIn}
-use Rattle.m3_model.proofs.MemberLemmas.{IsIn-append_cases, IsIn-append_left, IsIn-append_right}
 
 -- what stands before an element, it, and what stands behind
 parted : {X : Type 0} (xs : List X) (i : ℕ) (d : X) → i < length xs → xs ≡ take i xs ++ get_or xs i d ∷ drop (suc i) xs
@@ -51,22 +49,6 @@ flat_push f xs x = flat_map-append f xs (x ∷ []) ∙ ap (λ ys. flat_map f xs 
 pub flat_long : {X Y : Type 0} (f : X → List Y) → ((x : X) → length (f x) ≡ 2) → (xs : List X) → length (flat_map f xs) ≡ 2 * length xs
 flat_long f two [] = refl
 flat_long f two (x ∷ xs) = let both = length-append (f x) (flat_map f xs) in let here = two x in let rest = flat_long f two xs in omega (arith, both, here, rest)
-
-pub IsIn-flat : {X Y : Type 0} (f : X → List Y) (xs : List X) (y : Y) → IsIn (flat_map f xs) y → (x : X) × IsIn xs x × IsIn (f x) y
-IsIn-flat {X} f [] y m = absurd m
-IsIn-flat {X} {Y} f (x ∷ xs) y m =
-    elim (IsIn-append_cases (f x) (flat_map f xs) y m) as (λ _. (z : X) × IsIn (x ∷ xs) z × IsIn (f z) y) [
-      | inl here ↦ (x, inl refl, here)
-      | inr later ↦ let found = IsIn-flat f xs y later in (found.0, inr found.1, found.2)
-    ]
-
-pub flat-IsIn : {X Y : Type 0} (f : X → List Y) (xs : List X) (x : X) (y : Y) → IsIn xs x → IsIn (f x) y → IsIn (flat_map f xs) y
-flat-IsIn f [] x y m i = absurd m
-flat-IsIn f (z ∷ xs) x y m i =
-    elim m as (λ _. IsIn (f z ++ flat_map f xs) y) [
-      | inl same ↦ IsIn-append_left (f z) (flat_map f xs) y (subst (λ w. IsIn (f w) y) (sym same) i)
-      | inr later ↦ IsIn-append_right (f z) (flat_map f xs) y (flat-IsIn f xs x y later i)
-    ]
 
 -- how many pass, as a loop counts them
 pub count_yes : {X : Type 0} (f : X → Bool) (xs : List X) (i : ℕ) (d : X) (count next : ℕ) → i < length xs → f (get_or xs i d) ≡ true → count ≡ length (filter f (take i xs)) → next ≡ count + 1 → next ≡ length (filter f (take (i + 1) xs))

@@ -7,6 +7,7 @@ use Rattle.std.proofs.lemmas.Bool.{le-leb, leb-true}
 use Rattle.event_book.specs.Lists.{most_entries}
 use Rattle.m3_model.specs.declared.reason.Reason.{Reason}
 use Rattle.m3_model.specs.declared.rules.MetaState.{MetaState}
+use Rattle.m3_model.proofs.Lists.{IsIn-flat_map}
 use Rattle.m3_outside.specs.DiskState.{DiskState}
 use Rattle.cluster_core.specs.declared.event.Event.{Event}
 use Rattle.cluster_core.specs.declared.event.StepCall.{StepCall}
@@ -30,7 +31,7 @@ use Rattle.session_net.proofs.RunLemmas.{ran_called, ran_then}
 use Rattle.node_calls.specs.Boots.{EndsRestarts, IsRestartTried}
 use Rattle.node_calls.specs.Halts.{HaveSameSlots, IsRestartRefusal, IsUnrestarted, restart_at, stop_at}
 use Rattle.node_calls.specs.declared.refused.Refused.{Refused}
-use Rattle.node_calls.proofs.ListLemmas.{IsIn-flat, filter_parted, filter_short, filter_yes, flat_long, flat_push}
+use Rattle.node_calls.proofs.ListLemmas.{filter_parted, filter_short, filter_yes, flat_long, flat_push}
 
 -- ---- one call
 
@@ -133,7 +134,7 @@ pub quiet_exchange : (n s : ℕ) (c : StepCall) (a : StepReply) → AreQuiet (ex
 quiet_exchange n s c a = quiet_delivery (λ (u : ⊤). a) n s c (Ok tt) (exchange n s c a) refl
 
 pub quiet_flat : {X : Type 0} (f : X → List Event) → ((x : X) → AreQuiet (f x)) → (xs : List X) → AreQuiet (flat_map f xs)
-quiet_flat f quiet xs e m = let found = IsIn-flat f xs e m in quiet found.0 e found.2
+quiet_flat f quiet xs e m = let found = IsIn-flat_map f xs e m in quiet found.0 e found.2
 
 pub stops_quiet : (slots : List Slot) → AreQuiet (flat_map stop_at slots)
 stops_quiet slots = quiet_flat stop_at (λ s. quiet_exchange s.node s.shard call.Stop reply.Done) slots

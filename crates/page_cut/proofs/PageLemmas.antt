@@ -1,7 +1,7 @@
 -- Pages of a list that ascends.
-use Rattle.std.proofs.Common.{◌≡◌, ◌++◌, ◌-◌, ◌<◌, ◌≤◌, ℕ, suc, zero, List, [], ◌∷◌, Bool, true, false, Option, Some, None, length, take, cond, refl, sym, ap, subst, ◌∙◌, inl, inr, ◌⊎◌, arith, append_assoc, length-append}
+use Rattle.std.proofs.Common.{◌≡◌, ◌++◌, ◌-◌, ◌<◌, ◌≤◌, ℕ, suc, zero, List, [], ◌∷◌, true, false, Option, Some, None, length, take, cond, refl, sym, ap, subst, ◌∙◌, inl, inr, arith, append_assoc, length-append}
 use Rattle.std.specs.Option.{option_map}
-use Rattle.std.proofs.lemmas.Bool.{leb-true, leb-false}
+use Rattle.std.proofs.lemmas.Bool.{leb-true, leb-false, cases_Bool}
 use Rattle.std.specs.Prelude.{MatchOption, OnSome, nat_le, slice_get}
 use Rattle.std.specs.List.{flat_map}
 use Rattle.std.proofs.lemmas.List.{append-nil, length-take-le}
@@ -52,10 +52,6 @@ more_page : (limit : ℕ) (rest : List Point) (s : Split limit rest) → nat_le 
 more_page limit rest s h =
     more_points limit rest h ∙ ap (λ (o : Option Point). record { points = take limit rest; next = option_map key_of o }) s.got
 
-told : (b : Bool) → (b ≡ true) ⊎ (b ≡ false)
-told true = inl refl
-told false = inr refl
-
 -- the points above the last one's key are those behind the page
 behind : (points : List Point) (limit : ℕ) (after : Option Key) (s : Split limit (points_past after points)) → Ascends IsBefore points → points_past (Some (key_of s.last)) points ≡ s.back
 behind points limit after s up =
@@ -68,7 +64,7 @@ pub whole_from : (points : List Point) (limit : ℕ) (after : Option Key) (pages
 whole_from points limit after [] some up h = absurd h
 whole_from points limit after (page ∷ pages) some up h =
     let rest = points_past after points in
-    elim (told (nat_le (length rest) limit)) as (λ _. flat_map (λ (p : Page). p.points) (page ∷ pages) ≡ rest) [
+    elim (cases_Bool (nat_le (length rest) limit)) as (λ _. flat_map (λ (p : Page). p.points) (page ∷ pages) ≡ rest) [
       | inl few ↦
           let is : page ≡ record { points = rest; next = None } = h.0 ∙ last_page limit rest few in
           let none : pages ≡ [] = subst (λ (o : Option Key). MatchOption o (pages ≡ []) (λ k. ArePagesFrom points limit (Some k) pages)) (ap (λ (p : Page). p.next) is) h.1 in
@@ -96,12 +92,12 @@ one_page points limit after few =
 pub pages_from : (most : ℕ) (points : List Point) (limit : ℕ) (after : Option Key) → 1 ≤ limit → Ascends IsBefore points → length (points_past after points) ≤ most
     → ((pages : List Page) × ArePagesFrom points limit after pages)
 pages_from zero points limit after some up few_left =
-    elim (told (nat_le (length (points_past after points)) limit)) as (λ _. (pages : List Page) × ArePagesFrom points limit after pages) [
+    elim (cases_Bool (nat_le (length (points_past after points)) limit)) as (λ _. (pages : List Page) × ArePagesFrom points limit after pages) [
       | inl few ↦ one_page points limit after few
       | inr more ↦ absurd (omega (arith, leb-false (length (points_past after points)) limit more))
     ]
 pages_from (suc most) points limit after some up few_left =
-    elim (told (nat_le (length (points_past after points)) limit)) as (λ _. (pages : List Page) × ArePagesFrom points limit after pages) [
+    elim (cases_Bool (nat_le (length (points_past after points)) limit)) as (λ _. (pages : List Page) × ArePagesFrom points limit after pages) [
       | inl few ↦ one_page points limit after few
       | inr more ↦
           let rest = points_past after points in
@@ -115,14 +111,14 @@ pages_from (suc most) points limit after some up few_left =
 
 pub limited : (limit : ℕ) (rest : List Point) → length (page_from limit rest).points ≤ limit
 limited limit rest =
-    elim (told (nat_le (length rest) limit)) as (λ _. length (page_from limit rest).points ≤ limit) [
+    elim (cases_Bool (nat_le (length rest) limit)) as (λ _. length (page_from limit rest).points ≤ limit) [
       | inl few ↦ subst (λ (p : Page). length p.points ≤ limit) (sym (last_page limit rest few)) (leb-true (length rest) limit few)
       | inr more ↦ omega (arith, ap (λ (p : Page). length p.points) (more_points limit rest more), length-take-le limit rest (omega (arith, leb-false (length rest) limit more)))
     ]
 
 pub filled : (limit : ℕ) (rest : List Point) → OnSome (page_from limit rest).next (length (page_from limit rest).points ≡ limit)
 filled limit rest =
-    elim (told (nat_le (length rest) limit)) as (λ _. OnSome (page_from limit rest).next (length (page_from limit rest).points ≡ limit)) [
+    elim (cases_Bool (nat_le (length rest) limit)) as (λ _. OnSome (page_from limit rest).next (length (page_from limit rest).points ≡ limit)) [
       | inl few ↦ subst (λ (p : Page). OnSome p.next (length p.points ≡ limit)) (sym (last_page limit rest few)) tt
       | inr more ↦ always (page_from limit rest).next (ap (λ (p : Page). length p.points) (more_points limit rest more) ∙ length-take-le limit rest (omega (arith, leb-false (length rest) limit more)))
     ]

@@ -1,7 +1,7 @@
 -- The points above a key of a list that ascends.
-use Rattle.std.proofs.Common.{◌≡◌, ◌++◌, ◌<◌, ◌≤◌, ℕ, suc, zero, List, [], ◌∷◌, Bool, true, false, not, Option, Some, None, length, drop, get_or, refl, sym, ap, subst, ◌∙◌, inl, inr, ◌⊎◌, arith, true≢false}
+use Rattle.std.proofs.Common.{◌≡◌, ◌++◌, ◌<◌, ◌≤◌, ℕ, suc, zero, List, [], ◌∷◌, Bool, true, false, not, Option, Some, None, length, drop, get_or, refl, sym, ap, subst, ◌∙◌, inl, inr, arith, true≢false}
 use Rattle.std.proofs.Math.Seq.{drop-nil}
-use Rattle.std.proofs.lemmas.Bool.{and_parts, and_from}
+use Rattle.std.proofs.lemmas.Bool.{and_parts, and_from, not-false, not-true, cases_Bool}
 use Rattle.std.specs.List.{filter}
 use Rattle.std.specs.List.Sorted.{IsPartitionedBy, IsPartitionPoint}
 use Rattle.std.specs.Ordering.{is_lt, ordering_reverse}
@@ -13,12 +13,8 @@ use Rattle.m3_model.specs.Keys.{key_cmp, key_cmp_total}
 use Rattle.m3_model.specs.Members.{IsIn}
 use Rattle.m3_model.specs.declared.point.Key.{Key}
 use Rattle.m3_model.specs.declared.point.Point.{Point}
+use Rattle.m3_model.proofs.Orders.{less_from}
 use Rattle.page_cut.specs.Pages.{IsBefore, is_below_first, in_order, is_past, points_past}
-
-pub less_from : (o : Ordering) → is_lt o ≡ true → o ≡ Less
-less_from Less h = refl
-less_from Equal h = absurd (true≢false (sym h))
-less_from Greater h = absurd (true≢false (sym h))
 
 -- a key isn't below itself, nor below one that is below it
 own_reverse : (o : Ordering) → o ≡ ordering_reverse o → is_lt o ≡ false
@@ -50,15 +46,11 @@ filter_all p (x ∷ xs) h = filter_takes p x xs (h x (inl refl)) ∙ ap (λ ys. 
 pub past_none : (xs : List Point) → points_past None xs ≡ xs
 past_none xs = filter_all (is_past None) xs (λ y r. refl)
 
-told : (b : Bool) → (b ≡ true) ⊎ (b ≡ false)
-told true = inl refl
-told false = inr refl
-
 -- the points above a key are the end of the list
 pub past_is_end : (after : Option Key) (xs : List Point) → Ascends IsBefore xs → ((front : List Point) × (xs ≡ front ++ points_past after xs))
 past_is_end after [] h = ([], refl)
 past_is_end after (x ∷ xs) h =
-    elim (told (is_past after x)) as (λ _. (front : List Point) × (x ∷ xs ≡ front ++ points_past after (x ∷ xs))) [
+    elim (cases_Bool (is_past after x)) as (λ _. (front : List Point) × (x ∷ xs ≡ front ++ points_past after (x ∷ xs))) [
       | inl past ↦ ([], sym (filter_takes (is_past after) x xs past ∙ ap (λ ys. x ∷ ys) (filter_all (is_past after) xs (λ y r. past_later after x y past (h.0 y r)))))
       | inr not_past ↦ let later = past_is_end after xs h.1 in (x ∷ later.0, ap (λ ys. x ∷ ys) later.1 ∙ ap (λ ys. x ∷ (later.0 ++ ys)) (sym (filter_leaves (is_past after) x xs not_past)))
     ]
@@ -96,26 +88,18 @@ later_positions after (x ∷ xs) up zero (suc j) d le lt h = past_later after x 
 later_positions after (x ∷ xs) up (suc i) zero d le lt h = absurd (omega arith)
 later_positions after (x ∷ xs) up (suc i) (suc j) d le lt h = later_positions after xs up.1 i j d (omega arith) (omega arith) h
 
-not_true : (b : Bool) → not b ≡ true → b ≡ false
-not_true true h = absurd (true≢false (sym h))
-not_true false h = refl
-
-not_false : (b : Bool) → not b ≡ false → b ≡ true
-not_false true h = refl
-not_false false h = absurd (true≢false h)
-
 -- so the points that aren't above it stand before those that are
 pub partitioned : (after : Option Key) (xs : List Point) → Ascends IsBefore xs → IsPartitionedBy (λ x. not (is_past after x)) xs
 partitioned after xs up i j d le lt h =
-    elim (told (is_past after (get_or xs i d))) as (λ _. not (is_past after (get_or xs i d)) ≡ true) [
-      | inl past ↦ absurd (true≢false (sym (later_positions after xs up i j d le lt past) ∙ not_true (is_past after (get_or xs j d)) h))
+    elim (cases_Bool (is_past after (get_or xs i d))) as (λ _. not (is_past after (get_or xs i d)) ≡ true) [
+      | inl past ↦ absurd (true≢false (sym (later_positions after xs up i j d le lt past) ∙ not-true (is_past after (get_or xs j d)) h))
       | inr not_past ↦ ap not not_past
     ]
 
 -- what a search for the position finds
 pub found_past : (after : Option Key) (xs : List Point) (i : ℕ) → i ≤ length xs → IsPartitionPoint (λ x. not (is_past after x) ≡ true) (λ x. not (is_past after x) ≡ false) xs i → drop i xs ≡ points_past after xs
 found_past after xs i bound h =
-    sym (past_from_position (is_past after) xs i bound (λ k d lt. not_true (is_past after (get_or xs k d)) (h.0 k d (omega arith) lt)) (λ k d le lt. not_false (is_past after (get_or xs k d)) (h.1 k d le lt)))
+    sym (past_from_position (is_past after) xs i bound (λ k d lt. not-true (is_past after (get_or xs k d)) (h.0 k d (omega arith) lt)) (λ k d le lt. not-false (is_past after (get_or xs k d)) (h.1 k d le lt)))
 
 -- points ascend exactly where each is below the next one
 pub ascend_from_next : (xs : List Point) → in_order xs ≡ true → Ascends IsBefore xs

@@ -78,7 +78,7 @@ fn write_taken(taken: Option<Taken>, out: &mut String) -> Result<(), Fail> {
 
 fn take_three(buffer: &mut Buffer, out: &mut String) -> Result<(), Fail> {
     for _ in 0..3 {
-        write_taken(buffer.take_first(0, 0, 29), out)?;
+        write_taken(buffer.take_within(0, 0, 29), out)?;
     }
     Ok(())
 }

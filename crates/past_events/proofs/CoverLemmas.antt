@@ -1,6 +1,7 @@
 -- Covers in a list of events, looked for in one pass: the keys from which a page may go on.
 use Rattle.std.proofs.Common.{◌≡◌, ◌⊎◌, ◌↔◌, ℕ, suc, List, [], ◌∷◌, ◌++◌, drop, refl, sym, ap, ◌∙◌, subst, inl, inr, Any, ◌+◌, ◌≤◌, length, add-one}
 use Rattle.std.specs.Prelude.{Option, Some, None, MatchOption}
+use Rattle.std.proofs.lemmas.List.{drop_all}
 use Rattle.m3_model.specs.Members.{IsIn}
 use Rattle.m3_model.proofs.MemberLemmas.{IsIn-append_left, IsIn-append_right, IsIn-append_cases}
 use Rattle.m3_model.specs.declared.point.Key.{Key}
@@ -15,7 +16,6 @@ use Rattle.cluster_core.specs.declared.event.Event.TheVariants as event
 use Rattle.cluster_core.specs.declared.event.StepCall.TheVariants as call
 use Rattle.cluster_core.specs.declared.event.StepReply.TheVariants as reply
 use Rattle.placement_core.proofs.AscendLemmas.{drop_here}
-use Rattle.past_events.proofs.RestLemmas.{drop_past}
 
 -- an event gives one page, asked for in one way
 pub one_asked : (q s : ℕ) (p r : PageAsked) (e : Event) → GaveAsked q s p e → GaveAsked q s r e → (p.0 ≡ r.0) × (p.1 ≡ r.1)
@@ -188,7 +188,7 @@ module _ (s q y : ℕ) (since : List Event) where
   )
 
   pub none_on : (keys : List (Option Key)) (later : List Event) (i : ℕ) → length later ≤ i → (HasCover s q y since later ↔ FromSome keys (drop i later)) → ¬ HasCover s q y since later
-  none_on keys later i le was h = keys_none keys (subst (FromSome keys) (drop_past later i le) (was.0 h))
+  none_on keys later i le was h = keys_none keys (subst (FromSome keys) (drop_all i later le) (was.0 h))
 
   -- what an event tells of the next page
   pub none_given : (keys : List (Option Key)) (e : Event) → ((p : PageAsked) → ¬ GaveAsked q s p e) → IsNoNext s q y since keys e

@@ -1,13 +1,8 @@
 -- What is left of a list, and what is looked for in it one element after the other.
-use Rattle.std.proofs.Common.{◌≡◌, ◌↔◌, ℕ, zero, suc, ◌+◌, ◌-◌, ◌≤◌, List, [], ◌∷◌, take, drop, length, refl, sym, ap, ◌∙◌, subst, inl, inr, arith, add-one}
+use Rattle.std.proofs.Common.{◌≡◌, ◌↔◌, ℕ, suc, ◌+◌, ◌-◌, ◌≤◌, List, take, drop, length, sym, ap, ◌∙◌, subst, inl, inr, add-one}
+use Rattle.std.proofs.lemmas.List.{take_rest, drop_all}
 use Rattle.cluster_core.specs.Lists.{At, AfterSome}
-use Rattle.placement_core.proofs.AscendLemmas.{drop_here, rest_is}
-
-pub drop_past : {X : Type 0} (xs : List X) (k : ℕ) → length xs ≤ k → drop k xs ≡ []
-drop_past [] zero h = refl
-drop_past [] (suc k) h = refl
-drop_past (x ∷ xs) zero h = absurd (omega arith)
-drop_past (x ∷ xs) (suc k) h = drop_past xs k (omega arith)
+use Rattle.placement_core.proofs.AscendLemmas.{drop_here}
 
 -- an element that is not of the kind, or not followed as wanted, can be left out
 after_suc : {X : Type 0} (Kind : X → Type 0) (Wanted : List X → Type 0) (xs : List X) (i : ℕ) (x : X) → At xs i x → ¬ (Kind x × Wanted (drop (suc i) xs)) → AfterSome Kind Wanted (drop i xs) ↔ AfterSome Kind Wanted (drop (suc i) xs)
@@ -22,7 +17,7 @@ abbrev rest_of : {X : Type 0} → List X → ℕ → List X
 rest_of xs i = take (length xs - (i + 1)) (drop (i + 1) xs)
 
 rest_next : {X : Type 0} (xs : List X) (i : ℕ) → rest_of xs i ≡ drop (suc i) xs
-rest_next xs i = rest_is xs (i + 1) ∙ ap (λ n. drop n xs) (add-one i)
+rest_next xs i = take_rest xs (i + 1) ∙ ap (λ n. drop n xs) (add-one i)
 
 pub after_next : {X : Type 0} (Kind : X → Type 0) (Wanted : List X → Type 0) (xs : List X) (i : ℕ) (x : X) → At xs i x → ¬ (Kind x × Wanted (take (length xs - (i + 1)) (drop (i + 1) xs)))
     → (AfterSome Kind Wanted xs ↔ AfterSome Kind Wanted (drop i xs)) → AfterSome Kind Wanted xs ↔ AfterSome Kind Wanted (drop (i + 1) xs)
@@ -36,4 +31,4 @@ pub after_here : {X : Type 0} (Kind : X → Type 0) (Wanted : List X → Type 0)
 after_here Kind Wanted xs i x at kind wanted was = was.1 (subst (AfterSome Kind Wanted) (sym (drop_here xs i x at)) (inl (kind, subst Wanted (rest_next xs i) wanted)))
 
 pub after_none : {X : Type 0} (Kind : X → Type 0) (Wanted : List X → Type 0) (xs : List X) (i : ℕ) → length xs ≤ i → (AfterSome Kind Wanted xs ↔ AfterSome Kind Wanted (drop i xs)) → ¬ AfterSome Kind Wanted xs
-after_none Kind Wanted xs i le was h = subst (AfterSome Kind Wanted) (drop_past xs i le) (was.0 h)
+after_none Kind Wanted xs i le was h = subst (AfterSome Kind Wanted) (drop_all i xs le) (was.0 h)

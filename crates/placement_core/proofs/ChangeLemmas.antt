@@ -1,10 +1,10 @@
 -- What each kind of step leaves of a shard.
-use Rattle.std.proofs.Common.{◌≡◌, ◌≢◌, ◌⊎◌, ◌↔◌, ◌≤◌, ℕ, suc, List, [], ◌∷◌, ◌++◌, map, length, Option, Some, None, Bool, true, false, cond, not, nat_eq, refl, sym, ap, subst, inl, inr, ◌∙◌, arith, length-append}
+use Rattle.std.proofs.Common.{◌≡◌, ◌≢◌, ◌⊎◌, ◌↔◌, ◌≤◌, ℕ, suc, [], ◌∷◌, map, length, Option, Some, None, Bool, true, false, cond, not, nat_eq, refl, sym, ap, subst, inl, inr, ◌∙◌, arith, length-append}
 use Rattle.std.proofs.lemmas.Bool.{cases_eq, eqb-true, eqb-false}
 use Rattle.std.proofs.lemmas.List.{length-map}
-use Rattle.m3_model.specs.Ascends.{Ascends}
 use Rattle.m3_model.specs.Members.{IsIn}
 use Rattle.m3_model.proofs.MemberLemmas.{IsIn-map, map-IsIn, IsIn-append_left, IsIn-append_cases, IsIn-push}
+use Rattle.m3_model.proofs.Ascending.{Ascends-filter, Ascends-push, Ascends-weaken}
 use Rattle.m3_model.specs.declared.placement.ShardState.{ShardState}
 use Rattle.m3_model.specs.declared.placement.ShardState.TheVariants.{Initializing, Available, Leaving}
 use Rattle.m3_model.specs.declared.placement.Assignment.{Assignment}
@@ -12,7 +12,7 @@ use Rattle.placement_core.specs.Shards.{Shard, holds, is_available, is_holder, n
 use Rattle.placement_core.specs.Lawful.{IsServing, IsJoiningFrom, IsMoving, IsShard}
 use Rattle.placement_core.specs.Steps.{turned, without, settled, Begins, Cancels, Ends, IsShardStep}
 use Rattle.placement_core.specs.Changes.{HoldersChange}
-use Rattle.placement_core.proofs.OrderLemmas.{ascends-filter, ascends-map}
+use Rattle.placement_core.proofs.OrderLemmas.{ascends-map}
 use Rattle.placement_core.proofs.HolderLemmas.{Distinct, holds_of, not_joining, available_of, chosen_node, node_chosen, counted_hold, same_node, without_was, without_keeps, one_less, leaving_not_joining, the_joining, is_moving}
 
 -- ---- a turned assignment
@@ -35,24 +35,10 @@ turned_tenure n st x = elim (turned_cases n st x) as (λ _. (turned n st x).tenu
 turned_holds : (n : ℕ) (st : ShardState) (x : Assignment) → holds st ≡ true → is_holder x ≡ true → is_holder (turned n st x) ≡ true
 turned_holds n st x on h = elim (turned_cases n st x) as (λ _. is_holder (turned n st x) ≡ true) [ inl c ↦ ap is_holder c.1 ∙ on | inr c ↦ ap is_holder c.1 ∙ h ]
 
-ascends-weaken : {X : Type 0} (R S : X → X → Type 0) (xs : List X) → ((x y : X) → R x y → S x y) → Ascends R xs → Ascends S xs
-ascends-weaken R S [] f h = tt
-ascends-weaken R S (x ∷ xs) f h = (λ y m. f x y (h.0 y m), ascends-weaken R S xs f h.1)
-
 distinct_turned : (n : ℕ) (st : ShardState) (shard : Shard) → Distinct shard → Distinct (map (turned n st) shard)
 distinct_turned n st shard d =
     ascends-map (λ (a b : Assignment). a.node ≢ b.node) (turned n st) shard
-    (ascends-weaken (λ (a b : Assignment). a.node ≢ b.node) (λ a b. (turned n st a).node ≢ (turned n st b).node) shard (λ a b ne e. ne (sym (turned_node n st a) ∙ e ∙ turned_node n st b)) d)
-
-pub ascends-push : {X : Type 0} (R : X → X → Type 0) (xs : List X) (y : X) → Ascends R xs → ((x : X) → IsIn xs x → R x y) → Ascends R (xs ++ y ∷ [])
-ascends-push R [] y h each = (λ z m. absurd m, tt)
-ascends-push R (x ∷ xs) y h each = (
-  λ z m. elim (IsIn-append_cases xs (y ∷ []) z m) as (λ _. R x z) [
-    | inl k ↦ h.0 z k
-    | inr k ↦ elim k as (λ _. R x z) [ inl e ↦ subst (R x) e (each x (inl refl)) | inr none ↦ absurd none ]
-  ],
-  ascends-push R xs y h.1 (λ z m. each z (inr m)),
-)
+    (Ascends-weaken (λ (a b : Assignment). a.node ≢ b.node) (λ a b. (turned n st a).node ≢ (turned n st b).node) shard (λ a b ne e. ne (sym (turned_node n st a) ∙ e ∙ turned_node n st b)) d)
 
 -- ---- a move begins
 
@@ -91,7 +77,7 @@ module _ (version : ℕ) (old next : Shard) (b : Begins version old next) where
 
   begun_distinct : Distinct old → Distinct next
   begun_distinct d =
-      subst Distinct (sym b.next_is) (ascends-push (λ (x y : Assignment). x.node ≢ y.node) (map (turned b.from Leaving) old) b.joining (distinct_turned b.from Leaving old d)
+      subst Distinct (sym b.next_is) (Ascends-push (λ (x y : Assignment). x.node ≢ y.node) (map (turned b.from Leaving) old) b.joining (distinct_turned b.from Leaving old d)
       (λ x m e. let w = IsIn-map (turned b.from Leaving) old x m in b.free (subst (IsIn (nodes_of old)) (sym (turned_node b.from Leaving w.0) ∙ ap (λ (z : Assignment). z.node) w.2 ∙ e) (map-IsIn (λ (a : Assignment). a.node) old w.0 w.1))))
 
   begun_length : length next ≡ suc (length old)
@@ -129,7 +115,7 @@ OthersServe one other shard = (a : Assignment) → IsIn shard a → a.node ≢ o
 
 settled_shard : (rf version : ℕ) (old : Shard) (gone : Assignment) (stays : ℕ) → IsShard rf version old → length old ≡ suc rf → IsIn old gone → OthersServe gone.node stays old → IsShard rf (suc version) (settled gone.node stays old)
 settled_shard rf version old gone stays h many there others = record {
-  distinct = distinct_turned stays Available (without gone.node old) (ascends-filter (λ (a b : Assignment). a.node ≢ b.node) (λ a. not (nat_eq a.node gone.node)) old h.distinct);
+  distinct = distinct_turned stays Available (without gone.node old) (Ascends-filter (λ (a b : Assignment). a.node ≢ b.node) (λ a. not (nat_eq a.node gone.node)) old h.distinct);
   tenures = λ x m. let w = settled_was gone.node stays old x m in omega (arith, h.tenures w.0 w.1, ap (λ (z : Assignment). z.tenure) w.3 ∙ turned_tenure stays Available w.0);
   replicas = inl (
     λ x m. let w = settled_was gone.node stays old x m in elim (turned_cases stays Available w.0) as (λ _. IsServing x) [

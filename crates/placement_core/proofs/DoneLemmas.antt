@@ -1,6 +1,7 @@
 -- Done lists.
-use Rattle.std.proofs.Common.{◌≡◌, ◌↔◌, ℕ, suc, ◌+◌, ◌<◌, ◌≤◌, List, [], ◌∷◌, drop, get_or, length, Some, None, Option, IfSome, IfNone, is_some, ◌≢◌, zero, Bool, true, false, nat_eq, cond, arith, inl, inr, sym, subst, ap, refl, ◌∙◌, ◌⊎◌, drop-cons, add-one}
+use Rattle.std.proofs.Common.{◌≡◌, ◌↔◌, ℕ, suc, ◌+◌, ◌<◌, ◌≤◌, List, [], ◌∷◌, drop, get_or, length, Some, None, Option, IfSome, IfNone, is_some, ◌≢◌, zero, Bool, true, false, nat_eq, cond, arith, inl, inr, sym, subst, ap, refl, ◌∙◌, ◌⊎◌}
 use Rattle.std.proofs.lemmas.Bool.{cases_eq, cases_lt, eq-eqb, ne_eqb}
+use Rattle.std.proofs.lemmas.List.{drop_more}
 use Rattle.m3_model.specs.Members.{IsIn}
 use Rattle.m3_model.specs.Ascends.{Ascends}
 use Rattle.placement_core.specs.Steps.{IsDoneList, done_at}
@@ -25,22 +26,19 @@ more_done least shards d ds low high h = record {
   within = λ e m. elim m as (λ _. e.0 < shards) [ inl same ↦ omega (arith, ap (λ (p : ℕ × ℕ). p.0) same) | inr r ↦ h.within e r ];
 }
 
-rest_is : {X : Type 0} (xs : List X) (i : ℕ) (d : X) → i < length xs → drop i xs ≡ get_or xs i d ∷ drop (i + 1) xs
-rest_is xs i d h = rw (add-one, drop-cons xs i d)
-
 -- one more pair is looked at
 pub done_step : (Q : Type 0) (least shards i : ℕ) (done : List (ℕ × ℕ)) (d : ℕ × ℕ) → i < length done → least ≤ (get_or done i d).0 → (get_or done i d).0 < shards
     → Q ↔ IsDoneFrom least shards (drop i done) → Q ↔ IsDoneFrom ((get_or done i d).0 + 1) shards (drop (i + 1) done)
 done_step Q least shards i done d lt low high h = (
-  λ q. later_done least shards (get_or done i d) (drop (i + 1) done) (subst (IsDoneFrom least shards) (rest_is done i d lt) (h.0 q)),
-  λ f. h.1 (subst (IsDoneFrom least shards) (sym (rest_is done i d lt)) (more_done least shards (get_or done i d) (drop (i + 1) done) low high f)),
+  λ q. later_done least shards (get_or done i d) (drop (i + 1) done) (subst (IsDoneFrom least shards) (drop_more done i d lt) (h.0 q)),
+  λ f. h.1 (subst (IsDoneFrom least shards) (sym (drop_more done i d lt)) (more_done least shards (get_or done i d) (drop (i + 1) done) low high f)),
 )
 
 -- the pair that is looked at is refused
 pub done_refused : (Q : Type 0) (least shards i : ℕ) (done : List (ℕ × ℕ)) (d : ℕ × ℕ) → i < length done → ((get_or done i d).0 < least) ⊎ (shards ≤ (get_or done i d).0)
     → Q ↔ IsDoneFrom least shards (drop i done) → ¬ Q
 done_refused Q least shards i done d lt out h q =
-    let f : IsDoneFrom least shards (get_or done i d ∷ drop (i + 1) done) = subst (IsDoneFrom least shards) (rest_is done i d lt) (h.0 q) in
+    let f : IsDoneFrom least shards (get_or done i d ∷ drop (i + 1) done) = subst (IsDoneFrom least shards) (drop_more done i d lt) (h.0 q) in
     elim out as (λ _. ⊥) [
       | inl low ↦ absurd (omega (arith, low, f.from (get_or done i d) (inl refl)))
       | inr high ↦ absurd (omega (arith, high, f.within (get_or done i d) (inl refl)))
@@ -124,7 +122,7 @@ cursor_moves done at after number shards None c found other way =
       | inr w ↦ (subst (λ n. Cursor done (drop n done) (number + 1) shards) (sym w.1) waits.0, waits.1)
     ]
 cursor_moves done at after number shards (Some node) c found other way =
-    let takes = cursor_takes done (drop at done) number shards (get_or done at (0, 0)) (drop (at + 1) done) c (rest_is done at (0, 0) found.0) (ap (λ (p : ℕ × ℕ). p.0) found.1) in
+    let takes = cursor_takes done (drop at done) number shards (get_or done at (0, 0)) (drop (at + 1) done) c (drop_more done at (0, 0) found.0) (ap (λ (p : ℕ × ℕ). p.0) found.1) in
     elim way as (λ _. Cursor done (drop after done) (number + 1) shards × (done_at number done ≡ Some node)) [
       | inl w ↦ (subst (λ n. Cursor done (drop n done) (number + 1) shards) (sym w.1) takes.0, takes.1 ∙ ap (λ (p : ℕ × ℕ). Some p.1) found.1)
       | inr w ↦ let clash : true ≡ false = w.0 in cc

@@ -5,14 +5,16 @@ use Rattle.std.proofs.lemmas.List.{length-map}
 use Rattle.m3_model.specs.Ascends.{Ascends}
 use Rattle.m3_model.specs.Members.{IsIn}
 use Rattle.m3_model.proofs.MemberLemmas.{IsIn-map, map-IsIn}
+use Rattle.m3_model.proofs.Lists.{IsIn-filter, IsIn-filter_passes, filter-IsIn}
+use Rattle.m3_model.proofs.Ascending.{Ascends-filter}
 use Rattle.m3_model.specs.declared.placement.ShardState.{ShardState}
 use Rattle.m3_model.specs.declared.placement.ShardState.TheVariants.{Initializing, Available, Leaving}
 use Rattle.m3_model.specs.declared.placement.Assignment.{Assignment}
 use Rattle.placement_core.specs.Shards.{Shard, counts, holds, is_available, is_holder, is_steady, nodes_of, counted, holders, former}
 use Rattle.placement_core.specs.Lawful.{IsSteady, IsMoving, IsShard}
 use Rattle.placement_core.specs.Steps.{without}
-use Rattle.placement_core.proofs.ListLemmas.{IsIn-filter, chosen, filter-IsIn, filter_same, filter_all}
-use Rattle.placement_core.proofs.OrderLemmas.{ascends-filter, ascends-map}
+use Rattle.placement_core.proofs.ListLemmas.{filter_same, filter_all}
+use Rattle.placement_core.proofs.OrderLemmas.{ascends-map}
 
 -- ---- states
 
@@ -32,7 +34,7 @@ not_joining st h e = let clash : false ≡ true = ap holds (sym e) ∙ h in cc
 -- ---- the nodes that a test chooses
 
 pub chosen_node : (p : Assignment → Bool) (shard : Shard) (n : ℕ) → IsIn (nodes_of (filter p shard)) n → (x : Assignment) × IsIn shard x × (x.node ≡ n) × (p x ≡ true)
-chosen_node p shard n h = let from = IsIn-map (λ (a : Assignment). a.node) (filter p shard) n h in (from.0, IsIn-filter p shard from.0 from.1, from.2, chosen p shard from.0 from.1)
+chosen_node p shard n h = let from = IsIn-map (λ (a : Assignment). a.node) (filter p shard) n h in (from.0, IsIn-filter p shard from.0 from.1, from.2, IsIn-filter_passes p shard from.0 from.1)
 
 pub node_chosen : (p : Assignment → Bool) (shard : Shard) (n : ℕ) (x : Assignment) → IsIn shard x → x.node ≡ n → p x ≡ true → IsIn (nodes_of (filter p shard)) n
 node_chosen p shard n x h e on = subst (IsIn (nodes_of (filter p shard))) e (map-IsIn (λ (a : Assignment). a.node) (filter p shard) x (filter-IsIn p shard x h on))
@@ -71,7 +73,7 @@ own_node a n e = ap not (eq-eqb a n e)
 
 pub without_was : (n : ℕ) (shard : Shard) (x : Assignment) → IsIn (without n shard) x → IsIn shard x × (x.node ≢ n)
 without_was n shard x h =
-    (IsIn-filter (λ a. not (nat_eq a.node n)) shard x h, λ e. let clash : false ≡ true = sym (own_node x.node n e) ∙ chosen (λ a. not (nat_eq a.node n)) shard x h in cc)
+    (IsIn-filter (λ a. not (nat_eq a.node n)) shard x h, λ e. let clash : false ≡ true = sym (own_node x.node n e) ∙ IsIn-filter_passes (λ a. not (nat_eq a.node n)) shard x h in cc)
 
 pub without_keeps : (n : ℕ) (shard : Shard) (x : Assignment) → IsIn shard x → x.node ≢ n → IsIn (without n shard) x
 without_keeps n shard x h ne = filter-IsIn (λ a. not (nat_eq a.node n)) shard x h (other_node x.node n ne)
@@ -144,7 +146,7 @@ many_holders rf version shard h =
     ]
 
 pub distinct_holders : (rf version : ℕ) (shard : Shard) → IsShard rf version shard → Ascends ◌≢◌ (holders shard)
-distinct_holders rf version shard h = ascends-map ◌≢◌ (λ (a : Assignment). a.node) (filter is_holder shard) (ascends-filter (λ (a b : Assignment). a.node ≢ b.node) is_holder shard h.distinct)
+distinct_holders rf version shard h = ascends-map ◌≢◌ (λ (a : Assignment). a.node) (filter is_holder shard) (Ascends-filter (λ (a b : Assignment). a.node ≢ b.node) is_holder shard h.distinct)
 
 pub many_former : (rf version : ℕ) (shard : Shard) → IsShard rf version shard → is_steady shard ≡ false → length (former shard) ≡ rf
 many_former rf version shard h moving = ap (λ (b : Bool). length (cond b [] (holders shard))) moving ∙ many_holders rf version shard h

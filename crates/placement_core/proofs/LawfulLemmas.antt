@@ -8,9 +8,11 @@ use Rattle.m3_model.specs.declared.placement.Instance.{Instance}
 use Rattle.m3_model.specs.declared.placement.Placement.{Placement}
 use Rattle.m3_model.specs.declared.placement.ShardState.{ShardState}
 use Rattle.m3_model.specs.declared.placement.ShardState.TheVariants.{Initializing, Available, Leaving}
+use Rattle.m3_model.proofs.Lists.{All-from_each, IsIn-filter, IsIn-filter_passes, filter-IsIn}
+use Rattle.m3_model.proofs.Ascending.{Ascends-weaken}
 use Rattle.placement_core.specs.Shards.{Shard, stays, is_holder, is_staying}
 use Rattle.placement_core.proofs.HolderLemmas.{holds_of, not_joining}
-use Rattle.placement_core.proofs.ListLemmas.{IsIn-filter, chosen, filter-IsIn, IsIn-from_Any, Any-from_IsIn, each-from_All, All-from_each}
+use Rattle.placement_core.proofs.ListLemmas.{IsIn-from_Any, Any-from_IsIn, each-from_All}
 use Rattle.placement_core.specs.LawfulParts.{HasBothNames, IsSmall, AreNamed, IsListed, MovesTo, Moves, ApartBefore, ApartAfter, HasReplicas, HasNodes, IsGood}
 
 -- ---- lists in order
@@ -22,12 +24,8 @@ ascends_chosen R p (x ∷ xs) = by (p x) refl (ascends_chosen R p xs)
   where
     by : (b : Bool) → p x ≡ b → (Ascends R (filter p xs) ↔ Ascends (λ a b. p a ≡ true → p b ≡ true → R a b) xs)
         → Ascends R (cond b (x ∷ filter p xs) (filter p xs)) ↔ (((y : _) → IsIn xs y → p x ≡ true → p y ≡ true → R x y) × Ascends (λ a b. p a ≡ true → p b ≡ true → R a b) xs)
-    by true is rest = (λ h. ((λ y m px py. h.0 y (filter-IsIn p xs y m py)), rest.0 h.1), λ h. ((λ y m. h.0 y (IsIn-filter p xs y m) is (chosen p xs y m)), rest.1 h.1))
+    by true is rest = (λ h. ((λ y m px py. h.0 y (filter-IsIn p xs y m py)), rest.0 h.1), λ h. ((λ y m. h.0 y (IsIn-filter p xs y m) is (IsIn-filter_passes p xs y m)), rest.1 h.1))
     by false is rest = (λ h. ((λ y m px py. let clash : false ≡ true = sym is ∙ px in cc), rest.0 h), λ h. rest.1 h.1)
-
-ascends_as : {X : Type 0} (R S : X → X → Type 0) (xs : List X) → ((x y : X) → R x y → S x y) → Ascends R xs → Ascends S xs
-ascends_as R S [] f h = tt
-ascends_as R S (x ∷ xs) f h = ((λ y m. f x y (h.0 y m)), ascends_as R S xs f h.1)
 
 ascends_both : {X : Type 0} (R S : X → X → Type 0) (xs : List X) → Ascends R xs → Ascends S xs → Ascends (λ a b. R a b × S a b) xs
 ascends_both R S [] g h = tt
@@ -52,14 +50,14 @@ spread_decided instances shard =
     let after = ascends_chosen R is_staying shard in (
       λ t. record {
         listed = each-from_All (IsListed instances) shard t.0;
-        before = before.1 (ascends_as (λ a b. ApartBefore instances a b × ApartAfter instances a b) (λ a b. is_holder a ≡ true → is_holder b ≡ true → R a b) shard (λ a b h pa pb. h.0 (not_joining a.state pa) (not_joining b.state pb)) t.1);
-        after = after.1 (ascends_as (λ a b. ApartBefore instances a b × ApartAfter instances a b) (λ a b. is_staying a ≡ true → is_staying b ≡ true → R a b) shard (λ a b h pa pb. h.1 (not_leaving a.state pa) (not_leaving b.state pb)) t.1);
+        before = before.1 (Ascends-weaken (λ a b. ApartBefore instances a b × ApartAfter instances a b) (λ a b. is_holder a ≡ true → is_holder b ≡ true → R a b) shard (λ a b h pa pb. h.0 (not_joining a.state pa) (not_joining b.state pb)) t.1);
+        after = after.1 (Ascends-weaken (λ a b. ApartBefore instances a b × ApartAfter instances a b) (λ a b. is_staying a ≡ true → is_staying b ≡ true → R a b) shard (λ a b h pa pb. h.1 (not_leaving a.state pa) (not_leaving b.state pb)) t.1);
       },
       λ s. (
         All-from_each (IsListed instances) shard s.listed,
         ascends_both (ApartBefore instances) (ApartAfter instances) shard
-            (ascends_as (λ a b. is_holder a ≡ true → is_holder b ≡ true → R a b) (ApartBefore instances) shard (λ a b h na nb. h (holds_of a.state na) (holds_of b.state nb)) (before.0 s.before))
-            (ascends_as (λ a b. is_staying a ≡ true → is_staying b ≡ true → R a b) (ApartAfter instances) shard (λ a b h na nb. h (staying_of a.state na) (staying_of b.state nb)) (after.0 s.after)),
+            (Ascends-weaken (λ a b. is_holder a ≡ true → is_holder b ≡ true → R a b) (ApartBefore instances) shard (λ a b h na nb. h (holds_of a.state na) (holds_of b.state nb)) (before.0 s.before))
+            (Ascends-weaken (λ a b. is_staying a ≡ true → is_staying b ≡ true → R a b) (ApartAfter instances) shard (λ a b h na nb. h (staying_of a.state na) (staying_of b.state nb)) (after.0 s.after)),
       ),
     )
 

@@ -1,5 +1,5 @@
 -- Lists in the order of names.
-use Rattle.std.proofs.Common.{◌≡◌, ◌≢◌, ◌<◌, ℕ, zero, suc, List, [], ◌∷◌, length, get_or, map, filter, slice_get, Some, Option, Bool, true, false, cond, refl, sym, ap, subst, inl, inr, ◌∙◌, arith, IsPermutation, IsSortedByKey, swap, ◌⊎◌, Result, Ok, Err, IfOk}
+use Rattle.std.proofs.Common.{◌≡◌, ◌≢◌, ◌<◌, ℕ, zero, suc, List, [], ◌∷◌, length, get_or, map, filter, slice_get, Some, Option, Bool, true, false, refl, sym, ap, subst, inl, inr, ◌∙◌, arith, IsPermutation, IsSortedByKey, swap, ◌⊎◌, Result, Ok, Err, IfOk}
 use Rattle.std.specs.Option.{option_map_or}
 use Rattle.std.specs.Cmp.Lexicographic.{slice_cmp}
 use Rattle.std.specs.Ordering.{nat_cmp, is_lt, ordering_reverse}
@@ -13,6 +13,9 @@ use Rattle.std.proofs.lemmas.List.Sorted.{IsPermutation-keeps, sorted_far, ranks
 use Rattle.m3_model.specs.Ascends.{Ascends}
 use Rattle.m3_model.specs.Members.{IsIn}
 use Rattle.m3_model.proofs.MemberLemmas.{IsIn-map}
+use Rattle.m3_model.proofs.Lists.{IsIn-get_or}
+use Rattle.m3_model.proofs.Ascending.{Ascends-filter}
+pub use Rattle.m3_model.proofs.Ascending.{Ascends-filter as ascends-filter}
 use Rattle.placement_core.specs.NodeNames.{IsNamedBelow, name_of}
 use Rattle.m3_model.specs.Tags.{IsBelow}
 use Rattle.m3_model.specs.declared.placement.Assignment.{Assignment}
@@ -20,14 +23,14 @@ use Rattle.m3_model.specs.declared.placement.Instance.{Instance}
 use Rattle.m3_model.specs.declared.placement.Placement.{Placement}
 use Rattle.placement_core.specs.Shards.{Shard, shard_at, nodes_of}
 use Rattle.placement_core.specs.Lawful.{IsLawful}
-use Rattle.placement_core.proofs.ListLemmas.{IsIn-from_index, index-from_IsIn, IsIn-filter}
+use Rattle.placement_core.proofs.ListLemmas.{index-from_IsIn}
 
 -- ---- lists in strict order
 
 pub ascends-at : {X : Type 0} (R : X → X → Type 0) (xs : List X) (i j : ℕ) (d : X) → Ascends R xs → i < j → j < length xs → R (get_or xs i d) (get_or xs j d)
 ascends-at R [] i j d h lt within = absurd (omega arith)
 ascends-at R (x ∷ xs) zero zero d h lt within = absurd (omega arith)
-ascends-at R (x ∷ xs) zero (suc j) d h lt within = h.0 (get_or xs j d) (IsIn-from_index xs j d (omega arith))
+ascends-at R (x ∷ xs) zero (suc j) d h lt within = h.0 (get_or xs j d) (IsIn-get_or xs j d (omega arith))
 ascends-at R (x ∷ xs) (suc i) zero d h lt within = absurd (omega arith)
 ascends-at R (x ∷ xs) (suc i) (suc j) d h lt within = ascends-at R xs i j d h.1 (omega arith) (omega arith)
 
@@ -171,23 +174,15 @@ pub ascends-map : {X Y : Type 0} (R : Y → Y → Type 0) (f : X → Y) (xs : Li
 ascends-map R f [] h = tt
 ascends-map R f (x ∷ xs) h = (λ y m. let from = IsIn-map f xs y m in subst (R (f x)) from.2 (h.0 from.0 from.1), ascends-map R f xs h.1)
 
-ascends_by : {X : Type 0} (R : X → X → Type 0) (p : X → Bool) (x : X) (xs : List X) (b : Bool) → ((y : X) → IsIn xs y → R x y) → Ascends R (filter p xs) → Ascends R (cond b (x ∷ filter p xs) (filter p xs))
-ascends_by R p x xs true h t = (λ y m. h y (IsIn-filter p xs y m), t)
-ascends_by R p x xs false h t = t
-
-pub ascends-filter : {X : Type 0} (R : X → X → Type 0) (p : X → Bool) (xs : List X) → Ascends R xs → Ascends R (filter p xs)
-ascends-filter R p [] h = tt
-ascends-filter R p (x ∷ xs) h = ascends_by R p x xs (p x) h.0 (ascends-filter R p xs h.1)
-
 -- the assignments of a shard of a lawful placement
 pub shard_differs : (place : Placement) (shard : ℕ) → IsLawful place → shard < length place.shards → Ascends (λ a b. Differ place.instances a.node b.node) (shard_at place shard)
 shard_differs place shard lawful lt =
-    let here = IsIn-from_index place.shards shard [] lt in
+    let here = IsIn-get_or place.shards shard [] lt in
     let spread = lawful.spread (shard_at place shard) here in
     differ_all place.instances (shard_at place shard) (lawful.limits).distinct (λ a m. let l = spread.listed a m in (l.0, l.1)) (lawful.shards (shard_at place shard) here).distinct
 
 pub nodes_differ : (place : Placement) (p : Assignment → Bool) (shard : Shard) → Ascends (λ a b. Differ place.instances a.node b.node) shard → Ascends (Differ place.instances) (nodes_of (filter p shard))
-nodes_differ place p shard h = ascends-map (Differ place.instances) (λ a. a.node) (filter p shard) (ascends-filter (λ a b. Differ place.instances a.node b.node) p shard h)
+nodes_differ place p shard h = ascends-map (Differ place.instances) (λ a. a.node) (filter p shard) (Ascends-filter (λ a b. Differ place.instances a.node b.node) p shard h)
 
 -- the same of a list that was made, where it was
 pub result_by_name : {X E : Type 0} (place : Placement) (node : X → ℕ) (items : List X) (made : Result (List X) E) → Ascends (λ a b. Differ place.instances (node a) (node b)) items

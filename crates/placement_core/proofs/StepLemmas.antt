@@ -1,14 +1,16 @@
 -- What the tests of a shard's step say.
 use Rattle.std.proofs.Common.{◌≡◌, ◌↔◌, ℕ, ◌+◌, ◌<◌, arith, Option, slice_get, [], ◌∷◌, ◌++◌, List, map, All, Any, Some, None, Bool, true, false, IsTrue, inl, inr, sym, subst, ap, ◌∙◌}
 use Rattle.std.proofs.lemmas.Bool.{cases_eq}
+use Rattle.std.proofs.lemmas.List.{same_from_push}
 use Rattle.m3_model.specs.Members.{IsIn}
 use Rattle.m3_model.proofs.MemberLemmas.{IsIn-map, map-IsIn}
+use Rattle.m3_model.proofs.Lists.{All-from_each}
 use Rattle.m3_model.specs.declared.placement.Assignment.{Assignment}
 use Rattle.m3_model.specs.declared.placement.ShardState.TheVariants.{Initializing, Leaving}
 use Rattle.placement_core.specs.Shards.{Shard, nodes_of}
 use Rattle.placement_core.specs.Lawful.{IsServing}
 use Rattle.placement_core.specs.Steps.{turned, Begins, IsCancelOf, IsShardStep, done_at}
-use Rattle.placement_core.proofs.ListLemmas.{IsIn-from_Any, Any-from_IsIn, each-from_All, All-from_each, snoc_same, same_at}
+use Rattle.placement_core.proofs.ListLemmas.{IsIn-from_Any, Any-from_IsIn, each-from_All, same_at}
 
 pub has_node : (shard : Shard) (n : ℕ) → Any (λ a. a.node ≡ n) shard → IsIn (nodes_of shard) n
 has_node shard n h = let m = IsIn-from_Any (λ (a : Assignment). a.node ≡ n) shard h in subst (IsIn (nodes_of shard)) m.2 (map-IsIn (λ (a : Assignment). a.node) shard m.0 m.1)
@@ -35,7 +37,7 @@ begins_from version old next others joining from e source w = record {
 
 begins_with : (version : ℕ) (old next others : Shard) (joining : Assignment) (from : ℕ) → next ≡ others ++ joining ∷ [] → joining.source ≡ Some from → Begins version old next → BeginsWith version old others joining from
 begins_with version old next others joining from e source b =
-    let parts = snoc_same others (map (turned b.from Leaving) old) joining b.joining (sym e ∙ b.next_is) in
+    let parts = same_from_push others (map (turned b.from Leaving) old) joining b.joining (sym e ∙ b.next_is) in
     let named : Some from ≡ Some b.from = sym source ∙ ap (λ a. a.source) parts.1 ∙ (b.joins).1 in
     let source_is : from ≡ b.from = cc in (
       ap (λ a. a.state) parts.1 ∙ (b.joins).0,

@@ -8,10 +8,10 @@ use Rattle.std.specs.Cmp.Lexicographic.{slice_cmp}
 use Rattle.std.specs.declared.cmp.Ordering.{Ordering}
 use Rattle.std.specs.declared.cmp.Ordering.TheVariants.{Less, Equal, Greater}
 use Rattle.std.proofs.lemmas.Bool.{eqb-true, eqb-false}
+use Rattle.std.proofs.lemmas.Option.{slice_get_within}
 use Rattle.m3_model.specs.Ascends.{Ascends}
 use Rattle.m3_model.specs.declared.placement.Instance.{Instance}
 use Rattle.placement_core.specs.NodeNames.{name_of}
-use Rattle.placement_core.proofs.ListLemmas.{at_within}
 use Rattle.placement_core.proofs.OrderLemmas.{names_at}
 use Rattle.placement_plan.specs.Choices.{IsLeastLoaded, taking_cmp}
 use Rattle.placement_plan.specs.Plans.{MakesAll}
@@ -35,7 +35,7 @@ same_by_prefix {X} (x ∷ xs) (y ∷ ys) e h =
 pub made_once : {X : Type 0} (Made Also : ℕ → X → X → Type 0) (old one other : List X) → MakesAll Made old one → MakesAll Also old other
     → ((k : ℕ) (a b c : X) → slice_get old k ≡ Some a → take k one ≡ take k other → Made k a b → Also k a c → b ≡ c) → one ≡ other
 made_once Made Also old one other m n h = same_by_prefix one other (m.count ∙ sym n.count) (λ k b c f eb ec.
-    let a = at_below old k (subst (λ (z : ℕ). k < z) m.count (at_within one k b eb)) in
+    let a = at_below old k (subst (λ (z : ℕ). k < z) m.count (slice_get_within one k b eb)) in
     h k a.0 b c a.1 f (m.each k a.0 b a.1 eb) (n.each k a.0 c a.1 ec))
 
 -- ---- nodes

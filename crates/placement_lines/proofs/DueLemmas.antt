@@ -5,6 +5,7 @@ use Rattle.std.specs.List.{list_any}
 use Rattle.std.specs.Option.{option_or}
 use Rattle.std.proofs.lemmas.Bool.{le-leb, lt-leb}
 use Rattle.std.proofs.lemmas.Slice.Eq.{bytes_eq-Decides}
+use Rattle.std.proofs.Math.Bool.{or-true}
 use Rattle.m3_model.specs.Members.{IsIn}
 use Rattle.m3_model.specs.declared.act.Act.{Act}
 use Rattle.m3_model.specs.declared.act.Act.TheVariants as act
@@ -24,17 +25,13 @@ use Rattle.placement_acts.proofs.ActLemmas.{by_step}
 
 -- ---- names
 
-or_true : (b : Bool) → (b || true) ≡ true
-or_true true = refl
-or_true false = refl
-
 pub known_in : (name : List ℕ) (instances : List Instance) (i : Instance) → IsIn instances i → i.name ≡ name → list_any (λ (node : Instance). pointwise nat_eq name node.name) instances ≡ true
 known_in name [] i m e = absurd m
 known_in name (x ∷ xs) i m e =
     let test : Instance → Bool = λ node. pointwise nat_eq name node.name in
     elim m as (λ _. (test x || list_any test xs) ≡ true) [
       | inl here ↦ ap (λ b. b || list_any test xs) (ap test here ∙ (bytes_eq-Decides name i.name).1 (sym e))
-      | inr later ↦ ap (λ b. test x || b) (known_in name xs i later e) ∙ or_true (test x)
+      | inr later ↦ ap (λ b. test x || b) (known_in name xs i later e) ∙ or-true (test x)
     ]
 
 none_known : (name : List ℕ) (instances : List Instance) → IsNewName instances name → list_any (λ (node : Instance). pointwise nat_eq name node.name) instances ≡ false

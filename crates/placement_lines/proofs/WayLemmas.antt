@@ -1,5 +1,6 @@
 -- What is in the way of a step is one thing, and then there is no plan.
 use Rattle.std.proofs.Common.{◌≡◌, ◌<◌, ℕ, List, true, false, slice_get, Some, sym, ap, ap₂, subst, ◌∙◌, inl, inr, arith}
+use Rattle.std.proofs.lemmas.Option.{slice_get_within}
 use Rattle.m3_model.specs.Members.{IsIn}
 use Rattle.m3_model.specs.declared.act.Act.{Act}
 use Rattle.m3_model.specs.declared.answer.Answer.{Answer}
@@ -10,7 +11,7 @@ use Rattle.placement_core.specs.Lawful.{IsLawful}
 use Rattle.placement_core.specs.NodeNames.{name_of}
 use Rattle.placement_core.specs.Shards.{Shard, is_steady}
 use Rattle.placement_core.proofs.HolderLemmas.{the_joining, is_moving}
-use Rattle.placement_core.proofs.ListLemmas.{at_within, same_at}
+use Rattle.placement_core.proofs.ListLemmas.{same_at}
 use Rattle.placement_core.proofs.OrderLemmas.{at_in}
 use Rattle.isolation_groups.specs.Groups.{IsFree}
 use Rattle.placement_plan.specs.Choices.{MayTake}
@@ -120,7 +121,7 @@ module _ (place : Placement) (lawful : IsLawful place) where
   drain_finds : (name : List ℕ) (next : Placement) (s : ℕ) (plan : IsDrain place name next) → ¬ Stuck plan.node s
   drain_finds name next s plan first =
       let made = plan.follows.shards in
-      let at = at_below next.shards s (subst (λ (n : ℕ). s < n) (sym made.count) (at_within place.shards s first.shard first.stands)) in
+      let at = at_below next.shards s (subst (λ (n : ℕ). s < n) (sym made.count) (slice_get_within place.shards s first.shard first.stands)) in
       elim (made.each s first.shard at.0 first.stands at.1) as (λ _. ⊥) [ inl stays ↦ stays.0 first.holds.0 | inr goes ↦ first.holds.1 goes.1.0 goes.1.1.may ]
 
   abbrev Planned : Placement → Act → Type 0

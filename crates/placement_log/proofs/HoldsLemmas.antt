@@ -1,11 +1,10 @@
 -- What files hold where a segment is begun, a chunk is added, or the segments below it are taken away.
 use Rattle.std.proofs.Common.{◌≡◌, inl, inr, ⊎_elim, ℕ, ◌<◌, List, [], ◌∷◌, ◌++◌, length, drop, map, Option, Some, None, refl, sym, ap, subst, ◌∙◌, append_assoc, append-nil, All}
-use Rattle.std.proofs.lemmas.List.{map_push, drop-map, drop_at}
+use Rattle.std.proofs.lemmas.List.{map_push, drop-map, drop_at, same_from_push}
 use Rattle.std.proofs.lemmas.List.Elements.{All-push, All-drop}
 use Rattle.m3_model.specs.declared.rules.MetaState.{MetaState}
 use Rattle.m3_outside.specs.Files.{Files}
 use Rattle.m3_outside.specs.Removal.{MayTakeAway}
-use Rattle.placement_core.proofs.ListLemmas.{snoc_same}
 use Rattle.commit_log.specs.Contents.{numbers, PartsHold}
 use Rattle.commit_log.specs.Cutting.{numbers_below, segments_below}
 use Rattle.commit_log.specs.LogEnd.{NoneAbove, MayBeginSegment}
@@ -83,7 +82,7 @@ module _ (number : ℕ) (state : MetaState) (is : IsMetaState state) (x y z : Fi
       b.split ∙ ap (λ (l : List (List ℕ)). b.first ++ l) b.later ∙ append-nil b.first ∙ has_one number y b.first (adds.chunks ++ payload ∷ []) b.has own
 
   front_is : cs ≡ parts.front ++ adds.chunks
-  front_is = (snoc_same cs (parts.front ++ adds.chunks) payload payload (parts.split ∙ ap (λ (l : List (List ℕ)). parts.front ++ l) back_is ∙ sym (append_assoc parts.front adds.chunks (payload ∷ [])))).0
+  front_is = (same_from_push cs (parts.front ++ adds.chunks) payload payload (parts.split ∙ ap (λ (l : List (List ℕ)). parts.front ++ l) back_is ∙ sym (append_assoc parts.front adds.chunks (payload ∷ [])))).0
 
   at : IsCutAt number parts.front (adds.chunks ++ payload ∷ []) number y
   at = record {

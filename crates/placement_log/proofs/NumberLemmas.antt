@@ -7,12 +7,12 @@ use Rattle.std.proofs.lemmas.Bool.{cases_eq, lt-ltb, le-ltb, ltb-true, ltb-false
 use Rattle.m3_model.specs.Members.{IsIn}
 use Rattle.m3_model.specs.Ascends.{Ascends}
 use Rattle.m3_model.proofs.MemberLemmas.{map-IsIn}
+use Rattle.m3_model.proofs.Lists.{IsIn-filter, IsIn-filter_passes, filter-IsIn}
+use Rattle.m3_model.proofs.Ascending.{Ascends-filter}
 use Rattle.m3_outside.specs.Files.{Files, IsAbsent}
 use Rattle.m3_outside.specs.DiskState.{HaveSameNames}
 use Rattle.m3_outside.specs.Removal.{without_files}
 use Rattle.m3_outside.proofs.Removal.{none_stays, gone_none, left_same}
-use Rattle.placement_core.proofs.ListLemmas.{IsIn-filter, filter-IsIn, chosen}
-use Rattle.placement_core.proofs.OrderLemmas.{ascends-filter}
 use Rattle.commit_log.specs.Contents.{numbers}
 use Rattle.commit_log.specs.Cutting.{numbers_below, numbers_from, segments_below}
 use Rattle.commit_log.specs.LogEnd.{NoneAbove, NoneFrom}
@@ -85,12 +85,12 @@ older_below number files file none there =
 -- the last one alone isn't below
 pub from_last : (number : ℕ) (files : Files) (file : List ℕ) → NoneAbove number files → get files (segment number) ≡ Some file → numbers_from number files ≡ number ∷ []
 from_last number files file none there =
-    same_members (numbers_from number files) (number ∷ []) (ascends-filter (λ a b. a < b) (λ n. not (nat_lt n number)) (numbers files) (ascend files)) ((λ k m. absurd m), tt) to back
+    same_members (numbers_from number files) (number ∷ []) (Ascends-filter (λ a b. a < b) (λ n. not (nat_lt n number)) (numbers files) (ascend files)) ((λ k m. absurd m), tt) to back
   where
     to : (n : ℕ) → IsIn (numbers_from number files) n → IsIn (number ∷ []) n
     to n m =
         let high = none_there files number n none (IsIn-filter (λ k. not (nat_lt k number)) (numbers files) n m) in
-        let low = low_of (nat_lt n number) refl (chosen (λ k. not (nat_lt k number)) (numbers files) n m) in
+        let low = low_of (nat_lt n number) refl (IsIn-filter_passes (λ k. not (nat_lt k number)) (numbers files) n m) in
         inl (omega (arith, high, low))
       where
         low_of : (b : Bool) → nat_lt n number ≡ b → not (nat_lt n number) ≡ true → number ≤ n

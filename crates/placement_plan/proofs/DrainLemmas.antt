@@ -9,6 +9,7 @@ use Rattle.std.proofs.lemmas.Option.{slice_get_within, get_or_from_slice_get}
 use Rattle.m3_model.specs.declared.placement.Instance.{Instance}
 use Rattle.m3_model.specs.declared.placement.Placement.{Placement}
 use Rattle.m3_model.specs.declared.limits.TheConstants.{MOST_SHARDS}
+use Rattle.m3_model.proofs.Lists.{take_whole}
 use Rattle.placement_core.specs.Shards.{Shard}
 use Rattle.placement_core.specs.Lawful.{IsSpread, IsLawful}
 use Rattle.placement_core.specs.Steps.{IsStep, IsShardStep}
@@ -45,10 +46,6 @@ moves_same instances f g version node a b same h = elim h as (λ _. MovesBy inst
 
 pub drop_at : {X : Type 0} (xs : List X) (n : ℕ) (x : X) → slice_get xs n ≡ Some x → drop n xs ≡ x ∷ drop (n + 1) xs
 drop_at xs n x at = drop_more xs n x (slice_get_within xs n x at) ∙ ap (λ y. y ∷ drop (n + 1) xs) (get_or_from_slice_get xs n x x at)
-
-pub take_whole : {X : Type 0} (xs : List X) → take (length xs) xs ≡ xs
-take_whole [] = refl
-take_whole (x ∷ xs) = ap (λ ys. x ∷ ys) (take_whole xs)
 
 pub at_below : {X : Type 0} (xs : List X) (k : ℕ) → k < length xs → (x : X) × (slice_get xs k ≡ Some x)
 at_below [] k lt = absurd (omega arith)

@@ -9,11 +9,13 @@ use Rattle.m3_model.specs.Limits.{IsInit}
 use Rattle.placement_core.specs.Lawful.{IsApart, IsShard, IsSpread, IsLawful}
 use Rattle.placement_plan.specs.First.{IsFirstShard, IsFirstPlacement, first_instances, first_at, IsPlacedShard, IsInitial}
 use Rattle.m3_model.proofs.MemberLemmas.{IsIn-map}
+use Rattle.m3_model.proofs.Ascending.{Ascends-filter}
+use Rattle.m3_model.proofs.Lists.{IsIn-take}
 use Rattle.m3_model.specs.declared.placement.Assignment.{Assignment}
 use Rattle.m3_model.specs.declared.placement.Instance.{Instance}
 use Rattle.m3_model.specs.declared.placement.Placement.{Placement}
 use Rattle.placement_core.specs.Shards.{Shard, is_holder, is_staying}
-use Rattle.placement_core.proofs.OrderLemmas.{ascends-from_at, ascends-filter, ascends-map, at_in, names_at}
+use Rattle.placement_core.proofs.OrderLemmas.{ascends-from_at, ascends-map, at_in, names_at}
 use Rattle.isolation_groups.specs.Groups.{group_of}
 use Rattle.placement_plan.proofs.PlaceLemmas.{in_at}
 use Rattle.placement_plan.proofs.SpreadLemmas.{group_is, ListedAt}
@@ -26,12 +28,6 @@ in_front [] i j d lt within = absurd (omega arith)
 in_front (x ∷ xs) i zero d lt within = absurd (omega arith)
 in_front (x ∷ xs) zero (suc j) d lt within = inl refl
 in_front (x ∷ xs) (suc i) (suc j) d lt within = inr (in_front xs i j d (omega arith) (omega arith))
-
-front_in : {X : Type 0} (xs : List X) (n : ℕ) (x : X) → IsIn (take n xs) x → IsIn xs x
-front_in [] zero x m = m
-front_in [] (suc n) x m = m
-front_in (y ∷ ys) zero x m = absurd m
-front_in (y ∷ ys) (suc n) x m = elim m as (λ _. IsIn (y ∷ ys) x) [ inl e ↦ inl e | inr r ↦ inr (front_in ys n x r) ]
 
 -- a list is in order where each element follows all those before it
 ascends_by_front : {X : Type 0} (R : X → X → Type 0) (xs : List X) → ((r : ℕ) (a : X) → slice_get xs r ≡ Some a → (x : X) → IsIn (take r xs) x → R x a) → Ascends R xs
@@ -80,7 +76,7 @@ module _ (instances : List Instance) (distinct : Ascends (λ a b. a.name ≢ b.n
 
   shard_apart : Ascends (IsApart instances) shard
   shard_apart = ascends_by_front (IsApart instances) shard (λ r a at x m.
-      let one = listed_at x (front_in shard r x m) in
+      let one = listed_at x (IsIn-take r shard x m) in
       let other = listed_at a (at_in shard r a at) in
       let differ = groups_differ r a at x m in
       record {
@@ -95,8 +91,8 @@ module _ (instances : List Instance) (distinct : Ascends (λ a b. a.name ≢ b.n
   pub first_spread : IsSpread instances shard
   first_spread = record {
     listed = listed_at;
-    before = ascends-filter (IsApart instances) is_holder shard shard_apart;
-    after = ascends-filter (IsApart instances) is_staying shard shard_apart;
+    before = Ascends-filter (IsApart instances) is_holder shard shard_apart;
+    after = Ascends-filter (IsApart instances) is_staying shard shard_apart;
   }
 
   pub first_shard : IsShard rf 1 shard

@@ -7,11 +7,11 @@ use Rattle.std.proofs.lemmas.List.{length-set}
 use Rattle.std.proofs.lemmas.Option.{slice_get_within}
 use Rattle.m3_model.specs.Names.{is_name}
 use Rattle.m3_model.proofs.MemberLemmas.{IsIn-append_cases}
+use Rattle.m3_model.proofs.Ascending.{Ascends-push}
 use Rattle.m3_model.specs.declared.placement.Instance.{Instance}
 use Rattle.placement_core.specs.Steps.{KeepsNames}
 use Rattle.placement_core.proofs.ListLemmas.{same_at}
 use Rattle.placement_core.proofs.OrderLemmas.{at_in}
-use Rattle.placement_core.proofs.ChangeLemmas.{ascends-push}
 use Rattle.placement_plan.specs.Nodes.{IsNodeNamed, IsNewName, Joins, fresh_node}
 use Rattle.placement_plan.specs.Plans.{HasRoom}
 use Rattle.placement_plan.proofs.PlaceLemmas.{in_at}
@@ -87,7 +87,7 @@ module _ (old : List Instance) (name group : List ℕ) (node : ℕ) (nodes : Are
         | inl h ↦ nodes.named i h
         | inr h ↦ elim h as (λ _. IsTrue (is_name i.name) × IsTrue (is_name i.group)) [ inl e ↦ subst (λ (z : Instance). IsTrue (is_name z.name) × IsTrue (is_name z.group)) e (is_named, is_grouped) | inr none ↦ absurd none ]
       ];
-      distinct = ascends-push (λ (a b : Instance). a.name ≢ b.name) old (fresh_node name group) nodes.distinct new;
+      distinct = Ascends-push (λ (a b : Instance). a.name ≢ b.name) old (fresh_node name group) nodes.distinct new;
     };
     names = λ n was at. (was, push_there old (fresh_node name group) n was at, refl);
     at = push_here old (fresh_node name group);

@@ -4,6 +4,7 @@ use Rattle.std.proofs.lemmas.Bool.{cases_eq, cases_lt, eq-eqb, ne_eqb}
 use Rattle.std.proofs.lemmas.List.{get_or_past}
 use Rattle.std.proofs.lemmas.List.Folds.{list_any-append}
 use Rattle.std.proofs.lemmas.List.Sums.{count_by-le-length, sum_by-append, sum_by-cons}
+use Rattle.std.proofs.Math.Bool.{or-false, or-true, and-false}
 use Rattle.m3_model.specs.declared.placement.ShardState.TheVariants.{Leaving}
 use Rattle.m3_model.specs.declared.placement.Assignment.{Assignment}
 use Rattle.m3_model.specs.declared.limits.TheConstants.{MOST_SHARDS}
@@ -25,11 +26,7 @@ not_at : (n : ℕ) (a : Assignment) → a.node ≢ n → test n a ≡ false
 not_at n a ne = ap (λ b. b && is_staying a) (ne_eqb a.node n ne)
 
 gone_at : (n : ℕ) (a : Assignment) → a.state ≡ Leaving → test n a ≡ false
-gone_at n a e = ap (λ st. nat_eq a.node n && stays st) e ∙ and_false (nat_eq a.node n)
-  where
-    and_false : (b : Bool) → (b && false) ≡ false
-    and_false true = refl
-    and_false false = refl
+gone_at n a e = ap (λ st. nat_eq a.node n && stays st) e ∙ and-false (nat_eq a.node n)
 
 or_same : (a b c d : Bool) → a ≡ c → b ≡ d → (a || b) ≡ (c || d)
 or_same a b c d e f = ap (λ x. x || b) e ∙ ap (λ x. c || x) f
@@ -38,15 +35,11 @@ pub serves_lacks : (n : ℕ) (shard : Shard) → ¬ Has n shard → serves n sha
 serves_lacks n [] h = refl
 serves_lacks n (a ∷ shard) h = or_same (test n a) (serves n shard) false false (not_at n a (λ e. h (inl e))) (serves_lacks n shard (λ m. h (inr m)))
 
-or_true : (b : Bool) → (b || true) ≡ true
-or_true true = refl
-or_true false = refl
-
 pub serves_has : (n : ℕ) (shard : Shard) → IsSteady shard → Has n shard → serves n shard ≡ true
 serves_has n [] steady h = absurd h
 serves_has n (a ∷ shard) steady h = elim h as (λ _. serves n (a ∷ shard) ≡ true) [
   | inl e ↦ ap (λ b. b || serves n shard) (ap (λ b. b && is_staying a) (eq-eqb a.node n e) ∙ ap stays (steady a (inl refl)).0)
-  | inr m ↦ ap (λ b. test n a || b) (serves_has n shard (λ x k. steady x (inr k)) m) ∙ or_true (test n a)
+  | inr m ↦ ap (λ b. test n a || b) (serves_has n shard (λ x k. steady x (inr k)) m) ∙ or-true (test n a)
 ]
 
 serves_turned_other : (n from : ℕ) (shard : Shard) → n ≢ from → serves n (map (turned from Leaving) shard) ≡ serves n shard
@@ -68,15 +61,11 @@ serves_turned_from from (a ∷ shard) =
     ]) (serves_turned_from from shard)
 
 serves_moved : (n version from to : ℕ) (shard : Shard) → serves n (moved version from to shard) ≡ (serves n (map (turned from Leaving) shard) || test n (joining_at version from to))
-serves_moved n version from to shard = list_any-append (test n) (map (turned from Leaving) shard) (joining_at version from to ∷ []) ∙ ap (λ b. serves n (map (turned from Leaving) shard) || b) (or_none (test n (joining_at version from to)))
-  where
-    or_none : (b : Bool) → (b || false) ≡ b
-    or_none true = refl
-    or_none false = refl
+serves_moved n version from to shard = list_any-append (test n) (map (turned from Leaving) shard) (joining_at version from to ∷ []) ∙ ap (λ b. serves n (map (turned from Leaving) shard) || b) (or-false (test n (joining_at version from to)))
 
 pub moved_to : (version from to : ℕ) (shard : Shard) → serves to (moved version from to shard) ≡ true
 moved_to version from to shard =
-    serves_moved to version from to shard ∙ ap (λ b. serves to (map (turned from Leaving) shard) || b) (ap (λ b. b && true) (eq-eqb to to refl)) ∙ or_true (serves to (map (turned from Leaving) shard))
+    serves_moved to version from to shard ∙ ap (λ b. serves to (map (turned from Leaving) shard) || b) (ap (λ b. b && true) (eq-eqb to to refl)) ∙ or-true (serves to (map (turned from Leaving) shard))
 
 pub moved_from : (version from to : ℕ) (shard : Shard) → from ≢ to → serves from (moved version from to shard) ≡ false
 moved_from version from to shard ne =
@@ -84,11 +73,7 @@ moved_from version from to shard ne =
 
 pub moved_other : (n version from to : ℕ) (shard : Shard) → n ≢ from → n ≢ to → serves n (moved version from to shard) ≡ serves n shard
 moved_other n version from to shard nf nt =
-    serves_moved n version from to shard ∙ or_same (serves n (map (turned from Leaving) shard)) (test n (joining_at version from to)) (serves n shard) false (serves_turned_other n from shard nf) (not_at n (joining_at version from to) (λ e. nt (sym e))) ∙ or_none (serves n shard)
-  where
-    or_none : (b : Bool) → (b || false) ≡ b
-    or_none true = refl
-    or_none false = refl
+    serves_moved n version from to shard ∙ or_same (serves n (map (turned from Leaving) shard)) (test n (joining_at version from to)) (serves n shard) false (serves_turned_other n from shard nf) (not_at n (joining_at version from to) (λ e. nt (sym e))) ∙ or-false (serves n shard)
 
 -- ---- loads
 

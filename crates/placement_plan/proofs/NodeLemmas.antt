@@ -5,6 +5,7 @@ use Rattle.std.specs.List.{list_any}
 use Rattle.std.proofs.lemmas.List.Folds.{list_any_at}
 use Rattle.std.proofs.lemmas.Option.{slice_get_within, get_or_from_slice_get}
 use Rattle.std.proofs.lemmas.Slice.Eq.{bytes_eq-Decides}
+use Rattle.std.proofs.lemmas.Bool.{and_from}
 use Rattle.m3_model.specs.declared.placement.Instance.{Instance}
 use Rattle.m3_model.specs.declared.placement.Placement.{Placement}
 use Rattle.placement_core.specs.NodeNames.{is_listed}
@@ -16,15 +17,12 @@ use Rattle.placement_plan.specs.declared.plan_err.PlaceErr.TheVariants.{Busy, Gr
 pub lists_at : (instances : List Instance) (name : List ℕ) (n : ℕ) (i : Instance) (same : Bool) → slice_get instances n ≡ Some i → i.listed ≡ true → same ≡ pointwise nat_eq name i.name → same ≡ true → ListsNode instances name n
 lists_at instances name n i same at listed is on = record { instance = i; stands = at; named = sym ((bytes_eq-Decides name i.name).0 (cc)); listed = listed }
 
-pub and_both : (a b : Bool) → a ≡ true → b ≡ true → (a && b) ≡ true
-and_both a b ea eb = ap (λ x. x && b) ea ∙ eb
-
 -- a listed node of the name is found
 pub listed_found : (instances : List Instance) (name : List ℕ) (n : ℕ) (i : Instance) → slice_get instances n ≡ Some i → i.name ≡ name → i.listed ≡ true → list_any (λ node. node.listed && pointwise nat_eq name node.name) instances ≡ true
 listed_found instances name n i at named listed =
     let test : Instance → Bool = λ node. node.listed && pointwise nat_eq name node.name in
     list_any_at test instances n i (slice_get_within instances n i at)
-    (ap test (get_or_from_slice_get instances n i i at) ∙ and_both i.listed (pointwise nat_eq name i.name) listed ((bytes_eq-Decides name i.name).1 (sym named)))
+    (ap test (get_or_from_slice_get instances n i i at) ∙ and_from i.listed (pointwise nat_eq name i.name) listed ((bytes_eq-Decides name i.name).1 (sym named)))
 
 pub lists_found : (place : Placement) (name : List ℕ) (n : ℕ) → ListsNode place.instances name n → is_listed name place ≡ true
 lists_found place name n h = listed_found place.instances name n h.instance h.stands h.named h.listed

@@ -1,6 +1,5 @@
 -- Lists read by position, as loops read them.
-use Rattle.std.proofs.Common.{◌≡◌, ◌<◌, ◌≤◌, ◌⊎◌, ℕ, zero, suc, ◌+◌, List, [], ◌∷◌, ◌++◌, length, get_or, slice_get, Some, None, refl, sym, subst, ap, ◌∙◌, inl, inr, arith, length-append, Result, Ok, Err, IfOk}
-use Rattle.std.proofs.lemmas.List.{get_or_default}
+use Rattle.std.proofs.Common.{◌≡◌, ◌<◌, ◌≤◌, ◌⊎◌, ℕ, zero, suc, ◌+◌, List, [], ◌∷◌, ◌++◌, length, get_or, slice_get, Some, None, refl, sym, subst, ap, ◌∙◌, inl, inr, arith, length-append}
 use Rattle.m3_model.specs.declared.placement.Assignment.{Assignment}
 use Rattle.m3_model.specs.declared.placement.ShardState.TheVariants.{Initializing}
 use Rattle.std.proofs.lemmas.Bool.{cases_eq}
@@ -28,10 +27,6 @@ none_all P xs n many below x m = let i = in_at xs x m in below i.0 x (omega (ari
 -- the assignment of zeros, which stands where a list has ended
 abbrev pub blank : Assignment
 blank = record { node = 0; tenure = 0; state = Initializing; source = None }
-
--- an item that a loop reads is at its position
-pub item_at : {X : Type 0} (xs : List X) (n : ℕ) (d : X) → n < length xs → slice_get xs n ≡ Some (get_or xs n d)
-item_at xs n d lt = at_index xs n (get_or xs n d) lt (get_or_default xs n d (get_or xs n d) lt)
 
 -- ---- lists that are made element by element from others
 
@@ -67,8 +62,3 @@ made_push Made old next pushed n a b is lt read made below = subst (λ xs. MadeB
 
 pub made_all : {X : Type 0} (Made : ℕ → X → X → Type 0) (old next : List X) (n : ℕ) → n ≤ length old → length old ≤ n → MadeBelow Made old next n → MakesAll Made old next
 made_all Made old next n le ge below = record { count = omega (arith, below.many, le, ge); each = below.each }
-
--- what follows of a value follows where there is one
-pub ok_gives : {A E : Type 0} (r : Result A E) (P Q : A → Type 0) → ((x : A) → P x → Q x) → IfOk r P → IfOk r Q
-ok_gives (Ok x) P Q f h = f x h
-ok_gives (Err e) P Q f h = tt

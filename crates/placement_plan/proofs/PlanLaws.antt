@@ -5,8 +5,8 @@ use Rattle.m3_model.specs.Members.{IsIn}
 use Rattle.placement_core.specs.Lawful.{IsApart}
 use Rattle.m3_model.specs.declared.placement.Assignment.{Assignment}
 use Rattle.m3_model.specs.declared.placement.Instance.{Instance}
+use Rattle.m3_model.proofs.Lists.{filter-IsIn}
 use Rattle.placement_core.specs.Shards.{Shard, is_holder, is_staying}
-use Rattle.placement_core.proofs.ListLemmas.{filter-IsIn}
 use Rattle.placement_core.proofs.HolderLemmas.{the_joining, is_moving}
 use Rattle.placement_plan.specs.Nodes.{load}
 use Rattle.isolation_groups.specs.Groups.{group_of}

@@ -1,5 +1,6 @@
 -- Shards that are steady, and moves that begin.
-use Rattle.std.proofs.Common.{◌≡◌, ◌≢◌, ◌&&◌, ℕ, [], ◌∷◌, Bool, true, false, refl, sym, ap, inl, inr, ◌∙◌, None}
+use Rattle.std.proofs.Common.{◌≡◌, ◌≢◌, ℕ, [], ◌∷◌, Bool, true, false, refl, sym, ap, inl, inr, ◌∙◌, None}
+use Rattle.std.proofs.lemmas.Bool.{and_from, and_parts}
 use Rattle.m3_model.specs.Members.{IsIn}
 use Rattle.m3_model.specs.declared.placement.ShardState.TheVariants.{Initializing, Available}
 use Rattle.m3_model.specs.declared.placement.Assignment.{Assignment}
@@ -9,22 +10,17 @@ use Rattle.placement_core.specs.Steps.{IsShardStep}
 use Rattle.placement_core.proofs.HolderLemmas.{available_of}
 use Rattle.placement_plan.specs.Nodes.{Has}
 use Rattle.placement_plan.specs.Choices.{moved}
-use Rattle.placement_plan.proofs.NodeLemmas.{and_both}
 use Rattle.placement_plan.proofs.SpreadLemmas.{joining_at}
-
-both : (a b : Bool) → (a && b) ≡ true → (a ≡ true) × (b ≡ true)
-both true b e = (refl, e)
-both false b e = let clash : false ≡ true = e in cc
 
 each_available : (shard : Shard) → is_steady shard ≡ true → (a : Assignment) → IsIn shard a → a.state ≡ Available
 each_available [] e a m = absurd m
 each_available (x ∷ xs) e a m =
-    let h = both (is_available x) (is_steady xs) e in
+    let h = and_parts (is_available x) (is_steady xs) e in
     elim m as (λ _. a.state ≡ Available) [ inl f ↦ ap (λ (z : Assignment). z.state) (sym f) ∙ available_of x.state h.0 | inr r ↦ each_available xs h.1 a r ]
 
 all_available : (shard : Shard) → ((a : Assignment) → IsIn shard a → a.state ≡ Available) → is_steady shard ≡ true
 all_available [] h = refl
-all_available (x ∷ xs) h = and_both (is_available x) (is_steady xs) (ap counts (h x (inl refl))) (all_available xs (λ a m. h a (inr m)))
+all_available (x ∷ xs) h = and_from (is_available x) (is_steady xs) (ap counts (h x (inl refl))) (all_available xs (λ a m. h a (inr m)))
 
 -- a shard that a node is joining isn't steady
 pub joining_moves : (shard : Shard) (a : Assignment) → IsIn shard a → a.state ≡ Initializing → is_steady shard ≡ false

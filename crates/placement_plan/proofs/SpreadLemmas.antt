@@ -8,16 +8,18 @@ use Rattle.m3_model.specs.Ascends.{Ascends}
 use Rattle.m3_model.specs.Members.{IsIn}
 use Rattle.placement_core.specs.Lawful.{IsApart, IsJoiningFrom, IsSteady, IsShard, IsSpread}
 use Rattle.m3_model.proofs.MemberLemmas.{IsIn-map, map-IsIn, IsIn-append_cases}
+use Rattle.m3_model.proofs.Lists.{IsIn-filter, IsIn-filter_passes, filter-IsIn}
+use Rattle.m3_model.proofs.Ascending.{Ascends-filter, Ascends-push}
 use Rattle.m3_model.specs.declared.placement.ShardState.{ShardState}
 use Rattle.m3_model.specs.declared.placement.ShardState.TheVariants.{Initializing, Available, Leaving}
 use Rattle.m3_model.specs.declared.placement.Assignment.{Assignment}
 use Rattle.m3_model.specs.declared.placement.Instance.{Instance}
 use Rattle.placement_core.specs.Shards.{Shard, holds, stays, is_holder, is_staying}
 use Rattle.placement_core.specs.Steps.{turned, without, settled}
-use Rattle.placement_core.proofs.ListLemmas.{IsIn-filter, chosen, filter-IsIn, filter_all}
-use Rattle.placement_core.proofs.OrderLemmas.{ascends-filter, ascends-map, names_at}
+use Rattle.placement_core.proofs.ListLemmas.{filter_all}
+use Rattle.placement_core.proofs.OrderLemmas.{ascends-map, names_at}
 use Rattle.placement_core.proofs.HolderLemmas.{holds_of, same_node, the_joining, is_moving}
-use Rattle.placement_core.proofs.ChangeLemmas.{ascends-push, turned_cases, turned_node, settled_was}
+use Rattle.placement_core.proofs.ChangeLemmas.{turned_cases, turned_node, settled_was}
 use Rattle.isolation_groups.specs.Groups.{group_of}
 use Rattle.placement_plan.specs.Choices.{MayTake, moved}
 
@@ -39,7 +41,7 @@ pub ascends_fewer : {X : Type 0} (R : X → X → Type 0) (p q : X → Bool) (xs
 ascends_fewer R p q [] f h = tt
 ascends_fewer R p q (y ∷ ys) f h =
     fewer_by R p q y ys (p y) (q y) (f y (inl refl)) (ascends_fewer R p q ys (λ x m. f x (inr m)))
-    (λ x m. filter-IsIn p ys x (IsIn-filter q ys x m) (f x (inr (IsIn-filter q ys x m)) (chosen q ys x m))) h
+    (λ x m. filter-IsIn p ys x (IsIn-filter q ys x m) (f x (inr (IsIn-filter q ys x m)) (IsIn-filter_passes q ys x m))) h
 
 -- ---- assignments to nodes that are apart
 
@@ -60,8 +62,8 @@ settled_spread nodes gone stays old listed apart =
     let all = apart_turned nodes stays Available (without gone old) apart in
     record {
       listed = λ x m. let w = settled_was gone stays old x m in subst (ListedAt nodes) (sym (ap (λ (z : Assignment). z.node) w.3 ∙ turned_node stays Available w.0)) (listed w.0 w.1);
-      before = ascends-filter (IsApart nodes) is_holder (settled gone stays old) all;
-      after = ascends-filter (IsApart nodes) is_staying (settled gone stays old) all;
+      before = Ascends-filter (IsApart nodes) is_holder (settled gone stays old) all;
+      after = Ascends-filter (IsApart nodes) is_staying (settled gone stays old) all;
     }
 
 not_node : (a n : ℕ) → not (nat_eq a n) ≡ true → a ≢ n
@@ -112,12 +114,12 @@ moved_spread version nodes from to shard distinct steady spread takes =
         | inl h ↦ let w = IsIn-map (turned from Leaving) shard x h in subst (ListedAt nodes) (sym (turned_node from Leaving w.0) ∙ ap (λ (z : Assignment). z.node) w.2) (spread.listed w.0 w.1)
         | inr h ↦ elim h as (λ _. ListedAt nodes x.node) [ inl e ↦ subst (ListedAt nodes) (ap (λ (z : Assignment). z.node) e) (takes.instance, takes.stands, takes.listed) | inr none ↦ absurd none ]
       ];
-      before = subst (Ascends (IsApart nodes)) (sym (filter-append is_holder others (joining ∷ []) ∙ append-nil (filter is_holder others))) (ascends-filter (IsApart nodes) is_holder others apart);
+      before = subst (Ascends (IsApart nodes)) (sym (filter-append is_holder others (joining ∷ []) ∙ append-nil (filter is_holder others))) (Ascends-filter (IsApart nodes) is_holder others apart);
       after = subst (Ascends (IsApart nodes)) (sym (filter-append is_staying others (joining ∷ [])))
-          (ascends-push (IsApart nodes) (filter is_staying others) joining (ascends-filter (IsApart nodes) is_staying others apart) (λ x m.
+          (Ascends-push (IsApart nodes) (filter is_staying others) joining (Ascends-filter (IsApart nodes) is_staying others apart) (λ x m.
           let w = IsIn-map (turned from Leaving) shard x (IsIn-filter is_staying others x m) in
           let node_is : x.node ≡ (w.0).node = ap (λ (z : Assignment). z.node) (sym w.2) ∙ turned_node from Leaving w.0 in
-          let stay = chosen is_staying others x m in
+          let stay = IsIn-filter_passes is_staying others x m in
           let other : (w.0).node ≢ from = λ e. elim (turned_cases from Leaving w.0) as (λ _. ⊥) [
             | inl c ↦ let clash : false ≡ true = ap (λ (z : Assignment). is_staying z) (sym c.1 ∙ w.2) ∙ stay in cc
             | inr c ↦ c.0 e

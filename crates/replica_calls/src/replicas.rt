@@ -12,7 +12,7 @@ ghost use Rattle.event_book.specs.Lists.{most_entries};
 ghost use Rattle.event_trail.specs.Trails.{IsLegalOver, IsLawfulOver};
 ghost use Rattle.replica_exchange.specs.MachineCalls.{HasRoom};
 ghost use Rattle.replica_exchange.specs.Exchanges.{seen_in, IsNothing, HasAdded};
-ghost use Rattle.replica_exchange.specs.Promises.{Begins, Puts, Reads, Flushes, Ticks, Saves, Fences, Stops, Restarts, Reports};
+ghost use Rattle.replica_exchange.specs.Promises.{Begins, Puts, Reads, Flushes, Ticks, Saves, Fences, Ends, Stops, Restarts, Reports};
 ghost use Rattle.replica_calls.specs.Calls.{first_member, AreMembersOf, MayCall, MayTell, IsNoStep};
 
 use event_book::Full;
@@ -20,7 +20,7 @@ use event_trail::{EventView, Trail};
 use m3_model::{Pick, Point, Reason, Report, Rules, Seq, Series};
 use m3_outside::Disk;
 use replica_exchange::{
-    CallErr, CallId, Machine, Member, Slot, boot_on, fence_on, flush_on, put_on, read_on,
+    CallErr, CallId, Machine, Member, Slot, boot_on, end_on, fence_on, flush_on, put_on, read_on,
     report_on, restart_on, snapshot_on, stop_on, tick_on,
 };
 use std::alloc::Global;
@@ -275,6 +275,20 @@ impl<D: Disk> Replicas<D> {
     {
         match self.map.get_mut(&slot) {
             Some(member) => fence_on(member, &mut self.trail, slot, version),
+            None => Err(CallErr::Refused(Reason::NotOwned)),
+        }
+    }
+
+    /// Ends the tenure of the replica at the slot: it doesn't own its shard any more, until it begins again. Takes no memory.
+    ///
+    /// # Errors
+    ///
+    /// `NotOwned` where the slot has no replica, or `Full` where the list has no room for two events. Nothing changes.
+    pub fn end(&mut self, slot: Slot) -> Result<(), CallErr>
+        ensures { MayCall D.state slot call.End (λ _. reply.Done) (Ends D.state) (λ u. u) result self.old self.new }
+    {
+        match self.map.get_mut(&slot) {
+            Some(member) => end_on(member, &mut self.trail, slot),
             None => Err(CallErr::Refused(Reason::NotOwned)),
         }
     }

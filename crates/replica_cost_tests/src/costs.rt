@@ -49,6 +49,21 @@ fn puts_cost_the_same(rt: HostRuntime) -> Result<(), Fail> {
     Ok(())
 }
 
+// A match reads the volumes of its range once. Then neither it nor another one reads anything of them, until a flush replaces one.
+#[test]
+fn a_second_match_reads_nothing(rt: HostRuntime) -> Result<(), Fail> {
+    let alloc = rt.alloc();
+    let first = calls_of(alloc, FLUSHED, "r0,0,2000")?;
+    assert!(rt; 0 < first);
+    let matched = format!(in alloc; "{FLUSHED} r0,0,2000")?;
+    assert_eq!(rt; calls_of(alloc, matched.as_str(), "r0,0,2000")?, 0);
+    assert_eq!(rt; calls_of(alloc, matched.as_str(), "r0,1000,1001")?, 0);
+    let again = format!(in alloc; "{matched} t1000 p0,hello,1001,7 t1500 f")?;
+    let later = calls_of(alloc, again.as_str(), "r0,0,2000")?;
+    assert_eq!(rt; later.saturating_mul(2), first);
+    Ok(())
+}
+
 // Ranges, and the blocks of which volumes are read then, as bits by hundreds: 1000 and 1200 stand in volumes. The read finds some
 // point in each.
 const RANGES: [(&str, u64); 6] = [

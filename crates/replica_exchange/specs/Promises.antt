@@ -110,6 +110,11 @@ module _ {D : Type 0} (state : D → DiskState) where
     pub refused : IsRefusedFor (refusal old c) said
     pub disk : Rearranges old.content (IsErrOf said reason.Disk) (state old.disk) (state new.disk)
 
+  -- it has no tenure, and else is as it was
+  pub record Ends (c : StepCall) (said : Result ⊤ Reason) (old new : MachineState D) : Type 0 where
+    pub ok : said ≡ Ok tt
+    pub ended : new ≡ record old { tenure = None }
+
   -- it is closed, over the same disk
   pub record Stops (c : StepCall) (said : Result ⊤ Reason) (old new : MachineState D) : Type 0 where
     pub ok : said ≡ Ok tt

@@ -11,7 +11,7 @@ ghost use Rattle.cluster_core.specs.declared.event.StepReply.TheVariants as repl
 ghost use Rattle.event_trail.specs.Trails.{IsLawfulOver};
 ghost use Rattle.replica_exchange.specs.MachineCalls.{IsMemberOf, HasRoom, AddsStep, MayAnswerBy, MayAnswer, IsAnswer, OtherReplicasStay};
 ghost use Rattle.replica_exchange.specs.Exchanges.{ask_of};
-ghost use Rattle.replica_exchange.specs.Promises.{Begins, Puts, Reads, Flushes, Ticks, Saves, Fences, Stops, Restarts, Reports};
+ghost use Rattle.replica_exchange.specs.Promises.{Begins, Puts, Reads, Flushes, Ticks, Saves, Fences, Ends, Stops, Restarts, Reports};
 
 use crate::call_err::CallErr;
 use crate::call_id::CallId;
@@ -281,6 +281,34 @@ pub fn fence_on<D: Disk>(
     let reply = done_view(&said);
     answer(trail, slot, &call, &reply);
     done_of(said)
+}
+
+/// Ends the machine's tenure, and adds an Ask and the step. Takes no memory.
+///
+/// # Errors
+///
+/// `Full` where the list has no room for two events. Nothing changes.
+pub fn end_on<D: Disk>(
+    member: &mut Member<D>,
+    trail: &mut Trail<D>,
+    slot: Slot,
+) -> Result<(), CallErr>
+    requires is { IsMemberOf D.state slot trail.old member.old }
+    requires opened { 2 ≤ length trail.old }
+    ensures is { IsMemberOf D.state slot trail.new member.new }
+    ensures others { OtherReplicasStay slot trail.old trail.new }
+    ensures opened { 2 ≤ length trail.new }
+    ensures answered { MayAnswer D.state slot call.End (λ _. reply.Done) (Ends D.state) (λ u. u) result member.old trail.old member.new trail.new }
+{
+    if !trail.has_room(2) {
+        return Err(CallErr::Full);
+    }
+    let call = CallView::end();
+    ask(trail, slot, &call);
+    member.machine.end();
+    let reply = ReplyView::done();
+    answer(trail, slot, &call, &reply);
+    Ok(())
 }
 
 /// Stops the machine, and adds an Ask and the step. Takes no memory.

@@ -11,8 +11,8 @@ pub mod slot;
 pub use call_err::CallErr;
 pub use call_id::CallId;
 pub use exchange::{
-    boot_on, fence_on, flush_on, put_on, read_on, report_on, restart_on, snapshot_on, stop_on,
-    tick_on,
+    boot_on, end_on, fence_on, flush_on, put_on, read_on, report_on, restart_on, snapshot_on,
+    stop_on, tick_on,
 };
 pub use member::Member;
 pub use replica_machine::Machine;

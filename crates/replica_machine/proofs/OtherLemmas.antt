@@ -36,7 +36,7 @@ use Rattle.replica_machine.proofs.LiveLemmas.{live_found}
 use Rattle.replica_machine.proofs.DiskLemmas.{stays_nothing, each_step, each_whole}
 use Rattle.replica_machine.proofs.BaseLemmas.{came_itself, came_nothing}
 use Rattle.replica_machine.proofs.HeldByLemmas.{held_nothing}
-use Rattle.replica_machine.proofs.StepLemmas.{machine_of, stands_at, kept_machine, shut_follows, serving, shown}
+use Rattle.replica_machine.proofs.StepLemmas.{machine_of, stands_at, stands_untenured, kept_machine, shut_follows, serving, shown}
 
 -- a store of which only the disk changed is still its machine's
 pub store_moved : {D : Type 0} (s : Standing) (store after : StoreState D) → after ≡ record store { disk = after.disk } → IsStoreOf s store → IsStoreOf s after
@@ -51,6 +51,29 @@ module _ {D : Type 0} (state : D → DiskState) (old : MachineState D) where
     follows = λ made r h.
         let q : ReplicaState = record r { standing = standing.Down } in
         shut_follows state (state made).images r q old standing.Down old.disk (λ e. cc) refl refl refl refl h (λ b tells c image. held_nothing r q (stands_at r standing.Down) c c (gains_nothing c) (h.files b tells c image)) h.unbegun h.snapshots;
+    opens = λ made r h told none. tt;
+    sound = λ damage e. absurd (cc);
+    tells = refl;
+    faults = counts_same _ _ (λ e. cc);
+  }
+
+  -- a machine whose tenure ended
+  ended : {base : Files → Type 0} → (r : ReplicaState) → IsMachineOf state base r old → IsMachineOf state base (record r { tenure = None }) (record old { tenure = None })
+  ended r h = record {
+    stands = h.stands;
+    begun = h.begun;
+    below = h.below;
+    empty = h.empty;
+    open_ = λ o. let a = h.open_ o in record { begun = a.begun; tenure = refl; fence = a.fence; sure = a.sure; sure_fences = a.sure_fences; shows = λ t. let shown' = a.shows t in record { sure = shown'.sure; all = shown'.all } };
+    files = λ b tells c image. held_nothing r (record r { tenure = None }) (stands_untenured r) c c (gains_nothing c) (h.files b tells c image);
+    unbegun = h.unbegun;
+    snapshots = h.snapshots;
+  }
+
+  pub end_step : IsStep state old call.End reply.Done (record old { tenure = None })
+  end_step = record {
+    lawful = λ made r h past n s given. tt;
+    follows = λ made r h. ended r h;
     opens = λ made r h told none. tt;
     sound = λ damage e. absurd (cc);
     tells = refl;
@@ -223,7 +246,10 @@ module _ {D : Type 0} (state : D → DiskState) (old : MachineState D) (d : D) w
   restart_refused e why new is left restarts =
       subst (λ (w : Reason). RestartDone state old (Err w) new) (sym is) (subst (λ (m : MachineState D). RestartDone state old (Err (reason_of e)) m) (sym left) (restart_left e restarts))
 
--- the same by a machine's parts
+-- the same of a machine by its parts
+pub end_step_of : {D : Type 0} (state : D → DiskState) (s : Standing) (tenure : Option ℕ) (begun : ℕ) (old : MachineState D) (store : StoreState D) → machine_of s tenure begun store ≡ old → IsStep state old call.End reply.Done (machine_of s None begun store)
+end_step_of state s tenure begun old store view = subst (λ (m : MachineState _). IsStep state m call.End reply.Done (machine_of s None begun store)) view (end_step state (machine_of s tenure begun store))
+
 module _ {D : Type 0} (state : D → DiskState) (s : Standing) (tenure : Option ℕ) (begun : ℕ) (old : MachineState D) (before now : StoreState D) (view : machine_of s tenure begun before ≡ old) where
   pub restart_refused_of : (e : DiskErr) (why : Reason) (new : MachineState D) → now ≡ record before { disk = now.disk } → why ≡ reason_of e → new ≡ left_by e (machine_of s tenure begun now) → (let x : Result ⊤ DiskErr = Err e in Restarts x (state before.disk) (state now.disk))
       → RestartDone state old (Err why) new

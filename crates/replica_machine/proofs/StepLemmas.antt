@@ -47,6 +47,9 @@ stands_same r = record { sure = refl; moves = record { kept = λ p m. m; gained 
 pub stands_at : (r : ReplicaState) (s : Standing) → StandsElse r (record r { standing = s })
 stands_at r s = record { sure = refl; moves = record { kept = λ p m. m; gained = λ p m. absurd m; gone = λ p stays. stays }; numbers = record { begun = λ t all. all; known = λ t is. is; fence = λ t f is. is } }
 
+pub stands_untenured : (r : ReplicaState) → StandsElse r (record r { tenure = None })
+stands_untenured r = record { sure = refl; moves = record { kept = λ p m. m; gained = λ p m. absurd m; gone = λ p stays. stays }; numbers = record { begun = λ t all. all; known = λ t is. is; fence = λ t f is. is } }
+
 module _ {D : Type 0} (state : D → DiskState) (base : Files → Type 0) where
   -- a machine whose disk is as it was
   pub kept_machine : (r : ReplicaState) (old : MachineState D) (d : D) → (state d).tells ≡ (state old.disk).tells → ((state old.disk).tells ≡ true → (c : Files) → (state d).images c → StepOf (Gains nothing) (state old.disk).images c)

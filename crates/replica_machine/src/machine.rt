@@ -178,6 +178,15 @@ impl<D: Disk> Machine<D> {
         settle(&mut self.standing, said)
     }
 
+    /// Ends the tenure: the machine doesn't own its shard any more, until it begins again. All else stays, also its files. Takes no
+    /// memory.
+    pub fn end(&mut self)
+        ensures ended { self.new ≡ record self.old { tenure = None } }
+        ensures step { IsStep D.state self.old call.End reply.Done self.new }
+    {
+        self.tenure = None;
+    }
+
     /// Closes the machine and forgets what is in memory. The files stay. Takes no memory.
     pub fn stop(&mut self)
         ensures closed { self.new ≡ shut_machine IsDown self.old self.old.disk }

@@ -1,6 +1,7 @@
 -- Items that are written one after the other.
-use Rattle.std.proofs.Common.{◌≡◌, ℕ, ◌+◌, ◌<◌, List, ◌∷◌, ◌++◌, map, length, drop, get_or, drop-cons, add-one, sym, ap, subst, ◌∙◌, append_assoc, Some}
+use Rattle.std.proofs.Common.{◌≡◌, ℕ, ◌+◌, ◌<◌, List, ◌∷◌, ◌++◌, map, length, drop, get_or, sym, ap, subst, ◌∙◌, append_assoc, Some}
 use Rattle.std.specs.Prelude.{option_map, option_and_then}
+use Rattle.std.proofs.lemmas.List.{drop_more}
 use Rattle.json.specs.Token.{Token}
 use Rattle.json.specs.Tree.{items_tokens}
 use Rattle.serde_json.specs.Data.{Data, item}
@@ -18,22 +19,19 @@ module _ {X : Type 0} (f : X → Data) where
   abbrev pub RestReads : List X → Type 0
   RestReads xs = of_items (items_outline (items_of (map f xs))) ≡ Some (items_of (map f xs))
 
-  next_item : (xs : List X) (i : ℕ) (d : X) → i < length xs → drop i xs ≡ get_or xs i d ∷ drop (i + 1) xs
-  next_item xs i d below = rw add-one (drop-cons xs i d below)
-
   -- one more item is written
   pub turn : (xs : List X) (i : ℕ) (d : X) (old new all : List Token) → i < length xs → new ≡ old ++ tokens_of (f (get_or xs i d)) → old ++ rest_tokens (drop i xs) ≡ all
       → new ++ rest_tokens (drop (i + 1) xs) ≡ all
   turn xs i d old new all below wrote was =
       ap (λ ts. ts ++ rest_tokens (drop (i + 1) xs)) wrote ∙ append_assoc old (tokens_of (f (get_or xs i d))) (rest_tokens (drop (i + 1) xs))
-      ∙ sym (ap (λ ys. old ++ rest_tokens ys) (next_item xs i d below)) ∙ was
+      ∙ sym (ap (λ ys. old ++ rest_tokens ys) (drop_more xs i d below)) ∙ was
 
   -- one more item reads as itself
   pub reads_turn : (xs : List X) (i : ℕ) (d : X) → i < length xs → ReadsBack (f (get_or xs i d)) → (RestReads (drop i xs) → RestReads xs) → RestReads (drop (i + 1) xs) → RestReads xs
   reads_turn xs i d below one was rest =
       let first : RestReads (get_or xs i d ∷ drop (i + 1) xs) =
       ap (option_and_then (λ x. option_map (item x) (of_items (items_outline (items_of (map f (drop (i + 1) xs))))))) one ∙ ap (option_map (item (f (get_or xs i d)))) rest in
-      was (subst RestReads (sym (next_item xs i d below)) first)
+      was (subst RestReads (sym (drop_more xs i d below)) first)
 
 -- ---- four or five pieces, one after the other
 

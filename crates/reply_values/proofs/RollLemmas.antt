@@ -1,5 +1,5 @@
 -- Entries of an ordered map, seen as names with what stands for their values.
-use Rattle.std.proofs.Common.{◌≡◌, ℕ, suc, ◌+◌, ◌<◌, Bool, true, false, cond, List, [], ◌∷◌, map, length, drop, get_or, drop-cons, add-one, refl, sym, ap, ◌∙◌, arith, string_cmp}
+use Rattle.std.proofs.Common.{◌≡◌, ℕ, suc, ◌+◌, ◌<◌, Bool, true, false, cond, List, [], ◌∷◌, map, length, drop, get_or, drop-cons, add-one, refl, sym, ap, ◌∙◌, string_cmp}
 use Rattle.std.specs.Prelude.{String, string_bytes, filter, fold}
 use Rattle.std.specs.declared.alloc.Global.{Global}
 use Rattle.std.specs.declared.cmp.Ordering.{Ordering}
@@ -11,6 +11,7 @@ use Rattle.std.specs.FinMap.{put, entries, entries-insert, len-entries, len-empt
 use Rattle.std.specs.FinMap.Entries.{by_order}
 use Rattle.std.specs.Ordering.{nat_cmp, match_ordering}
 use Rattle.std.proofs.lemmas.Cmp.{nat_list_cmp_total}
+use Rattle.std.proofs.lemmas.List.{nil_from_length}
 use Rattle.serde_json.specs.Data.{Data}
 use Rattle.serde_json.specs.View.{view}
 use Rattle.serde_json.specs.declared.value.Value.{Value}
@@ -46,12 +47,8 @@ entries-fold values [] = refl
 entries-fold values (item ∷ items) =
     entries-fold (with_item values item) items ∙ ap (λ es. fold put_item es items) (entries-insert nat_list_cmp_total values item.0 item.1)
 
-none_of_length : {X : Type 0} (xs : List X) → length xs ≡ 0 → xs ≡ []
-none_of_length [] e = refl
-none_of_length (x ∷ xs) e = absurd (omega arith)
-
 entries-empty : entries (finite.empty {X = Data} {R = slice_cmp nat_cmp}) ≡ []
-entries-empty = none_of_length _ (sym (len-entries _) ∙ len-empty (slice_cmp nat_cmp) Data)
+entries-empty = nil_from_length _ (sym (len-entries _) ∙ len-empty (slice_cmp nat_cmp) Data)
 
 pub by_name-fold : (items : List (List ℕ × Data)) → by_name items ≡ map (λ e. e.1) (fold put_item [] items)
 by_name-fold items = ap (map (λ e. e.1)) (entries-fold finite.empty items ∙ ap (λ es. fold put_item es items) entries-empty)

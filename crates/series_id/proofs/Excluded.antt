@@ -3,7 +3,7 @@ use Rattle.std.proofs.Common.{◌≡◌, ℕ, ◌+◌, ◌≤◌, List, [], ◌�
 use Rattle.std.specs.Prelude.{IsUtf8, ◌⊎◌}
 use Rattle.std.specs.List.{list_all}
 use Rattle.std.proofs.lemmas.List.{append-nil}
-use Rattle.m3_model.proofs.RangeLemmas.{both_true}
+use Rattle.std.proofs.lemmas.Bool.{and_parts}
 use Rattle.m3_model.specs.Ascends.{Ascends}
 use Rattle.m3_model.specs.Members.{IsIn}
 use Rattle.m3_model.specs.Tags.{IsBelow, is_tag_name, escaped, tag_text, tags_text, IsSpelledBy, HasTags}
@@ -70,7 +70,7 @@ same_spelling id (t ∷ a) (u ∷ b) s r =
 
 pub begins_name : (name later : List ℕ) → IsTrue (is_tag_name name) → IsTrue (begins_no_name (name ++ later)) → ⊥
 begins_name [] later h f = cc
-begins_name (b ∷ bs) later h f = by_test _ (both_true _ (list_all is_later_byte bs) h).0 f
+begins_name (b ∷ bs) later h f = by_test _ (and_parts _ (list_all is_later_byte bs) h).0 f
   where
     by_test : (t : Bool) → t ≡ true → not t ≡ true → ⊥
     by_test true e f = cc

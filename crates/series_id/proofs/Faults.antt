@@ -1,8 +1,7 @@
 -- A text has at most one first fault.
 use Rattle.std.proofs.Common.{◌≡◌, ◌≢◌, ℕ, ◌+◌, ◌<◌, List, [], ◌∷◌, ◌++◌, length, IsTrue, refl, sym, ap, ◌∙◌, subst, inl, inr, arith, append_assoc}
 use Rattle.std.specs.Prelude.{◌⊎◌, nat_le}
-use Rattle.std.proofs.lemmas.Bool.{leb-true}
-use Rattle.m3_model.proofs.RangeLemmas.{both_true}
+use Rattle.std.proofs.lemmas.Bool.{leb-true, and_parts}
 use Rattle.std.proofs.lemmas.List.{append-nil, length-append}
 use Rattle.m3_model.specs.Tags.{IsBelow, is_tag_name, escaped, tag_text}
 use Rattle.m3_model.specs.Names.{has_identifier_length}
@@ -200,7 +199,7 @@ empty_excluded text h i = elim i as (λ _. ⊥) [
 
 long_excluded : (text : List ℕ) → MOST_ID_BYTES < length text → ¬ IsIdentifier text
 long_excluded text h i = elim i as (λ _. ⊥) [
-  | inl plain ↦ absurd (omega (arith, h, leb-true (length text) MOST_ID_BYTES (both_true (nat_le 1 (length text)) (nat_le (length text) MOST_ID_BYTES) plain.has_length).1))
+  | inl plain ↦ absurd (omega (arith, h, leb-true (length text) MOST_ID_BYTES (and_parts (nat_le 1 (length text)) (nat_le (length text) MOST_ID_BYTES) plain.has_length).1))
   | inr spelled ↦ absurd (omega (arith, h, spelled.1.not_long))
 ]
 

@@ -1,6 +1,7 @@
 -- Whether a tag stands among tags, by one tag more.
 use Rattle.std.proofs.Common.{◌≡◌, ℕ, List, [], ◌∷◌, ◌++◌, Bool, true, false, ◌||◌, IsTrue, ◌↔◌, refl, sym, ap, ◌∙◌, subst, inl, inr}
 use Rattle.std.proofs.lemmas.List.{append-nil}
+use Rattle.std.proofs.lemmas.Bool.{or_left, or_right}
 use Rattle.m3_model.specs.Members.{IsIn}
 use Rattle.m3_model.specs.Tags.{escaped}
 use Rattle.m3_model.proofs.MemberLemmas.{IsIn-append_left, IsIn-append_cases, IsIn-push}
@@ -8,14 +9,6 @@ use Rattle.series_id.proofs.Unique.{same_value}
 
 pub same_escaped : (v w : List ℕ) → escaped v ≡ escaped w → v ≡ w
 same_escaped v w e = (same_value v w [] [] refl refl (append-nil (escaped v) ∙ e ∙ sym (append-nil (escaped w)))).0
-
-either_true : (a b : Bool) → b ≡ true → (a || b) ≡ true
-either_true true b e = refl
-either_true false b e = e
-
-first_true : (a b : Bool) → a ≡ true → (a || b) ≡ true
-first_true true b e = refl
-first_true false b e = cc
 
 pub found_more : (found here : Bool) (tags : List (List ℕ × List ℕ)) (tag : List ℕ × List ℕ) (name value n s : List ℕ) → (IsTrue found ↔ IsIn tags (name, value)) → (IsTrue here ↔ ((n ≡ name) × (s ≡ escaped value))) → n ≡ tag.0 → s ≡ escaped tag.1
     → IsTrue (found || here) ↔ IsIn (tags ++ tag ∷ []) (name, value)
@@ -30,9 +23,9 @@ found_more found here tags tag name value n s was is en es = (forth found here w
 
     back : IsIn (tags ++ tag ∷ []) (name, value) → IsTrue (found || here)
     back m = elim (IsIn-append_cases tags (tag ∷ []) (name, value) m) as (λ _. IsTrue (found || here)) [
-      | inl a ↦ first_true found here (was.1 a)
+      | inl a ↦ or_left found here (was.1 a)
       | inr b ↦ elim b as (λ _. IsTrue (found || here)) [
-        | inl e ↦ either_true found here (is.1 (en ∙ ap (λ x. x.0) e, es ∙ ap (λ x. escaped x.1) e))
+        | inl e ↦ or_right found here (is.1 (en ∙ ap (λ x. x.0) e, es ∙ ap (λ x. escaped x.1) e))
         | inr never ↦ absurd never
       ]
     ]

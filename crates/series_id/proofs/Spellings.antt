@@ -1,15 +1,11 @@
 -- Values as they are spelled.
-use Rattle.std.proofs.Common.{◌≡◌, ℕ, suc, ◌+◌, ◌<◌, ◌≤◌, List, [], ◌∷◌, ◌++◌, length, drop, get_or, cond, Bool, true, false, ◌||◌, ◌≢◌, not, refl, sym, ap, ◌∙◌, arith, append_assoc}
+use Rattle.std.proofs.Common.{◌≡◌, ℕ, suc, ◌+◌, ◌<◌, ◌≤◌, List, [], ◌∷◌, ◌++◌, length, drop, get_or, cond, Bool, true, false, ◌||◌, ◌≢◌, refl, sym, ap, ◌∙◌, arith, append_assoc}
 use Rattle.std.specs.Prelude.{◌==◌}
 use Rattle.std.proofs.Math.Seq.{drop-cons}
-use Rattle.std.proofs.lemmas.Bool.{ne_eqb}
+use Rattle.std.proofs.lemmas.Bool.{ne_eqb, or_from, not-false}
 use Rattle.std.proofs.lemmas.List.{length-append, length-drop}
 use Rattle.m3_model.specs.Tags.{escaped}
 use Rattle.series_id.specs.Faults.{escapes_nothing}
-
-not_false : (t : Bool) → not t ≡ false → t ≡ true
-not_false true e = refl
-not_false false e = cc
 
 pub escaped-append : (v w : List ℕ) → escaped (v ++ w) ≡ escaped v ++ escaped w
 escaped-append [] w = refl
@@ -43,13 +39,10 @@ spelled_more text n k b piece s spells more len within =
 pub drop_one : (text : List ℕ) (n : ℕ) → n < length text → drop n text ≡ get_or text n 0 ∷ drop (n + 1) text
 drop_one text n h = let more : suc n ≡ n + 1 = omega arith in drop-cons text n 0 h ∙ ap (λ k. get_or text n 0 ∷ drop k text) more
 
-either_false : (x y : Bool) → x ≡ false → y ≡ false → (x || y) ≡ false
-either_false x y e f = cc
-
 pub spelled_plain : (text : List ℕ) (n : ℕ) → IsSpelled text n → n < length text → get_or text n 0 ≢ 34 → get_or text n 0 ≢ 92 → IsSpelled text (n + 1)
 spelled_plain text n s h quote slash =
     let b : ℕ = get_or text n 0 in
-    let plain : (b == 34 || b == 92) ≡ false = either_false (b == 34) (b == 92) (ne_eqb b 34 quote) (ne_eqb b 92 slash) in
+    let plain : (b == 34 || b == 92) ≡ false = or_from (b == 34) (b == 92) (ne_eqb b 34 quote) (ne_eqb b 92 slash) in
     spelled_more text n 1 b (b ∷ []) s (ap (λ t. cond t (92 ∷ b ∷ []) (b ∷ [])) plain) (drop_one text n h) refl (omega arith)
 
 pub spelled_marked : (text : List ℕ) (n : ℕ) → IsSpelled text n → n < length text → get_or text n 0 ≡ 92 → escapes_nothing (drop (n + 1) text) ≡ false → IsSpelled text (n + 2)
@@ -58,7 +51,7 @@ spelled_marked text n s h slash marked = by_rest (drop (n + 1) text) refl marked
     by_rest : (rest : List ℕ) → drop (n + 1) text ≡ rest → escapes_nothing rest ≡ false → IsSpelled text (n + 2)
     by_rest [] e m = cc
     by_rest (b ∷ rest) e m =
-        let special : (b == 34 || b == 92) ≡ true = not_false (b == 34 || b == 92) m in
+        let special : (b == 34 || b == 92) ≡ true = not-false (b == 34 || b == 92) m in
         let long : n + 1 < length text = omega (arith, length-drop (n + 1) text, ap length e) in
         let second : get_or text (n + 1) 0 ∷ drop (n + 1 + 1) text ≡ b ∷ rest = sym (drop_one text (n + 1) long) ∙ e in
         let first : drop n text ≡ 92 ∷ get_or text (n + 1) 0 ∷ drop (n + 1 + 1) text = drop_one text n h ∙ ap (λ x. x ∷ drop (n + 1) text) slash ∙ ap (λ xs. 92 ∷ xs) (drop_one text (n + 1) long) in

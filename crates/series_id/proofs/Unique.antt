@@ -2,7 +2,7 @@
 use Rattle.std.proofs.Common.{◌≡◌, ℕ, List, [], ◌∷◌, ◌++◌, map, cond, Bool, true, false, ◌&&◌, ◌||◌, not, IsTrue, refl, sym, ap, ◌∙◌, subst, append_assoc}
 use Rattle.std.specs.Prelude.{◌==◌}
 use Rattle.std.specs.List.{list_all, join_with_byte}
-use Rattle.m3_model.proofs.RangeLemmas.{both_true}
+use Rattle.std.proofs.lemmas.Bool.{and_parts, or_parts}
 use Rattle.m3_model.specs.Names.{is_letter, is_digit}
 use Rattle.m3_model.specs.Tags.{is_tag_name, escaped, tag_text}
 use Rattle.series_id.specs.Names.{is_later_byte, ends_name}
@@ -16,18 +16,18 @@ true_or_false false e f = cc
 -- a name ends where no byte of a name follows
 pub same_name : (n m x y : List ℕ) → list_all is_later_byte n ≡ true → list_all is_later_byte m ≡ true → IsTrue (ends_name x) → IsTrue (ends_name y) → n ++ x ≡ m ++ y → (n ≡ m) × (x ≡ y)
 same_name [] [] x y hn hm hx hy e = (refl, e)
-same_name [] (b ∷ m) x y hn hm hx hy e = absurd (true_or_false (is_later_byte b) (both_true _ _ hm).0 (subst (λ z. IsTrue (ends_name z)) e hx))
-same_name (a ∷ n) [] x y hn hm hx hy e = absurd (true_or_false (is_later_byte a) (both_true _ _ hn).0 (subst (λ z. IsTrue (ends_name z)) (sym e) hy))
+same_name [] (b ∷ m) x y hn hm hx hy e = absurd (true_or_false (is_later_byte b) (and_parts _ _ hm).0 (subst (λ z. IsTrue (ends_name z)) e hx))
+same_name (a ∷ n) [] x y hn hm hx hy e = absurd (true_or_false (is_later_byte a) (and_parts _ _ hn).0 (subst (λ z. IsTrue (ends_name z)) (sym e) hy))
 same_name (a ∷ n) (b ∷ m) x y hn hm hx hy e =
     let first : a ≡ b = cc in
     let more : n ++ x ≡ m ++ y = cc in
-    let rest = same_name n m x y (both_true (is_later_byte a) _ hn).1 (both_true (is_later_byte b) _ hm).1 hx hy more in
+    let rest = same_name n m x y (and_parts (is_later_byte a) _ hn).1 (and_parts (is_later_byte b) _ hm).1 hx hy more in
     (λ i. first i ∷ rest.0 i, rest.1)
 
 pub name_bytes : (name : List ℕ) → IsTrue (is_tag_name name) → list_all is_later_byte name ≡ true
 name_bytes [] h = cc
 name_bytes (b ∷ bs) h =
-    let parts = both_true (is_letter b || b == 95) (list_all is_later_byte bs) h in
+    let parts = and_parts (is_letter b || b == 95) (list_all is_later_byte bs) h in
     ap (λ t. t && list_all is_later_byte bs) (later_of_first (is_letter b) (is_digit b) (b == 95) parts.0) ∙ parts.1
 
 -- no further byte of a spelled value stands here
@@ -35,17 +35,13 @@ abbrev pub stops : List ℕ → Bool
 stops [] = true
 stops (b ∷ bs) = b == 34 || (b == 92 && escapes_nothing bs)
 
-neither : (x y : Bool) → (x || y) ≡ false → (x ≡ false) × (y ≡ false)
-neither true y e = cc
-neither false y e = (refl, e)
-
 -- a value that goes on doesn't stop
 goes_on : (b : ℕ) (w y : List ℕ) → stops (escaped (b ∷ w) ++ y) ≡ false
 goes_on b w y = by_test (b == 34 || b == 92) refl
   where
     by_test : (t : Bool) → (b == 34 || b == 92) ≡ t → stops (cond t (92 ∷ b ∷ escaped w) (b ∷ escaped w) ++ y) ≡ false
     by_test true e = ap not e
-    by_test false e = let both = neither (b == 34) (b == 92) e in ap (λ t. t || (b == 92 && escapes_nothing (escaped w ++ y))) both.0 ∙ ap (λ t. t && escapes_nothing (escaped w ++ y)) both.1
+    by_test false e = let both = or_parts (b == 34) (b == 92) e in ap (λ t. t || (b == 92 && escapes_nothing (escaped w ++ y))) both.0 ∙ ap (λ t. t && escapes_nothing (escaped w ++ y)) both.1
 
 pub same_value : (v w x y : List ℕ) → stops x ≡ true → stops y ≡ true → escaped v ++ x ≡ escaped w ++ y → (v ≡ w) × (x ≡ y)
 same_value [] [] x y hx hy e = (refl, e)

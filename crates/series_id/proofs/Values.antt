@@ -1,6 +1,7 @@
 -- A value and its spelling, byte by byte.
 use Rattle.std.proofs.Common.{◌≡◌, ◌≢◌, ℕ, ◌+◌, ◌<◌, List, [], ◌∷◌, ◌++◌, length, drop, get_or, cond, Bool, true, false, ◌||◌, refl, sym, ap, ◌∙◌, arith}
 use Rattle.std.specs.Prelude.{◌==◌}
+use Rattle.std.proofs.lemmas.List.{append_cancel_left}
 use Rattle.m3_model.specs.Tags.{escaped}
 use Rattle.series_id.proofs.Spellings.{escaped-append, drop_one}
 
@@ -12,13 +13,9 @@ pub record IsAlike (spelling value rest : List ℕ) (n : ℕ) : Type 0 where
 spelled_one : (value : List ℕ) (n : ℕ) → n < length value → escaped (drop n value) ≡ escaped (get_or value n 0 ∷ []) ++ escaped (drop (n + 1) value)
 spelled_one value n h = ap escaped (drop_one value n h) ∙ escaped-append (get_or value n 0 ∷ []) (drop (n + 1) value)
 
-same_rest : (piece x y : List ℕ) → piece ++ x ≡ piece ++ y → x ≡ y
-same_rest [] x y e = e
-same_rest (b ∷ piece) x y e = let more : piece ++ x ≡ piece ++ y = cc in same_rest piece x y more
-
 pub alike_more : (spelling value rest later : List ℕ) (n : ℕ) → IsAlike spelling value rest n → n < length value → rest ≡ escaped (get_or value n 0 ∷ []) ++ later → IsAlike spelling value later (n + 1)
 alike_more spelling value rest later n a h e = record {
-  forth = λ s. same_rest (escaped (get_or value n 0 ∷ [])) later (escaped (drop (n + 1) value)) (sym e ∙ a.forth s ∙ spelled_one value n h);
+  forth = λ s. append_cancel_left (escaped (get_or value n 0 ∷ [])) later (escaped (drop (n + 1) value)) (sym e ∙ a.forth s ∙ spelled_one value n h);
   back = λ s. a.back (e ∙ ap (λ xs. escaped (get_or value n 0 ∷ []) ++ xs) s ∙ sym (spelled_one value n h));
 }
 

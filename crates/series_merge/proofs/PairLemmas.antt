@@ -12,11 +12,12 @@ use Rattle.m3_model.specs.Contents.{higher, raised}
 use Rattle.m3_model.specs.Members.{IsIn}
 use Rattle.m3_model.specs.declared.memory.Memory.{Memory}
 use Rattle.m3_model.specs.declared.point.Point.{Point}
+use Rattle.m3_model.proofs.Ascending.{Ascends-append}
 use Rattle.series_merge.specs.Parts.{JoinAlike}
 use Rattle.series_merge.specs.Pairs.{IsEarlier, points_at, IsMergeOfPairs, first_pair, IsNext, IsPartOfPairs}
 use Rattle.series_merge.specs.declared.pairs.First.{First}
 use Rattle.series_merge.proofs.JoinLemmas.{raised_twice, append_swap, joined_has, nothing_held}
-use Rattle.series_merge.proofs.PartLemmas.{ascends_append, of_one, of_other, of_both, whole_ascends}
+use Rattle.series_merge.proofs.PartLemmas.{of_one, of_other, of_both, whole_ascends}
 
 earlier_trans : (x y z : ℕ × ℤ) → IsEarlier x y → IsEarlier y z → IsEarlier x z
 earlier_trans x y z p q = omega arith
@@ -146,7 +147,7 @@ above_first (w ∷ xs) d x h (inr m) = let below : w.0 < x.0 = h.0 x m in omega 
 pub ends_apart : (one other : List (ℕ × ℤ)) (last first : ℕ × ℤ) → 0 < length one → last ≡ get_or one (length one - 1) last → first ≡ get_or other 0 first → last.0 < first.0
     → Ascends IsEarlier one → Ascends IsEarlier other → Ascends IsEarlier (one ++ other)
 ends_apart one other last first some last_is first_is below one_ascends other_ascends =
-    ascends_append IsEarlier one other one_ascends other_ascends
+    Ascends-append IsEarlier one other one_ascends other_ascends
     (λ x y m n.
     let low : x.0 ≤ (get_or one (length one - 1) last).0 = below_last one (length one - 1) last x (omega arith) one_ascends m in
     let high : (get_or other 0 first).0 ≤ y.0 = above_first other first y other_ascends n in

@@ -47,14 +47,6 @@ module _ {X : Type 0} (Before : X → X → Type 0) where
   ascends_rest [] xs h = h
   ascends_rest (w ∷ done) xs h = ascends_rest done xs h.1
 
-  -- one list stands before another
-  pub ascends_append : (xs ys : List X) → Ascends Before xs → Ascends Before ys → ((x y : X) → IsIn xs x → IsIn ys y → Before x y) → Ascends Before (xs ++ ys)
-  ascends_append [] ys here there below = there
-  ascends_append (x ∷ xs) ys here there below = (
-    λ y m. elim (IsIn-append_cases xs ys y m) as (λ _. Before x y) [ inl l ↦ here.0 y l | inr r ↦ below x y (inl refl) r ],
-    ascends_append xs ys here.1 there (λ w y m. below w y (inr m)),
-  )
-
   module _ (trans : (x y z : X) → Before x y → Before y z → Before x z) where
     before_all : (x : X) (ys : List X) → Ascends Before ys → IsBeforeFirst Before x ys → (y : X) → IsIn ys y → Before x y
     before_all x [] ascends first y m = absurd m

@@ -302,3 +302,15 @@ space_range es ns from to wanted series distinct moved sorted =
           (flat-IsIn (series_in ns from to) es (series_of (key_of p), slots.0) (record { id = p.id; points = pairs_of from to slots.0 }) entry one) in
           in_points ns series (record { id = p.id; points = pairs_of from to slots.0 }) p found named refl pair;
     }
+
+-- a series of another namespace has none in the range
+pub other_space : (ns from to : ℕ) (e : SeriesKey × Slots) → (e.0.ns ≡ ns → ⊥) → series_in ns from to e ≡ []
+other_space ns from to e apart = by (nat_eq e.0.ns ns) refl
+  where
+    by : (b : Bool) → nat_eq e.0.ns ns ≡ b → cond b (some_series e.0.id (pairs_of from to e.1)) [] ≡ []
+    by true is = absurd (apart (eqb-true e.0.ns ns is))
+    by false is = refl
+
+-- and one of the namespace its own
+pub its_range : (ns from to : ℕ) (e : SeriesKey × Slots) → e.0.ns ≡ ns → series_in ns from to e ≡ some_series e.0.id (pairs_of from to e.1)
+its_range ns from to e is = ap (λ b. cond b (some_series e.0.id (pairs_of from to e.1)) []) (eq-eqb e.0.ns ns is)

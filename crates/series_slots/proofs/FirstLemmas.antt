@@ -1,6 +1,7 @@
 -- The first value of a series from a time on.
-use Rattle.std.proofs.Common.{◌≡◌, ℕ, suc, zero, ◌-◌, ◌<◌, ◌≤◌, ℤ, [], ◌∷◌, refl, sym, ap, subst, ◌∙◌, Bool, true, false, cond, length, get_or, arith}
-use Rattle.std.specs.Prelude.{Option, Some, None, IsSome, slice_get, take, drop}
+use Rattle.std.proofs.Common.{◌≡◌, ℕ, suc, zero, ◌-◌, ◌<◌, ◌≤◌, ℤ, [], ◌∷◌, refl, sym, ap, subst, ◌∙◌, inl, inr, Bool, true, false, cond, length, get_or, arith}
+use Rattle.std.specs.Prelude.{◌⊎◌, Option, Some, None, is_some, IsSome, slice_get, take, drop}
+use Rattle.std.proofs.lemmas.Bool.{cases_lt}
 use Rattle.std.specs.FinMap as map
 use Rattle.std.specs.FinMap.{find, is_sorted, from_sorted, get-from_sorted, nat_cmp-IsAntisymmetric}
 use Rattle.std.specs.FinMap.Entries.{below_all}
@@ -13,7 +14,7 @@ use Rattle.series_slots.specs.SeriesKeys.{key_at}
 use Rattle.series_slots.specs.Points.{slot_in, value_of}
 use Rattle.series_slots.specs.SeriesEntries.{SeriesEntries, slots_of}
 use Rattle.series_slots.specs.SlotPlaces.{SlotList, IsPlaceFrom}
-use Rattle.series_slots.specs.Firsts.{IsBareFrom, IsFirstFrom, HasNoneLater, IsFirstAt}
+use Rattle.series_slots.specs.Firsts.{IsBareFrom, IsFirstFrom, HasNoneLater, IsFirstAt, IsFirstTime, HasNoTime}
 use Rattle.series_slots.proofs.SlotLemmas.{Slot, below_at, rest_sorted, missed, is_less, is_greater, is_equal}
 
 -- these are the slots that are left of those from the time on, and those before them have no value
@@ -117,3 +118,28 @@ first_of es position s slots low t v entry found h = record {
   value = value_found es s slots t found ∙ h.value;
   first = λ q low_q early. value_found es s slots q found ∙ h.first q low_q early;
 }
+
+-- ---- the first slot
+
+-- where there are none, no time has one
+pub no_time : (es : SlotList) → is_sorted nat_cmp es ≡ true → length es ≡ 0 → HasNoTime (from_sorted {R = nat_cmp} es)
+no_time [] h none q = get-from_sorted nat_cmp [] q (holds_of _ h)
+no_time (e ∷ es) h none q = absurd (omega (arith, none))
+
+-- the first of the list is that of the first time
+pub first_time_of : (es : SlotList) (x : Slot) → is_sorted nat_cmp es ≡ true → 0 < length es → x ≡ get_or es 0 x → IsFirstTime (from_sorted {R = nat_cmp} es) x.0
+first_time_of [] x h some is = absurd (omega (arith, some))
+first_time_of (e ∷ es) x h some is = subst (λ (y : Slot). IsFirstTime (from_sorted {R = nat_cmp} (e ∷ es)) y.0) (sym is) (record {
+  slot = ap is_some (got e.0 ∙ ap (λ b. cond b (Some e.1) (find nat_cmp e.0 es)) (ap is_eq (is_equal e.0 e.0 refl)));
+  first = λ q stands. by q stands (cases_lt q e.0);
+})
+  where
+    got : (q : ℕ) → map.get (from_sorted {R = nat_cmp} (e ∷ es)) q ≡ find nat_cmp q (e ∷ es)
+    got q = get-from_sorted nat_cmp (e ∷ es) q (holds_of _ h)
+
+    by : (q : ℕ) → IsSome (map.get (from_sorted {R = nat_cmp} (e ∷ es)) q) → (q < e.0) ⊎ (e.0 ≤ q) → e.0 ≤ q
+    by q stands (inr later) = later
+    by q stands (inl early) =
+        let none : find nat_cmp q (e ∷ es) ≡ None = ap (λ b. cond b (Some e.1) (find nat_cmp q es)) (ap is_eq (is_less q e.0 early)) ∙ none_below q e es h (omega (arith, early)) in
+        let wrong : false ≡ true = sym (ap is_some (got q ∙ none)) ∙ stands in
+        cc

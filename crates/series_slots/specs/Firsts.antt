@@ -1,5 +1,6 @@
 -- The first value of a series from a time on.
-use Rattle.std.specs.Prelude.{◌≡◌, ℕ, ℤ, ◌≤◌, ◌<◌, Some, None}
+use Rattle.std.specs.Prelude.{◌≡◌, ℕ, ℤ, ◌≤◌, ◌<◌, Some, None, IsSome}
+use Rattle.std.specs.FinMap as map
 use Rattle.series_slots.specs.declared.series_key.SeriesKey.{SeriesKey}
 use Rattle.series_slots.specs.SeriesKeys.{key_at}
 use Rattle.series_slots.specs.Slots.{Slots, value_at}
@@ -26,3 +27,12 @@ pub record IsFirstAt (es : SeriesEntries) (position : ℕ) (s : SeriesKey) (low 
   pub stands : StandsAt es position t s
   pub value : value_of (slots_of es) (key_at s t) ≡ Some v
   pub first : (q : ℕ) → low ≤ q → q < t → value_of (slots_of es) (key_at s q) ≡ None
+
+-- there is no slot
+abbrev pub HasNoTime : Slots → Type 0
+HasNoTime slots = (q : ℕ) → map.get slots q ≡ None
+
+-- the first slot, with a value or without, is that of the time
+pub record IsFirstTime (slots : Slots) (t : ℕ) : Type 0 where
+  pub slot : IsSome (map.get slots t)
+  pub first : (q : ℕ) → IsSome (map.get slots q) → t ≤ q

@@ -1,6 +1,5 @@
-ghost use Rattle.std.specs.Prelude.{◌≡◌, ◌↔◌, List, [], Some, None, length, slice_get, IsTrue, IfOk, IfSome, OnOk, OnErr, ◌++◌, IsPermutation, IsSortedByKey};
-ghost use Rattle.std.specs.List.{flat_map, filter_map, IsDistinct};
-ghost use Rattle.std.specs.Map.{keys_of};
+ghost use Rattle.std.specs.Prelude.{◌≡◌, ◌↔◌, ℕ, List, [], Some, None, length, slice_get, IsTrue, IfOk, IfSome, OnOk, OnErr, ◌++◌, IsPermutation, IsSortedByKey};
+ghost use Rattle.std.specs.List.{flat_map, filter_map};
 ghost use Rattle.std.specs.Cmp.Lexicographic.{slice_cmp};
 ghost use Rattle.std.specs.Ordering.{nat_cmp};
 ghost use Rattle.std.specs.FinMap as finite;
@@ -8,11 +7,10 @@ ghost use Rattle.m3_model.specs.declared.point.Matcher.{Matcher};
 ghost use Rattle.m3_model.specs.declared.point.Pick.TheVariants as pick;
 ghost use Rattle.m3_model.specs.Contents.{higher, is_higher};
 ghost use Rattle.series_slots.specs.declared.series_key.SeriesKey.{SeriesKey};
-ghost use Rattle.series_slots.specs.SeriesKeys.{series_eq};
 ghost use Rattle.series_slots.specs.Slots.{Slots, value_at, valued_in};
 ghost use Rattle.series_slots.specs.Points.{points_of};
 ghost use Rattle.series_slots.specs.SeriesEntries.{IsAt, StandsAt, slots_of};
-ghost use Rattle.series_slots.specs.Firsts.{IsFirstAt, HasNoneLater};
+ghost use Rattle.series_slots.specs.Firsts.{IsFirstAt, HasNoneLater, IsFirstTime, HasNoTime};
 ghost use Rattle.series_slots.specs.Written.{IsWritten, IsAdded, IsRemoved};
 ghost use Rattle.series_slots.specs.Ranges.{IsRangeOf, some_series, series_in};
 
@@ -102,6 +100,15 @@ impl IndexedSeries {
         ensures some { IfSome result (λ x. (s : SeriesKey) → IsAt self.now position s → IsFirstAt self.now position s low x.0 x.1) }
     {
         self.map[position].first_from(low)
+    }
+
+    /// The time of the first slot of the series at this position, whether that has a value or not, in constant time.
+    pub fn first_time(&self, position: usize) -> Option<u64>
+        requires { (s : SeriesKey) × IsAt self.now position s }
+        ensures none { result ≡ None → (s : SeriesKey) (slots : Slots) → slice_get self.now position ≡ Some (s, slots) → HasNoTime slots }
+        ensures some { IfSome result (λ t. (s : SeriesKey) (slots : Slots) → slice_get self.now position ≡ Some (s, slots) → IsFirstTime slots t) }
+    {
+        self.map[position].first()
     }
 
     /// Whether the series at this position has no slot, in constant time.
@@ -199,32 +206,41 @@ impl IndexedSeries {
         }
     }
 
-    /// The points of a namespace with `from <= t < to`, in proportion to all series, to the answer and to its order.
-    pub fn range_of_space(
+    /// Pushes the series at this position with its points with `from <= t < to`, if it is of the namespace and has any. Costs the
+    /// logarithm of its slots, and its proportion to the points.
+    ///
+    /// # Errors
+    ///
+    /// Want of memory leaves the list as it was.
+    pub fn push_range_at(
         &self,
         alloc: Global,
+        found: &mut Vec<Series>,
+        position: usize,
         ns: u8,
         from: u64,
         to: u64,
-    ) -> Result<Seq<Series>, Memory>
-        ensures { IfOk result (λ found. (wanted : List Matcher) → IsRangeOf (points_of (slots_of self.now)) (pick.Match ns wanted) from to found) }
+    ) -> Result<(), Memory>
+        requires { (s : SeriesKey) × IsAt self.now position s }
+        ensures ok { (s : SeriesKey) (slots : Slots) → slice_get self.now position ≡ Some (s, slots) → OnOk result (found.new.items ≡ found.old.items ++ series_in ns from to (s, slots)) }
+        ensures err { OnErr result (found.new.items ≡ found.old.items) }
     {
-        let found = self.series_of(alloc, ns, from, to)?;
-        Ok(Seq::from_vec(by_id(found)))
+        if self.space_at(position) != ns {
+            return Ok(());
+        }
+        match self.map.get_index(position) {
+            Some((series, buffer)) => push_range(alloc, found, &series.id, buffer, from, to),
+            None => Ok(()),
+        }
     }
 
-    // The same, by the positions of the series.
-    fn series_of(&self, alloc: Global, ns: u8, from: u64, to: u64) -> Result<Vec<Series>, Memory>
-        ensures answer { IfOk result (λ found. found.items ≡ flat_map (series_in ns from to) self.now) }
-        ensures distinct { IsDistinct series_eq (keys_of self.now) }
+    /// The series in the order of their identifiers, which are then a range if they were those of the positions in turn. Costs that
+    /// order.
+    pub fn in_order(&self, found: Vec<Series>) -> Seq<Series>
+        ensures { (ns from to : ℕ) → found.items ≡ flat_map (series_in ns from to) self.now → (wanted : List Matcher) → IsRangeOf (points_of (slots_of self.now)) (pick.Match ns wanted) from to result }
     {
-        let mut found = Vec::new(alloc);
-        for (series, buffer) in &self.map {
-            if series.ns == ns {
-                push_range(alloc, &mut found, &series.id, buffer, from, to)?;
-            }
-        }
-        Ok(found)
+        let _ = &self.map;
+        Seq::from_vec(by_id(found))
     }
 }
 
@@ -246,7 +262,8 @@ fn push_range(
     from: u64,
     to: u64,
 ) -> Result<(), Memory>
-    ensures { OnOk result (found.new.items ≡ found.old.items ++ some_series id.now (filter_map (valued_in from to) (finite.entries buffer.now))) }
+    ensures ok { OnOk result (found.new.items ≡ found.old.items ++ some_series id.now (filter_map (valued_in from to) (finite.entries buffer.now))) }
+    ensures err { OnErr result (found.new.items ≡ found.old.items) }
 {
     let pairs = buffer.pairs(alloc, from, to)?;
     if pairs.is_empty() {

@@ -5,7 +5,7 @@ ghost use Rattle.std.specs.List.{filter_map};
 ghost use Rattle.m3_model.specs.Contents.{higher, is_higher};
 ghost use Rattle.std.specs.Ordering.{nat_cmp};
 ghost use Rattle.series_slots.specs.Slots.{value_at, valued_in};
-ghost use Rattle.series_slots.specs.Firsts.{IsFirstFrom, IsBareFrom};
+ghost use Rattle.series_slots.specs.Firsts.{IsFirstFrom, IsBareFrom, IsFirstTime, HasNoTime};
 ghost use Rattle.series_slots.specs.SlotPlaces.{IsSlotAt, IsGapFor, IsPlaceFrom};
 
 use m3_model::Memory;
@@ -202,6 +202,15 @@ impl SeriesBuffer {
             }
         }
         None
+    }
+
+    // The time of the first slot.
+    pub(crate) fn first(&self) -> Option<u64>
+        ensures none { result ≡ None → HasNoTime self.now }
+        ensures some { IfSome result (IsFirstTime self.now) }
+    {
+        let (t, _) = self.slots.front()?;
+        Some(*t)
     }
 
     // Whether it has no slot.

@@ -1,4 +1,4 @@
-ghost use Rattle.std.specs.Prelude.{◌≡◌, IfOk, OnOk};
+ghost use Rattle.std.specs.Prelude.{◌≡◌, [], IfOk, OnOk};
 
 use m3_model::{Duplicate, Memory, Text};
 use std::alloc::Global;
@@ -25,7 +25,9 @@ fn refilled(other: Text, text: &str) -> Result<Text, Memory>
 
 impl SeriesKey {
     /// The key of the series without a name. Takes no memory.
-    pub fn new(alloc: Global) -> SeriesKey {
+    pub fn new(alloc: Global) -> SeriesKey
+        ensures { result ≡ record { ns = 0; id = [] } }
+    {
         SeriesKey {
             ns: 0,
             id: Text::from_string(String::new(alloc)),

@@ -3,6 +3,7 @@ use Rattle.std.proofs.Common.{◌≡◌, inl, ⊎_elim, ℕ, ◌≤◌, max, Lis
 use Rattle.std.specs.FinMap.{get}
 use Rattle.m3_model.specs.Members.{IsIn}
 use Rattle.m3_model.specs.declared.point.Point.{Point}
+use Rattle.m3_model.proofs.Lists.{nil_from_no_member}
 use Rattle.m3_outside.specs.declared.file_name.FileName.{FileName}
 use Rattle.m3_outside.specs.Files.{Files, IsAbsent}
 use Rattle.m3_outside.proofs.Names.{name_is}
@@ -20,16 +21,12 @@ use Rattle.shard_files.proofs.CountedLemmas.{same_names, counted_asked, counted_
 use Rattle.shard_files.proofs.PartLemmas.{kind_low, kind_high, volume_kind, snapshot_named}
 use Rattle.shard_files.proofs.VolumeSteps.{checkpoint_kind}
 
-no_members : {X : Type 0} (xs : List X) → ((x : X) → IsIn xs x → ⊥) → xs ≡ []
-no_members [] none = refl
-no_members (x ∷ xs) none = absurd (none x (inl refl))
-
 -- a name that counts is there
 not_gone : (files : Files) (q : FileName) → is_open (get files q) ≡ true → IsAbsent q files → ⊥
 not_gone files q open_ gone = let never : is_open None ≡ true = ap is_open (sym gone) ∙ open_ in cc
 
 no_segments : (files : Files) → ((q : FileName) → q.kind ≡ 0 → IsAbsent q files) → HoldsEntries [] files
-no_segments files gone = record { parts = subst (λ (ns : List ℕ). PartsHold ns files []) (sym (no_members (numbers files) (λ n m. let there = in_there files n m in let none = gone (segment n) refl in cc))) refl; within = tt }
+no_segments files gone = record { parts = subst (λ (ns : List ℕ). PartsHold ns files []) (sym (nil_from_no_member (numbers files) (λ n m. let there = in_there files n m in let none = gone (segment n) refl in cc))) refl; within = tt }
 
 -- the one name that counts
 one_counted : (is_asked : FileName → _) (files : Files) (own : FileName) → is_asked own ≡ true → is_open (get files own) ≡ true → ((q : FileName) → is_asked q ≡ true → (q ≡ own → ⊥) → IsAbsent q files) → counted is_asked files ≡ own ∷ []
@@ -38,7 +35,7 @@ one_counted is_asked files own asked open_ gone = same_names (counted is_asked f
     (λ q m. ⊎_elim (λ (e : own ≡ q). subst (IsIn (counted is_asked files)) e (is_counted is_asked files own asked open_)) (λ (none : ⊥). absurd none) m)
 
 none_counted : (is_asked : FileName → _) (files : Files) → ((q : FileName) → is_asked q ≡ true → IsAbsent q files) → counted is_asked files ≡ []
-none_counted is_asked files gone = no_members (counted is_asked files) (λ q m. not_gone files q (counted_open is_asked files q m) (gone q (counted_asked is_asked files q m)))
+none_counted is_asked files gone = nil_from_no_member (counted is_asked files) (λ q m. not_gone files q (counted_open is_asked files q m) (gone q (counted_asked is_asked files q m)))
 
 part_low : (v : VolumeHead) (q : FileName) → IsPartOf v q → 1 ≤ q.kind
 part_low v q own = let k = ap (λ (n : FileName). n.kind) own.is in let low = kind_low own.part in omega (arith, k, low)

@@ -2,7 +2,7 @@
 use Rattle.std.proofs.Common.{◌≡◌, ◌⊎◌, inl, inr, ⊎_elim, ℤ, pos, negsuc, ◌≤ℤ◌, leb, arith, List, [], ◌∷◌, ◌++◌, refl, sym, ap, subst, ◌∙◌, Option, Some, None}
 use Rattle.std.specs.Prelude.{fold}
 use Rattle.std.proofs.lemmas.List.Sums.{fold-append}
-use Rattle.std.proofs.lemmas.Option.{none-some}
+use Rattle.std.proofs.lemmas.Option.{none-some, same_Some}
 use Rattle.std.proofs.lemmas.Bool.{leb-true}
 use Rattle.m3_model.proofs.Keyed.{true_of}
 use Rattle.std.specs.FinMap as map
@@ -59,12 +59,9 @@ same_at xs ys to back k (Some v) None e f = let h = content_holds ys (point_at k
 same_at xs ys to back k (Some v) (Some w) e f =
     let h = content_holds xs (point_at k w) (back (point_at k w) (content_source ys k w f)) in
     let g = content_holds ys (point_at k v) (to (point_at k v) (content_source xs k v e)) in
-    let v_is : h.value ≡ v = some_same h.value v (sym h.stands ∙ e) in
-    let w_is : g.value ≡ w = some_same g.value w (sym g.stands ∙ f) in
+    let v_is : h.value ≡ v = same_Some h.value v (sym h.stands ∙ e) in
+    let w_is : g.value ≡ w = same_Some g.value w (sym g.stands ∙ f) in
     ap Some (antisym v w (subst (λ (n : ℤ). v ≤ℤ n) w_is g.at_least) (subst (λ (n : ℤ). w ≤ℤ n) v_is h.at_least))
-  where
-    some_same : (a b : ℤ) → Some a ≡ Some b → a ≡ b
-    some_same a b is = cc
 
 pub same_content : (xs ys : List Point) → ((p : Point) → IsIn xs p → Covers ys p) → ((p : Point) → IsIn ys p → Covers xs p) → content_of xs ≡ content_of ys
 same_content xs ys to back = map.same_map key_cmp_total key_cmp-IsAntisymmetric (content_of xs) (content_of ys) (λ k. same_at xs ys to back k (map.get (content_of xs) k) (map.get (content_of ys) k) refl refl)

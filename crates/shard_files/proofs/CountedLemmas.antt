@@ -1,58 +1,22 @@
 -- The files that count, by their names.
-use Rattle.std.proofs.Common.{◌≡◌, inl, inr, ℕ, List, [], ◌∷◌, ◌++◌, map, refl, sym, ap, ◌∙◌, Bool, true, false, cond, ◌&&◌, Some, None, Option}
+use Rattle.std.proofs.Common.{◌≡◌, inl, inr, ℕ, List, [], ◌∷◌, ◌++◌, map, refl, sym, ap, ◌∙◌, Bool, true, ◌&&◌, Some, None, Option}
 use Rattle.std.specs.Prelude.{filter}
 use Rattle.std.specs.FinMap.{get, keys, entries}
 use Rattle.std.specs.declared.cmp.Ordering.TheVariants.{Less}
+use Rattle.std.proofs.lemmas.Bool.{and_parts}
+pub use Rattle.std.proofs.lemmas.Bool.{and_parts as both}
 use Rattle.m3_model.specs.Members.{IsIn}
 use Rattle.m3_model.specs.Ascends.{Ascends}
 use Rattle.m3_model.proofs.FindLemmas.{get-IsIn, IsIn-get, entries_ascend}
 use Rattle.m3_model.proofs.MemberLemmas.{IsIn-map, map-IsIn, IsIn-push}
+use Rattle.m3_model.proofs.Lists.{IsIn-filter_passes}
+pub use Rattle.m3_model.proofs.Lists.{IsIn-filter, IsIn-filter_passes as chosen, filter-IsIn}
+use Rattle.m3_model.proofs.Ascending.{Ascends-filter}
+pub use Rattle.m3_model.proofs.Ascending.{Ascends-filter as filter_ascends}
 use Rattle.m3_outside.specs.declared.file_name.FileName.{FileName}
 use Rattle.m3_outside.specs.Files.{Files, IsPresent, name_cmp}
 use Rattle.m3_outside.proofs.Names.{name_total, name_same}
 use Rattle.shard_files.specs.Parts.{is_open, counts, counted}
-
--- ---- what a test keeps of a list
-
-pub IsIn-filter : {X : Type 0} (p : X → Bool) (xs : List X) (x : X) → IsIn (filter p xs) x → IsIn xs x
-IsIn-filter p [] x m = absurd m
-IsIn-filter p (y ∷ ys) x m = by (p y) (IsIn-filter p ys x) m
-  where
-    by : (b : Bool) → (IsIn (filter p ys) x → IsIn ys x) → IsIn (cond b (y ∷ filter p ys) (filter p ys)) x → IsIn (y ∷ ys) x
-    by true later (inl e) = inl e
-    by true later (inr rest) = inr (later rest)
-    by false later rest = inr (later rest)
-
-pub chosen : {X : Type 0} (p : X → Bool) (xs : List X) (x : X) → IsIn (filter p xs) x → p x ≡ true
-chosen p [] x m = absurd m
-chosen p (y ∷ ys) x m = by (p y) refl (chosen p ys x) m
-  where
-    by : (b : Bool) → p y ≡ b → (IsIn (filter p ys) x → p x ≡ true) → IsIn (cond b (y ∷ filter p ys) (filter p ys)) x → p x ≡ true
-    by true is later (inl e) = ap p (sym e) ∙ is
-    by true is later (inr rest) = later rest
-    by false is later rest = later rest
-
-pub filter-IsIn : {X : Type 0} (p : X → Bool) (xs : List X) (x : X) → IsIn xs x → p x ≡ true → IsIn (filter p xs) x
-filter-IsIn p [] x m e = absurd m
-filter-IsIn p (y ∷ ys) x m e = by (p y) refl (λ rest. filter-IsIn p ys x rest e) m
-  where
-    by : (b : Bool) → p y ≡ b → (IsIn ys x → IsIn (filter p ys) x) → IsIn (y ∷ ys) x → IsIn (cond b (y ∷ filter p ys) (filter p ys)) x
-    by true is later (inl same) = inl same
-    by true is later (inr rest) = inr (later rest)
-    by false is later (inl same) = absurd (let never : false ≡ true = sym is ∙ ap p same ∙ e in cc)
-    by false is later (inr rest) = later rest
-
-pub filter_ascends : {X : Type 0} (Before : X → X → Type 0) (p : X → Bool) (xs : List X) → Ascends Before xs → Ascends Before (filter p xs)
-filter_ascends Before p [] up = tt
-filter_ascends Before p (x ∷ xs) up = by (p x) (filter_ascends Before p xs up.1)
-  where
-    by : (b : Bool) → Ascends Before (filter p xs) → Ascends Before (cond b (x ∷ filter p xs) (filter p xs))
-    by true rest = ((λ y m. up.0 y (IsIn-filter p xs y m)), rest)
-    by false rest = rest
-
-pub both : (a b : Bool) → (a && b) ≡ true → (a ≡ true) × (b ≡ true)
-both true b e = (refl, e)
-both false b e = absurd (cc)
 
 -- ---- names in their order
 
@@ -115,13 +79,13 @@ module _ (is_asked : FileName → Bool) where
   pub counted_asked : (x : Files) (n : FileName) → IsIn (counted is_asked x) n → is_asked n ≡ true
   counted_asked x n m =
       let e = IsIn-map (λ (f : FileName × List ℕ). f.0) (filter (counts is_asked) (entries x)) n m in
-      let c = both (is_asked e.0.0) (is_open (Some e.0.1)) (chosen (counts is_asked) (entries x) e.0 e.1) in
+      let c = and_parts (is_asked e.0.0) (is_open (Some e.0.1)) (IsIn-filter_passes (counts is_asked) (entries x) e.0 e.1) in
       ap is_asked (sym e.2) ∙ c.0
 
   pub counted_open : (x : Files) (n : FileName) → IsIn (counted is_asked x) n → is_open (get x n) ≡ true
   counted_open x n m =
       let e = IsIn-map (λ (f : FileName × List ℕ). f.0) (filter (counts is_asked) (entries x)) n m in
-      let c = both (is_asked e.0.0) (is_open (Some e.0.1)) (chosen (counts is_asked) (entries x) e.0 e.1) in
+      let c = and_parts (is_asked e.0.0) (is_open (Some e.0.1)) (IsIn-filter_passes (counts is_asked) (entries x) e.0 e.1) in
       let there : get x e.0.0 ≡ Some e.0.1 = IsIn-get name_cmp name_total name_same x e.0.0 e.0.1 (IsIn-filter (counts is_asked) (entries x) e.0 e.1) in
       ap is_open (ap (get x) (sym e.2) ∙ there) ∙ c.1
 
@@ -136,7 +100,7 @@ module _ (is_asked : FileName → Bool) where
           map-IsIn (λ (f : FileName × List ℕ). f.0) (filter (counts is_asked) (entries x)) (n, file) (filter-IsIn (counts is_asked) (entries x) (n, file) (get-IsIn name_cmp name_total name_same x n file e) test)
 
   pub counted_ascend : (x : Files) → Ascends Before (counted is_asked x)
-  counted_ascend x = names_ascend (filter (counts is_asked) (entries x)) (filter_ascends (λ (a b : FileName × List ℕ). name_cmp a.0 b.0 ≡ Less) (counts is_asked) (entries x) (entries_ascend name_cmp name_total name_same x))
+  counted_ascend x = names_ascend (filter (counts is_asked) (entries x)) (Ascends-filter (λ (a b : FileName × List ℕ). name_cmp a.0 b.0 ≡ Less) (counts is_asked) (entries x) (entries_ascend name_cmp name_total name_same x))
 
   -- which names count is a matter of the files asked for
   pub counted_same : (x y : Files) → ((q : FileName) → is_asked q ≡ true → get y q ≡ get x q) → counted is_asked y ≡ counted is_asked x

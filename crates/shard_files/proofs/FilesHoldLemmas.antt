@@ -1,7 +1,8 @@
 -- What files hold, whole, and what the calls of a log do to it.
-use Rattle.std.proofs.Common.{◌≡◌, ◌⊎◌, inl, inr, ℕ, zero, suc, ◌+◌, ◌≤◌, max, List, [], ◌∷◌, ◌++◌, map, refl, sym, ap, subst, ◌∙◌, arith, length, append_assoc, Bool, Some, None}
+use Rattle.std.proofs.Common.{◌≡◌, ◌⊎◌, inl, inr, ℕ, zero, suc, ◌+◌, ◌≤◌, max, List, [], ◌∷◌, ◌++◌, map, refl, sym, ap, subst, ◌∙◌, arith, append_assoc, Bool, Some, None}
 use Rattle.std.specs.Prelude.{filter}
 use Rattle.std.specs.FinMap.{get, empty, entries, len-entries, len-empty}
+use Rattle.std.proofs.lemmas.List.{nil_from_length}
 use Rattle.m3_model.specs.Members.{IsIn}
 use Rattle.m3_model.specs.declared.point.Point.{Point}
 use Rattle.m3_model.proofs.MemberLemmas.{IsIn-append_left, IsIn-append_right, IsIn-append_cases}
@@ -45,13 +46,9 @@ files_hold_ordered ps t f files a =
     let log = tenures_are_fences a.parts.entries in
     omega (arith, one, log, a.tenure_is, a.fence_is)
 
-none_of_length : {X : Type 0} (xs : List X) → length xs ≡ 0 → xs ≡ []
-none_of_length [] e = refl
-none_of_length (x ∷ xs) e = absurd (omega (arith, e))
-
 no_counted : (is_asked : FileName → Bool) → counted is_asked empty ≡ []
 no_counted is_asked =
-    let none : entries (empty {X = List ℕ} {R = name_cmp}) ≡ [] = none_of_length _ (sym (len-entries _) ∙ len-empty name_cmp (List ℕ)) in
+    let none : entries (empty {X = List ℕ} {R = name_cmp}) ≡ [] = nil_from_length _ (sym (len-entries _) ∙ len-empty name_cmp (List ℕ)) in
     ap (λ (es : List (FileName × List ℕ)). map (λ (f : FileName × List ℕ). f.0) (filter (counts is_asked) es)) none
 
 pub no_files_hold_nothing : FilesHold [] 0 0 empty

@@ -3,6 +3,7 @@ use Rattle.std.proofs.Common.{◌≡◌, ◌⊎◌, inl, inr, ⊎_elim, ℕ, ◌
 use Rattle.std.specs.Prelude.{unwrap_or}
 use Rattle.std.proofs.lemmas.List.{take_at, drop_at, drop-drop, map-append}
 use Rattle.std.specs.FinMap.{get}
+use Rattle.std.proofs.lemmas.Option.{same_Some}
 use Rattle.sha2.specs.Sha256.{sha256}
 use Rattle.sha2.proofs.Facts256.{length-sha256}
 use Rattle.m3_model.specs.Members.{IsIn}
@@ -30,14 +31,11 @@ use Rattle.shard_files.proofs.VolumeSteps.{of_name}
 form_one : (Form : List ℕ → Type 0) (files : Files) (name : FileName) (d e : Damage) → BreaksForm Form files name d → BreaksForm Form files name e → d ≡ e
 form_one Form files name d e a b = a.is ∙ ap (OfForm name) (stops_one Form (bytes_at files name) a.at b.at a.stops b.stops) ∙ sym b.is
 
-some_one : {X : Type 0} (a b : X) → Some a ≡ Some b → a ≡ b
-some_one a b e = cc
-
 digest_one : (kept : List ℕ) (files : Files) (name : FileName) (d e : Damage) → BreaksDigest kept files name d → BreaksDigest kept files name e → d ≡ e
 digest_one kept files name d e (IsGone gone is) (IsGone gone1 is1) = is ∙ sym is1
 digest_one kept files name d e (IsGone gone is) (Differs bytes there differ is1) = absurd (let none = gone in let some = there in cc)
 digest_one kept files name d e (Differs bytes there differ is) (IsGone gone is1) = absurd (let none = gone in let some = there in cc)
-digest_one kept files name d e (Differs bytes there differ is) (Differs bytes1 there1 differ1 is1) = is ∙ ap (λ l. OfDigest name kept (sha256 l)) (some_one bytes bytes1 (sym there ∙ there1)) ∙ sym is1
+digest_one kept files name d e (Differs bytes there differ is) (Differs bytes1 there1 differ1 is1) = is ∙ ap (λ l. OfDigest name kept (sha256 l)) (same_Some bytes bytes1 (sym there ∙ there1)) ∙ sym is1
 
 -- the first that finds is one, where each finds one
 module _ {X : Type 0} (Finds : X → Damage → Type 0) (one : (x : X) (d e : Damage) → Finds x d → Finds x e → d ≡ e) (d e : Damage) where
@@ -55,7 +53,7 @@ module _ {X : Type 0} (Finds : X → Damage → Type 0) (one : (x : X) (d e : Da
 
 kept_one : (part : Part) (ns start number : ℕ) (files : Files) (d e : Damage) → BreaksKept part ns start number files d → BreaksKept part ns start number files e → d ≡ e
 kept_one part ns start number files d e a b =
-    let same : a.kept ≡ b.kept = some_one a.kept b.kept (sym a.is_kept ∙ b.is_kept) in
+    let same : a.kept ≡ b.kept = same_Some a.kept b.kept (sym a.is_kept ∙ b.is_kept) in
     digest_one b.kept files (part_name part ns start number) d e (subst (λ k. BreaksDigest k files (part_name part ns start number) d) same a.breaks) b.breaks
 
 look_one : (ns start number : ℕ) (files : Files) (look : Look) (d e : Damage) → LookFinds ns start number files look d → LookFinds ns start number files look e → d ≡ e
@@ -88,7 +86,7 @@ no_break Form files name bytes d there form b = b.stops.none (subst Form (sym (a
 
 no_differ : (kept : List ℕ) (files : Files) (name : FileName) (bytes : List ℕ) (d : Damage) → get files name ≡ Some bytes → kept ≡ sha256 bytes → BreaksDigest kept files name d → ⊥
 no_differ kept files name bytes d there is (IsGone gone told) = let some = there in let none = gone in cc
-no_differ kept files name bytes d there is (Differs other have differ told) = differ (is ∙ ap sha256 (some_one bytes other (sym there ∙ have)))
+no_differ kept files name bytes d there is (Differs other have differ told) = differ (is ∙ ap sha256 (same_Some bytes other (sym there ∙ have)))
 
 -- each digest at its offset among the five
 record Fives (a b c d e all : List ℕ) : Type 0 where
@@ -152,12 +150,12 @@ module _ (v : VolumeHead) (rows : List Series) (files : Files) (h : VolumeHolds 
   -- a digest that is kept is the part's
   kept_right : (part : Part) (kept : List ℕ) → kept_of part v.ns v.start v.number files ≡ Some kept → kept ≡ sha256 (part_bytes part v rows)
   kept_right Checkpoint kept is = absurd (cc)
-  kept_right Digests kept is = sym (some_one _ kept is) ∙ ap (drop 1) (bytes_there Checkpoint)
-  kept_right Info kept is = sym (some_one _ kept is) ∙ ap (take 32) (bytes_there Digests) ∙ kept_five.first
-  kept_right Summaries kept is = sym (some_one _ kept is) ∙ ap (λ l. take 32 (drop 32 l)) (bytes_there Digests) ∙ kept_five.second
-  kept_right Index kept is = sym (some_one _ kept is) ∙ ap (λ l. take 32 (drop 64 l)) (bytes_there Digests) ∙ kept_five.third
-  kept_right Data kept is = sym (some_one _ kept is) ∙ ap (λ l. take 32 (drop 96 l)) (bytes_there Digests) ∙ kept_five.fourth
-  kept_right Bloom kept is = sym (some_one _ kept is) ∙ ap (λ l. take 32 (drop 128 l)) (bytes_there Digests) ∙ ap (take 32) kept_five.fifth ∙ all_of (sha256 (bloom_bytes rows)) (length-sha256 (bloom_bytes rows))
+  kept_right Digests kept is = sym (same_Some _ kept is) ∙ ap (drop 1) (bytes_there Checkpoint)
+  kept_right Info kept is = sym (same_Some _ kept is) ∙ ap (take 32) (bytes_there Digests) ∙ kept_five.first
+  kept_right Summaries kept is = sym (same_Some _ kept is) ∙ ap (λ l. take 32 (drop 32 l)) (bytes_there Digests) ∙ kept_five.second
+  kept_right Index kept is = sym (same_Some _ kept is) ∙ ap (λ l. take 32 (drop 64 l)) (bytes_there Digests) ∙ kept_five.third
+  kept_right Data kept is = sym (same_Some _ kept is) ∙ ap (λ l. take 32 (drop 96 l)) (bytes_there Digests) ∙ kept_five.fourth
+  kept_right Bloom kept is = sym (same_Some _ kept is) ∙ ap (λ l. take 32 (drop 128 l)) (bytes_there Digests) ∙ ap (take 32) kept_five.fifth ∙ all_of (sha256 (bloom_bytes rows)) (length-sha256 (bloom_bytes rows))
     where
       all_of : (l : List ℕ) → length l ≡ 32 → take 32 l ≡ l
       all_of l long = ap (take 32) (sym (append-nil l)) ∙ take_at l [] 32 long

@@ -1,6 +1,6 @@
 -- What a log holds, and one more entry.
-use Rattle.std.proofs.Common.{◌≡◌, ◌⊎◌, inl, inr, ⊎_elim, ℕ, ◌+◌, ◌≤◌, List, [], ◌∷◌, ◌++◌, length, map, max, refl, sym, ap, subst, ◌∙◌, arith, append_assoc, append-nil}
-use Rattle.std.proofs.lemmas.List.{map_push}
+use Rattle.std.proofs.Common.{◌≡◌, ◌⊎◌, inl, inr, ⊎_elim, ℕ, ◌+◌, ◌≤◌, List, [], ◌∷◌, ◌++◌, map, max, refl, sym, ap, subst, ◌∙◌, arith, append_assoc, append-nil}
+use Rattle.std.proofs.lemmas.List.{map_push, nil_from_length}
 use Rattle.std.specs.FinMap.{empty, entries, len-entries, len-empty}
 use Rattle.m3_outside.specs.Files.{Files, name_cmp}
 use Rattle.m3_outside.specs.declared.file_name.FileName.{FileName}
@@ -47,13 +47,9 @@ pub tenures_are_fences : (es : List LogEntry) → tenure_of es ≤ fence_of es
 tenures_are_fences [] = omega arith
 tenures_are_fences (e ∷ es) = let one = tenure_is_fence e in let later = tenures_are_fences es in omega (arith, one, later)
 
-none_of_length : {X : Type 0} (xs : List X) → length xs ≡ 0 → xs ≡ []
-none_of_length [] e = refl
-none_of_length (x ∷ xs) e = absurd (omega (arith, e))
-
 no_numbers : numbers empty ≡ []
 no_numbers =
-    let none : entries (empty {X = List ℕ} {R = name_cmp}) ≡ [] = none_of_length _ (sym (len-entries _) ∙ len-empty name_cmp (List ℕ)) in
+    let none : entries (empty {X = List ℕ} {R = name_cmp}) ≡ [] = nil_from_length _ (sym (len-entries _) ∙ len-empty name_cmp (List ℕ)) in
     ap (λ (es : List (FileName × List ℕ)). numbers_of (map (λ (e : FileName × List ℕ). e.0) es)) none
 
 pub no_files_no_entries : HoldsEntries [] empty

@@ -1,9 +1,11 @@
 -- The numbers of what comes next, and which files are taken away.
-use Rattle.std.proofs.Common.{◌≡◌, ◌⊎◌, rules, inl, inr, ⊎_elim, ℕ, ◌<◌, List, [], ◌∷◌, ◌++◌, map, refl, sym, ap, ◌∙◌, arith, Bool, true, cond, ◌&&◌, Some, None, Option}
+use Rattle.std.proofs.Common.{◌≡◌, ◌⊎◌, rules, inl, inr, ⊎_elim, ℕ, ◌<◌, List, [], ◌∷◌, ◌++◌, map, refl, sym, ap, ◌∙◌, arith, true, ◌&&◌, Some, None, Option}
 use Rattle.std.specs.Prelude.{◌==◌, is_some, filter, nat_le, nat_lt}
 use Rattle.std.specs.FinMap.{get, keys}
+use Rattle.std.proofs.lemmas.List.Elements.{filter_agree}
 use Rattle.m3_model.specs.Members.{IsIn}
 use Rattle.m3_model.proofs.MemberLemmas.{IsIn-append_left, IsIn-append_right, map-IsIn}
+use Rattle.m3_model.proofs.Lists.{filter-IsIn}
 use Rattle.m3_outside.specs.declared.file_name.FileName.{FileName}
 use Rattle.m3_outside.specs.Files.{Files, IsAbsent}
 use Rattle.m3_outside.specs.DiskState.{HaveSameNames}
@@ -13,7 +15,7 @@ use Rattle.wire_bytes.specs.Volumes.{Part, Info, Summaries, Index, Data, Bloom, 
 use Rattle.shard_files.specs.Parts.{kind_of, part_name, is_open, is_snapshot_checkpoint, snapshot_data, snapshot_checkpoint}
 use Rattle.shard_files.specs.Steps.{is_part, next_volume, files_of_volume, is_snapshot_file, next_snapshot, is_older}
 use Rattle.shard_files.specs.StepLaws.{NextVolumeIsNew, NextSnapshotIsNew, TakenByNames}
-use Rattle.shard_files.proofs.CountedLemmas.{filter-IsIn, there_key, key_there, keys_ascend, same_names, counted_asked, counted_open}
+use Rattle.shard_files.proofs.CountedLemmas.{there_key, key_there, keys_ascend, same_names, counted_asked, counted_open}
 
 eq_itself : (n : ℕ) → (n == n) ≡ true
 eq_itself n = search rules
@@ -80,10 +82,6 @@ next_snapshot_is_new = record {
 
 -- ---- which files are taken away
 
-same_filter : {X : Type 0} (p q : X → Bool) (xs : List X) → ((x : X) → p x ≡ q x) → filter p xs ≡ filter q xs
-same_filter p q [] same = refl
-same_filter p q (x ∷ xs) same = let later = same_filter p q xs same in ap (λ b. cond b (x ∷ filter p xs) (filter p xs)) (same x) ∙ ap (λ l. cond (q x) (x ∷ l) l) later
-
 is_there : (o p : Option (List ℕ)) → (o ≡ None → p ≡ None) → (p ≡ None → o ≡ None) → is_some p ≡ is_some o
 is_there None None to back = refl
 is_there None (Some b) to back = absurd (let never = to refl in cc)
@@ -104,7 +102,7 @@ module _ (x y : Files) (same : HaveSameNames x y) where
 
 pub taken_by_names : TakenByNames
 taken_by_names = record {
-  volume = λ ns start number x y same. same_filter (λ name. is_some (get y name)) (λ name. is_some (get x name)) (files_of_volume ns start number) (λ q. is_there (get x q) (get y q) (same q).0 (same q).1);
+  volume = λ ns start number x y same. filter_agree (λ name. is_some (get y name)) (λ name. is_some (get x name)) (λ q. is_there (get x q) (get y q) (same q).0 (same q).1) (files_of_volume ns start number);
   snapshots = λ number x y same. ap (λ (l : List FileName). filter (is_older 9 number) l ++ filter (is_older 8 number) l) (one_keys x y same);
   segments = λ number x y same. ap (λ (l : List FileName). map segment (filter (λ n. nat_lt n number) (numbers_of l))) (one_keys x y same);
 }

@@ -1,8 +1,9 @@
 -- Volumes, snapshots and the log, each by its files.
 use Rattle.std.proofs.Common.{◌≡◌, ℕ, ◌≤◌, List, [], ◌∷◌, ◌++◌, map, refl, sym, ap, subst, ◌∙◌, arith, true, ◌&&◌, Some, None, Option}
 use Rattle.std.specs.Prelude.{◌==◌}
-use Rattle.std.proofs.lemmas.Bool.{eqb-true}
+use Rattle.std.proofs.lemmas.Bool.{eqb-true, and_parts}
 use Rattle.std.specs.FinMap.{get}
+use Rattle.std.proofs.lemmas.Option.{same_Some}
 use Rattle.m3_model.specs.Members.{IsIn}
 use Rattle.m3_model.specs.declared.point.Series.{Series}
 use Rattle.m3_outside.specs.declared.file_name.FileName.{FileName}
@@ -19,7 +20,7 @@ use Rattle.shard_files.specs.Entries.{spelled}
 use Rattle.shard_files.specs.HeldEntries.{HoldsEntries}
 use Rattle.shard_files.specs.Parts.{kind_of, part_of, VolumeHolds, KnownVolume, IsKnown, AreKnown, VolumesAre, is_volume_checkpoint, counted_volumes, snapshot_data, snapshot_checkpoint, SnapshotHolds, is_snapshot_checkpoint, counted_snapshots, NewestIs, AreWhole}
 use Rattle.shard_files.specs.FileLaws.{SameKinds, CountedByCheckpoints, EachByItsFiles}
-use Rattle.shard_files.proofs.CountedLemmas.{both, counted_same}
+use Rattle.shard_files.proofs.CountedLemmas.{counted_same}
 
 pub kind_low : (part : Part) → 1 ≤ kind_of part
 kind_low Info = omega arith
@@ -45,8 +46,8 @@ volume_kind q e = eqb-true q.kind 7 e
 -- a snapshot's checkpoint is the one of its number
 pub snapshot_named : (q : FileName) → is_snapshot_checkpoint q ≡ true → q ≡ snapshot_checkpoint q.number
 snapshot_named q e =
-    let first = both (q.kind == 9) ((q.ns == 0) && (q.block == 0)) e in
-    let second = both (q.ns == 0) (q.block == 0) first.1 in
+    let first = and_parts (q.kind == 9) ((q.ns == 0) && (q.block == 0)) e in
+    let second = and_parts (q.ns == 0) (q.block == 0) first.1 in
     let kind = eqb-true q.kind 9 first.0 in
     let ns = eqb-true q.ns 0 second.0 in
     let block = eqb-true q.block 0 second.1 in
@@ -113,9 +114,6 @@ each_by_its_files = record {
 
 -- ---- one volume of a name, one snapshot of a number
 
-some_one : (a b : List ℕ) → Some a ≡ Some b → a ≡ b
-some_one a b e = cc
-
 pub one_known : (x : Files) (n : FileName) (j k : KnownVolume) → IsKnown x n j → IsKnown x n k → j ≡ k
 one_known x n j k a b =
     let offset : part_of Checkpoint j.head ≡ part_of Checkpoint k.head = sym a.named ∙ b.named in
@@ -124,7 +122,7 @@ one_known x n j k a b =
     let number = ap (λ (q : FileName). q.number) offset in
     let same : (part : Part) → part_bytes part j.head j.rows ≡ part_bytes part k.head k.rows = λ part.
     let name : part_of part j.head ≡ part_of part k.head = λ i. record { kind = kind_of part; ns = ns i; block = start i; number = number i } in
-    some_one (part_bytes part j.head j.rows) (part_bytes part k.head k.rows) (sym (a.holds.parts part) ∙ ap (get x) name ∙ b.holds.parts part) in
+    same_Some (part_bytes part j.head j.rows) (part_bytes part k.head k.rows) (sym (a.holds.parts part) ∙ ap (get x) name ∙ b.holds.parts part) in
     let one = volumes_are_one j.head k.head j.rows k.rows a.holds.values b.holds.values (same Info) (same Data) in
     λ i. record { head = one.0 i; rows = one.1 i }
 
@@ -140,7 +138,7 @@ one_volumes x (n ∷ ns) (j ∷ js) (k ∷ ks) a b =
     λ i. first i ∷ rest i
 
 pub one_snapshot : (x : Files) (s t : Snapshot) → SnapshotHolds s x → SnapshotHolds t x → s.number ≡ t.number → s ≡ t
-one_snapshot x s t a b e = snapshots_are_one s t a.values b.values (some_one (snapshot_bytes s) (snapshot_bytes t) (sym a.body ∙ ap (λ n. get x (snapshot_data n)) e ∙ b.body))
+one_snapshot x s t a b e = snapshots_are_one s t a.values b.values (same_Some (snapshot_bytes s) (snapshot_bytes t) (sym a.body ∙ ap (λ n. get x (snapshot_data n)) e ∙ b.body))
 
 pub not_pushed : {X : Type 0} (xs : List X) (a : X) → xs ++ a ∷ [] ≡ [] → ⊥
 not_pushed [] a e = cc

@@ -1,6 +1,6 @@
 -- The first offset at which a segment stops to be one of entries, found a chunk at a time.
 use Rattle.std.proofs.Common.{◌≡◌, ◌⊎◌, inl, inr, ℕ, suc, ◌+◌, ◌-◌, ◌≤◌, List, [], ◌∷◌, ◌++◌, length, take, drop, map, Bool, Result, IsErrAnd, IfErr, refl, sym, ap, subst, ◌∙◌, arith, append_assoc, length-append, length-take}
-use Rattle.std.proofs.lemmas.List.{drop_at, drop-drop, take-append-drop, take-append-le, take-take, length-take-le, take_all}
+use Rattle.std.proofs.lemmas.List.{drop_at, drop-drop, take-append-drop, take-append-le, take-take, length-take-le, take_at}
 use Rattle.std.proofs.lemmas.Bool.{cases_lt}
 use Rattle.std.proofs.lemmas.Result.{err_from_is_err_and}
 use Rattle.byteorder.specs.Endian.{big_bytes}
@@ -63,9 +63,6 @@ behind (c ∷ cs) (b ∷ bs) chunk y rest room all other same le fits short =
         | inr o ↦ inr (omega (arith, o, l, k, e))
       ];
     }
-
-take_length : (l : List ℕ) → take (length l) l ≡ l
-take_length l = take_all (length l) l (omega arith)
 
 -- no segment stops within whole chunks for which it has room
 grammar_behind : (cs : List (List ℕ)) (z file : List ℕ) (other : ℕ) → file ≡ written cs ++ z → length (written cs) ≤ 65536 → StopsAt IsSegment file other → length (written cs) ≤ other
@@ -169,7 +166,7 @@ module _ (es : List LogEntry) (within : AreWithin es) (front file : List ℕ) (w
       let reach : m ≤ length front = omega (arith, long, k, pl, le, t, fl) in
       let cut : file ≡ (written cs ++ chunk_bytes d) ++ r = whole_file ∙ sym (append_assoc (written cs) (chunk_bytes d) r) in
       let head : take m front ≡ written cs ++ chunk_bytes d =
-      front_take m reach ∙ ap (take m) cut ∙ take_whole (written cs ++ chunk_bytes d) r m (let a = length-append (written cs) (chunk_bytes d) in omega (arith, a, k, pl)) in
+      front_take m reach ∙ ap (take m) cut ∙ take_at (written cs ++ chunk_bytes d) r m (let a = length-append (written cs) (chunk_bytes d) in omega (arith, a, k, pl)) in
       let parts : front ≡ written cs ++ (chunk_bytes d ++ drop m front) = sym (take-append-drop m front) ∙ ap (λ (l : List ℕ). l ++ drop m front) head ∙ append_assoc (written cs) (chunk_bytes d) (drop m front) in
       let stands : drop at front ≡ chunk_bytes d ++ drop m front = ap (drop at) parts ∙ drop_at (written cs) (chunk_bytes d ++ drop m front) at pl in
       let field = 1 ∷ big_bytes 4 (length d) in
@@ -181,9 +178,6 @@ module _ (es : List LogEntry) (within : AreWithin es) (front file : List ℕ) (w
         stands = record { split = stands; ends = omega (arith, k); within = reach };
         named = record { split = named; ends = refl; within = reach };
       }
-    where
-      take_whole : (a b : List ℕ) (n : ℕ) → length a ≡ n → take n (a ++ b) ≡ a
-      take_whole a b n long = take-append-le n a b (omega (arith, long)) ∙ (let e : n ≡ length a = sym long in ap (λ (k : ℕ). take k a) e ∙ take_length a)
 
   -- where no chunk stands, the offset at which no segment goes on is the first
   pub end_stops : (stop : ℕ) → StopsAt IsSegment file stop → ((from next : ℕ) → ¬ (ChunkStands front at from next)) → FirstStop file stop

@@ -2,7 +2,7 @@
 use Rattle.std.proofs.Common.{◌≡◌, ◌⊎◌, rules, inl, inr, ⊎_elim, ℕ, ◌<◌, ◌≤◌, List, [], ◌∷◌, ◌++◌, refl, sym, ap, subst, ◌∙◌, arith, true, false, cond, ◌&&◌, Some, None, Option}
 use Rattle.std.specs.Prelude.{filter, nat_lt, ◌==◌}
 use Rattle.std.specs.Cmp.{nat_cmp_is}
-use Rattle.std.proofs.lemmas.Bool.{eqb-true, ltb-true}
+use Rattle.std.proofs.lemmas.Bool.{eqb-true, ltb-true, and_parts}
 use Rattle.std.proofs.lemmas.List.Elements.{filter-append}
 use Rattle.std.specs.declared.cmp.Ordering.TheVariants.{Less}
 use Rattle.std.specs.FinMap.{get, keys}
@@ -11,6 +11,8 @@ use Rattle.m3_model.specs.Contents.{Contents}
 use Rattle.m3_model.specs.Members.{IsIn}
 use Rattle.m3_model.specs.declared.point.Point.{Point}
 use Rattle.m3_model.proofs.MemberLemmas.{IsIn-append_left, IsIn-append_right, IsIn-append_cases, IsIn-push}
+use Rattle.m3_model.proofs.Lists.{IsIn-filter, IsIn-filter_passes, filter-IsIn}
+use Rattle.m3_model.proofs.Ascending.{Ascends-filter}
 use Rattle.m3_outside.specs.declared.file_name.FileName.{FileName}
 use Rattle.m3_outside.specs.Files.{Files}
 use Rattle.m3_outside.specs.Removal.{MayTakeAway}
@@ -24,7 +26,7 @@ use Rattle.shard_files.specs.Keeps.{HoldsKept, Keeps}
 use Rattle.shard_files.specs.Steps.{IsOfSnapshot, MaySave, is_snapshot_file, is_older, snapshots_below}
 use Rattle.shard_files.specs.FileLaws.{SameKinds}
 use Rattle.shard_files.specs.StepLaws.{MayBeSaved, SaveKeeps, MayBeCleared, ClearKeeps}
-use Rattle.shard_files.proofs.CountedLemmas.{Before, both, chosen, IsIn-filter, filter-IsIn, filter_ascends, counted_asked, counted_open, is_counted, counted_ascend, same_names, there_key}
+use Rattle.shard_files.proofs.CountedLemmas.{Before, counted_asked, counted_open, is_counted, counted_ascend, same_names, there_key}
 use Rattle.shard_files.proofs.FilesHoldLemmas.{files_hold_ordered}
 use Rattle.shard_files.proofs.PartLemmas.{snapshot_named, volumes_as, log_as, one_newest}
 
@@ -205,12 +207,12 @@ module _ (kept : Contents) (number : ℕ) (x y : Files) (may : MayBeCleared kept
   gone_is : (q : FileName) → IsIn takes.gone q → (is_older 9 number q ≡ true) ⊎ (is_older 8 number q ≡ true)
   gone_is q g =
       let listed : IsIn (checkpoints ++ bodies) q = subst (λ l. IsIn l q) (sym takes.split) (IsIn-append_left takes.gone takes.left q g) in
-      ⊎_elim (λ (c : IsIn checkpoints q). inl (chosen (is_older 9 number) (keys x) q c)) (λ (b : IsIn bodies q). inr (chosen (is_older 8 number) (keys x) q b)) (IsIn-append_cases checkpoints bodies q listed)
+      ⊎_elim (λ (c : IsIn checkpoints q). inl (IsIn-filter_passes (is_older 9 number) (keys x) q c)) (λ (b : IsIn bodies q). inr (IsIn-filter_passes (is_older 8 number) (keys x) q b)) (IsIn-append_cases checkpoints bodies q listed)
 
   older_kind : (kind : ℕ) (q : FileName) → is_older kind number q ≡ true → (q.kind ≡ kind) × (q.number < number)
   older_kind kind q e =
-      let first = both (is_snapshot_file kind q) (nat_lt q.number number) e in
-      let second = both (q.kind == kind) ((q.ns == 0) && (q.block == 0)) first.0 in (
+      let first = and_parts (is_snapshot_file kind q) (nat_lt q.number number) e in
+      let second = and_parts (q.kind == kind) ((q.ns == 0) && (q.block == 0)) first.0 in (
         eqb-true q.kind kind second.0,
         ltb-true q.number number first.1,
       )
@@ -241,7 +243,7 @@ module _ (kept : Contents) (number : ℕ) (x y : Files) (may : MayBeCleared kept
       let own = snapshot_checkpoint t.number in
       let test : is_older 9 number own ≡ true = ltb_of t.number number lt in
       let listed : IsIn checkpoints own = filter-IsIn (is_older 9 number) (keys x) own (there_key x own _ h.checkpoint) test in
-      let not_there : IsIn checkpoints (snapshot_data t.number) → ⊥ = λ m. let k = (older_kind 9 (snapshot_data t.number) (chosen (is_older 9 number) (keys x) (snapshot_data t.number) m)).0 in omega (arith, k) in
+      let not_there : IsIn checkpoints (snapshot_data t.number) → ⊥ = λ m. let k = (older_kind 9 (snapshot_data t.number) (IsIn-filter_passes (is_older 9 number) (keys x) (snapshot_data t.number) m)).0 in omega (arith, k) in
       let gone = goes own (first_part checkpoints bodies takes.gone takes.left (snapshot_data t.number) takes.split g not_there own listed) in
       let never : is_open None ≡ true = ap is_open (sym gone) ∙ open_ in
       cc)
@@ -270,9 +272,9 @@ module _ (kept : Contents) (number : ℕ) (x y : Files) (may : MayBeCleared kept
       own = snapshot_checkpoint may.snapshot.number
 
       names : counted_snapshots y ≡ filter (λ n. is_open (get y n)) (counted_snapshots x)
-      names = same_names (counted_snapshots y) (filter (λ n. is_open (get y n)) (counted_snapshots x)) (counted_ascend is_snapshot_checkpoint y) (filter_ascends Before (λ n. is_open (get y n)) (counted_snapshots x) (counted_ascend is_snapshot_checkpoint x))
+      names = same_names (counted_snapshots y) (filter (λ n. is_open (get y n)) (counted_snapshots x)) (counted_ascend is_snapshot_checkpoint y) (Ascends-filter Before (λ n. is_open (get y n)) (counted_snapshots x) (counted_ascend is_snapshot_checkpoint x))
           (λ n m. filter-IsIn (λ n. is_open (get y n)) (counted_snapshots x) n (was_there n m) (counted_open is_snapshot_checkpoint y n m))
-          (λ n m. is_counted is_snapshot_checkpoint y n (counted_asked is_snapshot_checkpoint x n (IsIn-filter (λ n. is_open (get y n)) (counted_snapshots x) n m)) (chosen (λ n. is_open (get y n)) (counted_snapshots x) n m))
+          (λ n m. is_counted is_snapshot_checkpoint y n (counted_asked is_snapshot_checkpoint x n (IsIn-filter (λ n. is_open (get y n)) (counted_snapshots x) n m)) (IsIn-filter_passes (λ n. is_open (get y n)) (counted_snapshots x) n m))
 
   pub keeps_cleared : Keeps kept x y
   keeps_cleared = record {

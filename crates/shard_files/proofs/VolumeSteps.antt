@@ -8,6 +8,7 @@ use Rattle.m3_model.specs.Members.{IsIn}
 use Rattle.m3_model.specs.declared.point.Point.{Point}
 use Rattle.m3_model.specs.declared.point.Series.{Series}
 use Rattle.m3_model.proofs.MemberLemmas.{IsIn-append_left, IsIn-append_right, IsIn-append_cases, IsIn-map}
+use Rattle.m3_model.proofs.Lists.{IsIn-filter}
 use Rattle.m3_outside.specs.declared.file_name.FileName.{FileName}
 use Rattle.m3_outside.specs.Files.{Files, IsAbsent}
 use Rattle.m3_outside.specs.Removal.{without_files, MayTakeAway}
@@ -21,7 +22,7 @@ use Rattle.shard_files.specs.Keeps.{HoldsKept, Keeps}
 use Rattle.shard_files.specs.Steps.{MayWrite, files_of_volume, parts_there}
 use Rattle.shard_files.specs.FileLaws.{SameKinds}
 use Rattle.shard_files.specs.StepLaws.{MayBeWritten, WriteKeeps, MayBeTaken, TakeKeeps}
-use Rattle.shard_files.proofs.CountedLemmas.{counted_asked, counted_open, is_counted, IsIn-filter}
+use Rattle.shard_files.proofs.CountedLemmas.{counted_asked, counted_open, is_counted}
 use Rattle.shard_files.proofs.PartLemmas.{kind_low, kind_high, volume_kind, newest_as, whole_as, log_as, one_known}
 
 -- ---- known volumes by their names

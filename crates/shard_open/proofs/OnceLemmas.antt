@@ -1,11 +1,10 @@
 -- The points of a set that has them by key and value.
-use Rattle.std.proofs.Common.{◌≡◌, ◌⊎◌, inl, inr, ⊎_elim, ℤ, List, [], ◌∷◌, ◌++◌, refl, sym, ap, subst, ◌∙◌}
+use Rattle.std.proofs.Common.{◌≡◌, ◌⊎◌, inl, inr, ⊎_elim, ℤ, List, [], ◌∷◌, ◌++◌, sym, ap, subst, ◌∙◌}
 use Rattle.std.specs.Prelude.{◌↔◌, map, Result, Ok, Err, IfOk}
 use Rattle.std.specs.BTreeSet.{insert_key}
 use Rattle.std.specs.FinMap.{IsAntisymmetric, int_cmp-IsAntisymmetric}
-use Rattle.std.specs.Ordering.{int_cmp, ordering_then}
-use Rattle.std.specs.declared.cmp.Ordering.{Ordering}
-use Rattle.std.specs.declared.cmp.Ordering.TheVariants.{Less, Equal, Greater}
+use Rattle.std.specs.Ordering.{int_cmp}
+use Rattle.std.specs.declared.cmp.Ordering.TheVariants.{Less}
 use Rattle.m3_model.specs.Ascends.{Ascends}
 use Rattle.m3_model.specs.Contents.{key_of}
 use Rattle.m3_model.specs.Keys.{key_cmp}
@@ -14,14 +13,10 @@ use Rattle.m3_model.specs.declared.point.Key.{Key}
 use Rattle.m3_model.specs.declared.point.Point.{Point}
 use Rattle.m3_model.proofs.Keyed.{key_cmp-IsAntisymmetric}
 use Rattle.m3_model.proofs.MemberLemmas.{IsIn-append_left, IsIn-append_cases, IsIn-push, IsIn-map, map-IsIn}
+use Rattle.m3_model.proofs.Orders.{both_equal}
 use Rattle.held_points.proofs.ListLemmas.{insert_key-IsIn, IsIn-insert_key}
 use Rattle.shard_files.specs.Once.{IsBefore, IsEachOnce}
 use Rattle.shard_open.specs.Ranks.{rank_cmp, ranked, unranked, AreRanksOf}
-
-both_equal : (a b : Ordering) → ordering_then a b ≡ Equal → (a ≡ Equal) × (b ≡ Equal)
-both_equal Less b e = cc
-both_equal Equal b e = (refl, e)
-both_equal Greater b e = cc
 
 rank_cmp-IsAntisymmetric : IsAntisymmetric rank_cmp
 rank_cmp-IsAntisymmetric x y e =

@@ -1,8 +1,8 @@
 -- Volumes that are opened, and what is loaded of all files.
-use Rattle.std.proofs.Common.{◌≡◌, ℕ, ◌+◌, ◌<◌, ◌≤◌, max, List, [], ◌∷◌, ◌++◌, length, take, get_or, map, sym, ap, ap₂, subst, ◌∙◌, append_assoc, append-nil, Result, Ok, Err, IsErrAnd}
-use Rattle.std.specs.Prelude.{IfOk, IsErrOf}
+use Rattle.std.proofs.Common.{◌≡◌, ℕ, ◌+◌, ◌<◌, ◌≤◌, max, List, [], ◌∷◌, ◌++◌, length, take, get_or, map, sym, ap, ap₂, subst, ◌∙◌, append_assoc, append-nil, Result, Err, IsErrAnd}
+use Rattle.std.specs.Prelude.{IsErrOf}
 use Rattle.std.proofs.lemmas.Result.{err_from_is_err_and}
-use Rattle.std.proofs.lemmas.List.{map-append, take_all}
+use Rattle.std.proofs.lemmas.List.{map-append, take_all, take_more}
 use Rattle.std.proofs.lemmas.Grind.{flat_map-append}
 use Rattle.m3_model.specs.declared.point.Point.{Point}
 use Rattle.m3_outside.specs.Files.{Files}
@@ -21,7 +21,6 @@ use Rattle.fileset_check.specs.declared.volume.Volume.{Volume}
 use Rattle.shard_open.specs.Loads.{known_of, IsOpen, AreOpen, AreOpened, IsNewest}
 use Rattle.shard_open.specs.declared.newest.Newest.{Newest}
 use Rattle.shard_open.specs.declared.volumes.OpenVolume.{OpenVolume}
-use Rattle.shard_open.proofs.SyncLemmas.{take_more}
 
 -- ---- one volume more
 
@@ -81,10 +80,6 @@ loaded_once files vs n es of_volumes of_log points of_tenure of_fence tenure fen
 }
 
 -- ---- answers that are handed on
-
-pub if_ok_as : {X E : Type 0} (r : Result X E) (P Q : X → Type 0) → ((x : X) → P x → Q x) → IfOk r P → IfOk r Q
-if_ok_as (Ok x) P Q to p = to x p
-if_ok_as (Err e) P Q to p = tt
 
 -- want of memory is no fault
 pub not_disk : {T : Type 0} (r : Result T LoadErr) → IsErrAnd r (λ e. e ≡ failures.Memory) → IsErrOf r failures.Disk → ⊥

@@ -1,12 +1,11 @@
 -- Files that are synced one after another.
-use Rattle.std.proofs.Common.{◌≡◌, ⊎_elim, ℕ, suc, ◌+◌, ◌<◌, ◌≤◌, List, [], ◌∷◌, ◌++◌, length, take, get_or, refl, sym, ap, subst, ◌∙◌, arith, true, Option, Some, None, Result, Ok}
+use Rattle.std.proofs.Common.{◌≡◌, ⊎_elim, ℕ, ◌+◌, ◌<◌, ◌≤◌, List, [], ◌∷◌, length, take, get_or, refl, sym, ap, subst, ◌∙◌, arith, true, Option, Some, None, Result, Ok}
 use Rattle.std.specs.Prelude.{⊤, IsErr}
 use Rattle.std.specs.FinMap.{get, keys, entries}
-use Rattle.std.proofs.Math.Seq.{take-suc}
-use Rattle.std.proofs.lemmas.List.{take_all}
+use Rattle.std.proofs.lemmas.List.{take_all, take_more}
 use Rattle.m3_model.proofs.MemberLemmas.{IsIn-append_cases, IsIn-map, map-IsIn}
 use Rattle.m3_model.proofs.FindLemmas.{IsIn-get, get-IsIn}
-use Rattle.tag_query.proofs.Members.{IsIn-get_or}
+use Rattle.m3_model.proofs.Lists.{IsIn-get_or}
 use Rattle.m3_model.specs.Members.{IsIn}
 use Rattle.m3_outside.specs.Causes.{CountsFaults}
 use Rattle.m3_outside.specs.declared.file_name.FileName.{FileName}
@@ -17,9 +16,6 @@ use Rattle.m3_outside.specs.DiskCalls.{Syncs, LeavesFiles}
 use Rattle.m3_outside.proofs.Names.{name_total, name_same, same_files}
 use Rattle.m3_outside.proofs.Moments.{elapses_then}
 use Rattle.shard_open.proofs.Counts.{counts_both, counts_for}
-
-pub take_more : {X : Type 0} (xs : List X) (i : ℕ) (d : X) → i < length xs → take (i + 1) xs ≡ take i xs ++ get_or xs i d ∷ []
-take_more {X} xs i d lt = let up : i + 1 ≡ suc i = omega arith in ap (λ (k : ℕ). take k xs) up ∙ take-suc xs i d lt
 
 -- files stay, and the first i of them are as each stop leaves them
 pub record Synced (names : List FileName) (i : ℕ) (old now : DiskState) : Type 0 where

@@ -19,7 +19,7 @@ use Rattle.volume_bytes.specs.declared.heads.Head.{Head}
 use Rattle.volume_steps.specs.KnownLists.{IsOfOne}
 use Rattle.snapshot_steps.specs.Counts.{AreCounted, StayCounted}
 use Rattle.snapshot_steps.proofs.LogCounts.{counted_alike, counted_made, same_newest}
-use Rattle.shard_store.specs.StoreParts.{IsCountedIn, IsKept, IsOpenOn}
+use Rattle.shard_store.specs.StoreParts.{IsCachedIn, IsCountedIn, IsKept, IsOpenOn}
 use Rattle.shard_store.specs.declared.opened.Opened.{Opened}
 
 -- where the files are left
@@ -66,13 +66,13 @@ begun_counted (Err e) number missing snapshot old new same none is limit made co
 -- ---- a store that is open, or was closed by a fault
 
 pub open_or_closed : {T : Type 0} (r : Result T DiskErr) (later : Opened) (new : Option Opened) (d : DiskState) → (IsErrOf r DiskFailed → new ≡ None) → (¬ (IsErrOf r DiskFailed) → new ≡ Some later) → (¬ (IsErrOf r DiskFailed) → IsOpenOn later d)
-    → (¬ (IsErrOf r DiskFailed) → IsCountedIn later d) → IsKept new d
-open_or_closed {T} (Ok x) later new d closed stays kept counted = subst (λ o. IsKept o d) (sym (stays fine)) (kept fine, counted fine)
+    → (¬ (IsErrOf r DiskFailed) → IsCountedIn later d) → IsCachedIn later d → IsKept new d
+open_or_closed {T} (Ok x) later new d closed stays kept counted cached = subst (λ o. IsKept o d) (sym (stays fine)) (kept fine, counted fine, cached)
   where
     fine : (let q : Result T DiskErr = Ok x in IsErrOf q DiskFailed) → ⊥
     fine f = cc
-open_or_closed {T} (Err Memory) later new d closed stays kept counted = subst (λ o. IsKept o d) (sym (stays fine)) (kept fine, counted fine)
+open_or_closed {T} (Err Memory) later new d closed stays kept counted cached = subst (λ o. IsKept o d) (sym (stays fine)) (kept fine, counted fine, cached)
   where
     fine : (let q : Result T DiskErr = Err Memory in IsErrOf q DiskFailed) → ⊥
     fine f = cc
-open_or_closed (Err DiskFailed) later new d closed stays kept counted = subst (λ o. IsKept o d) (sym (closed refl)) tt
+open_or_closed (Err DiskFailed) later new d closed stays kept counted cached = subst (λ o. IsKept o d) (sym (closed refl)) tt

@@ -11,7 +11,9 @@ use Rattle.m3_model.specs.Members.{IsIn}
 use Rattle.m3_model.specs.declared.rules.Rules.{Rules}
 use Rattle.m3_model.proofs.MemberLemmas.{IsIn-append_left, IsIn-append_right}
 use Rattle.m3_outside.specs.DiskState.{DiskState}
-use Rattle.block_buffer.specs.Blocks.{IsBefore, IsBlocksOf}
+use Rattle.std.specs.List.{All}
+use Rattle.block_buffer.specs.Blocks.{IsBefore, IsClosedBlocksOf}
+use Rattle.block_buffer.proofs.ClosedLemmas.{all_blocks, all_are, closed_are}
 use Rattle.block_buffer.specs.Held.{is_in_block, without}
 use Rattle.shard_files.specs.Keeps.{Rearranges}
 use Rattle.shard_files.specs.Steps.{next_volume}
@@ -19,9 +21,9 @@ use Rattle.shard_files.proofs.CountedLemmas.{IsIn-filter}
 use Rattle.shard_store.specs.Blocks.{IsOneVolume, OtherNumbersStay}
 use Rattle.shard_store.specs.Flushes.{AreFlushed, AreFlushedTo, block_size, ended_size, is_in, is_in_one, may_be_flushed}
 use Rattle.listed_volumes.specs.Listed.{known_in}
-use Rattle.shard_store.specs.StoreParts.{IsCountedIn, IsOpenOn, content_of_opened}
+use Rattle.shard_store.specs.StoreParts.{IsCachedIn, IsCountedIn, IsOpenOn, content_of_opened}
 use Rattle.shard_store.specs.declared.opened.Opened.{Opened}
-use Rattle.shard_store.proofs.FlushedLemmas.{IsAligned, flushed_more, has_ended_size, without_more}
+use Rattle.shard_store.proofs.FlushedLemmas.{IsAligned, blocks_aligned, flushed_more, has_ended_size, without_more}
 use Rattle.shard_store.proofs.ListLemmas.{first_more}
 use Rattle.shard_store.proofs.PointLemmas.{fewer_has, has_fewer, has_holds, same_by_points}
 use Rattle.shard_store.proofs.RearrangeLemmas.{rearranges_left, rearranges_then}
@@ -34,6 +36,7 @@ flushed_of rules blocks i = filter (may_be_flushed rules) (take i blocks)
 pub record Flushing (rules : Rules) (blocks : List (ℕ × ℕ)) (i written : ℕ) (first now : Opened) (old new : DiskState) : Type 0 where
   pub kept : IsOpenOn now new
   pub counted : IsCountedIn first old → IsCountedIn now new
+  pub cached : IsCachedIn first old → IsCachedIn now new
   pub numbers : (now.tenure ≡ first.tenure) × (now.fence ≡ first.fence)
   pub count : written ≡ length (flushed_of rules blocks i)
   pub held : now.held.points ≡ without first.held.points (is_in_one rules (flushed_of rules blocks i))
@@ -83,6 +86,7 @@ module _ (rules : Rules) (blocks : List (ℕ × ℕ)) (i : ℕ) (b : ℕ × ℕ)
         record {
           kept = so_far.kept;
           counted = so_far.counted;
+          cached = so_far.cached;
           numbers = so_far.numbers;
           count = so_far.count ∙ ap (λ (l : List (ℕ × ℕ)). length l) same;
           held = so_far.held ∙ ap (λ (l : List (ℕ × ℕ)). without first.held.points (is_in_one rules l)) same;
@@ -112,16 +116,17 @@ module _ (rules : Rules) (blocks : List (ℕ × ℕ)) (i : ℕ) (b : ℕ × ℕ)
           by false y e f = refl
 
       -- a block that is flushed
-      pub flushing_more : may_be_flushed rules b ≡ true → IsOpenOn later last → (IsCountedIn now new → IsCountedIn later last) → (later.tenure ≡ now.tenure) × (later.fence ≡ now.fence) → later.held.points ≡ without now.held.points (is_in rules b)
+      pub flushing_more : may_be_flushed rules b ≡ true → IsOpenOn later last → (IsCountedIn now new → IsCountedIn later last) → (IsCachedIn now new → IsCachedIn later last) → (later.tenure ≡ now.tenure) × (later.fence ≡ now.fence) → later.held.points ≡ without now.held.points (is_in rules b)
           → (new.tells ≡ true → content_of_opened later ≡ content_of_opened now)
           → (new.tells ≡ true → IsOneVolume b.0 b.1 (block_size rules b.0) now.held.points (known_in now.volumes.items) new.files (known_in later.volumes.items))
           → (new.tells ≡ true → OtherNumbersStay b.0 b.1 new.files last.files) → Rearranges (content_of_opened now) ⊥ new last → Flushing rules blocks (i + 1) (written + 1) first later old last
-      flushing_more t kept counted numbers held content one others disk =
+      flushing_more t kept counted cached numbers held content one others disk =
           let same = sym (more_is t) in
           let told_of = λ (told : old.tells ≡ true). so_far.disk.tells ∙ told in
           record {
             kept = kept;
             counted = λ has. counted (so_far.counted has);
+            cached = λ has. cached (so_far.cached has);
             numbers = (numbers.0 ∙ so_far.numbers.0, numbers.1 ∙ so_far.numbers.1);
             count = ap (λ n. n + 1) so_far.count ∙ sym (length_push done b) ∙ ap (λ (l : List (ℕ × ℕ)). length l) same;
             held = held ∙ ap (λ c. without c (is_in rules b)) so_far.held ∙ without_more rules first.held.points done b ∙ ap (λ (l : List (ℕ × ℕ)). without first.held.points (is_in_one rules l)) same;
@@ -136,13 +141,13 @@ module _ (rules : Rules) (blocks : List (ℕ × ℕ)) (i : ℕ) (b : ℕ × ℕ)
           }
 
       -- one of this size, which has ended
-      pub flushing_ended : (size : ℕ) → ended_size (slice_get rules.spaces b.0) b.1 rules.now ≡ Some size → IsOpenOn later last → (IsCountedIn now new → IsCountedIn later last) → (later.tenure ≡ now.tenure) × (later.fence ≡ now.fence) → later.held.points ≡ without now.held.points (is_in_block b.0 b.1 size)
+      pub flushing_ended : (size : ℕ) → ended_size (slice_get rules.spaces b.0) b.1 rules.now ≡ Some size → IsOpenOn later last → (IsCountedIn now new → IsCountedIn later last) → (IsCachedIn now new → IsCachedIn later last) → (later.tenure ≡ now.tenure) × (later.fence ≡ now.fence) → later.held.points ≡ without now.held.points (is_in_block b.0 b.1 size)
           → (new.tells ≡ true → content_of_opened later ≡ content_of_opened now)
           → (new.tells ≡ true → IsOneVolume b.0 b.1 size now.held.points (known_in now.volumes.items) new.files (known_in later.volumes.items))
           → (new.tells ≡ true → OtherNumbersStay b.0 b.1 new.files last.files) → Rearranges (content_of_opened now) ⊥ new last → Flushing rules blocks (i + 1) (written + 1) first later old last
-      flushing_ended size ended kept counted numbers held content one others disk =
+      flushing_ended size ended kept counted cached numbers held content one others disk =
           let over = has_ended_size (slice_get rules.spaces b.0) b.1 rules.now size ended in
-          flushing_more over.0 kept counted numbers (subst (λ (n : ℕ). later.held.points ≡ without now.held.points (is_in_block b.0 b.1 n)) over.1 held) content
+          flushing_more over.0 kept counted cached numbers (subst (λ (n : ℕ). later.held.points ≡ without now.held.points (is_in_block b.0 b.1 n)) over.1 held) content
           (λ told. subst (λ (n : ℕ). IsOneVolume b.0 b.1 n now.held.points (known_in now.volumes.items) new.files (known_in later.volumes.items)) over.1 (one told)) others disk
 
 -- before the first block
@@ -150,6 +155,7 @@ pub flushing_none : (rules : Rules) (blocks : List (ℕ × ℕ)) (first : Opened
 flushing_none rules blocks first d kept = record {
   kept = kept;
   counted = λ has. has;
+  cached = λ has. has;
   numbers = (refl, refl);
   count = refl;
   held = same_by_points _ _ (λ p h. has_holds (without first.held.points (is_in_one rules [])) p (fewer_has first.held.points (is_in_one rules []) p h refl)) (λ p h. has_holds first.held.points p (has_fewer first.held.points (is_in_one rules []) p h));
@@ -159,9 +165,26 @@ flushing_none rules blocks first d kept = record {
   disk = rearranges_left first.held.points (known_in first.volumes.items) first.tenure first.fence ⊥ d d kept.exact (leaves_none ⊥ d (λ f. f));
 }
 
+-- to leave out twice leaves out once
+filter_twice : {X : Type 0} (f : X → Bool) (xs : List X) → filter f (filter f xs) ≡ filter f xs
+filter_twice f [] = refl
+filter_twice f (x ∷ xs) = by (f x) refl (filter_twice f xs)
+  where
+    by : (b : Bool) → f x ≡ b → filter f (filter f xs) ≡ filter f xs → filter f (cond b (x ∷ filter f xs) (filter f xs)) ≡ cond b (x ∷ filter f xs) (filter f xs)
+    by true t twice = ap (λ c. cond c (x ∷ filter f (filter f xs)) (filter f (filter f xs))) t ∙ ap (λ l. x ∷ l) twice
+    by false t twice = twice
+
 -- after the last block
-pub flushed_all : (rules : Rules) (c : Contents) (blocks : List (ℕ × ℕ)) (i : ℕ) → length blocks ≤ i → IsBlocksOf rules c blocks → AreFlushed rules c (flushed_of rules blocks i)
-flushed_all rules c blocks i le of = record { all = blocks; are = of; is = ap (filter (may_be_flushed rules)) (take_all i blocks le) }
+pub flushed_all : (rules : Rules) (c : Contents) (blocks : List (ℕ × ℕ)) (i : ℕ) → length blocks ≤ i → IsClosedBlocksOf rules c blocks → AreFlushed rules c (flushed_of rules blocks i)
+flushed_all rules c blocks i le of = record {
+  all = all_blocks rules c;
+  are = all_are rules c;
+  is = ap (filter (may_be_flushed rules)) (take_all i blocks le ∙ closed_are rules c blocks of) ∙ filter_twice (may_be_flushed rules) (all_blocks rules c);
+}
+
+-- each of the blocks is one of all that have points
+pub closed_aligned : (rules : Rules) (c : Contents) (blocks : List (ℕ × ℕ)) → All (λ space. 0 < space.block) rules.spaces → IsClosedBlocksOf rules c blocks → (a : ℕ × ℕ) → IsIn blocks a → IsAligned rules a
+closed_aligned rules c blocks sizes of a m = let held = of.held a m in blocks_aligned rules c (all_blocks rules c) sizes (all_are rules c) a ((all_are rules c).whole a held.0 held.1 held.2)
 
 -- they are no more than the blocks so far
 pub flushed_few : (rules : Rules) (blocks : List (ℕ × ℕ)) (i : ℕ) → length (flushed_of rules blocks i) ≤ i

@@ -18,5 +18,6 @@ pub mod KeptLemmas
 pub mod LogStepLemmas
 pub mod SnapshotLemmas
 pub mod CountedLemmas
+pub mod CacheLemmas
 pub use Rattle.shard_open.proofs.Counts
 pub use Rattle.shard_open.proofs.ToldLemmas

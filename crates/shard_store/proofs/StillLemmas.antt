@@ -11,7 +11,7 @@ use Rattle.fileset_read.specs.Volumes.{IsUndamaged, of_disk}
 use Rattle.fileset_read.specs.declared.file_err.FileErr.{FileErr}
 use Rattle.fileset_read.specs.declared.file_err.FileErr.TheVariants as failures
 use Rattle.volume_steps.proofs.RemovalLemmas.{left_known}
-use Rattle.shard_store.specs.StoreParts.{IsCountedIn, IsKept, IsOpenOn}
+use Rattle.shard_store.specs.StoreParts.{IsCachedIn, IsCountedIn, IsKept, IsOpenOn}
 use Rattle.shard_store.specs.declared.opened.Opened.{Opened}
 
 -- it is still open where the files are left
@@ -49,8 +49,8 @@ undamaged_said r x is = subst (λ s. IfErr s IsUndamaged) (sym (err_and_is r (of
 
 -- it is open, as it is then, or closed
 pub kept_or_closed : {T : Type 0} (r : Result T FileErr) (later : Opened) (new : Option Opened) (d : DiskState) → IfErr r (λ why. why ≢ failures.Memory → new ≡ None) → OnOk r (new ≡ Some later) → (IsErrOf r failures.Memory → new ≡ Some later)
-    → OnOk r (IsOpenOn later d) → (IsErrOf r failures.Memory → IsOpenOn later d) → IsCountedIn later d → IsKept new d
-kept_or_closed (Ok x) later new d closed ok memory kept kept_still counted = subst (λ o. IsKept o d) (sym ok) (kept, counted)
-kept_or_closed (Err failures.Memory) later new d closed ok memory kept kept_still counted = subst (λ o. IsKept o d) (sym (memory refl)) (kept_still refl, counted)
-kept_or_closed (Err failures.Disk) later new d closed ok memory kept kept_still counted = subst (λ o. IsKept o d) (sym (closed (λ e. let bad : failures.Disk ≡ failures.Memory = e in cc))) tt
-kept_or_closed (Err (failures.Form f)) later new d closed ok memory kept kept_still counted = subst (λ o. IsKept o d) (sym (closed (λ e. let bad : failures.Form f ≡ failures.Memory = e in cc))) tt
+    → OnOk r (IsOpenOn later d) → (IsErrOf r failures.Memory → IsOpenOn later d) → IsCountedIn later d → IsCachedIn later d → IsKept new d
+kept_or_closed (Ok x) later new d closed ok memory kept kept_still counted cached = subst (λ o. IsKept o d) (sym ok) (kept, counted, cached)
+kept_or_closed (Err failures.Memory) later new d closed ok memory kept kept_still counted cached = subst (λ o. IsKept o d) (sym (memory refl)) (kept_still refl, counted, cached)
+kept_or_closed (Err failures.Disk) later new d closed ok memory kept kept_still counted cached = subst (λ o. IsKept o d) (sym (closed (λ e. let bad : failures.Disk ≡ failures.Memory = e in cc))) tt
+kept_or_closed (Err (failures.Form f)) later new d closed ok memory kept kept_still counted cached = subst (λ o. IsKept o d) (sym (closed (λ e. let bad : failures.Form f ≡ failures.Memory = e in cc))) tt

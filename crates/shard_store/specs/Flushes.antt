@@ -11,7 +11,8 @@ use Rattle.m3_model.specs.declared.rules.Rules.{Rules}
 use Rattle.m3_model.specs.declared.rules.Space.{Space}
 use Rattle.m3_outside.specs.Files.{Files}
 use Rattle.m3_outside.specs.DiskState.{DiskState}
-use Rattle.block_buffer.specs.Blocks.{IsBlocksOf}
+use Rattle.block_buffer.specs.Blocks.{has_closed, IsBlocksOf}
+pub use Rattle.block_buffer.specs.Blocks.{is_over}
 use Rattle.block_buffer.specs.Held.{is_in_block, without}
 use Rattle.shard_files.specs.Parts.{KnownVolume, VolumesAre}
 use Rattle.shard_files.specs.FilesHold.{points_known}
@@ -21,13 +22,9 @@ use Rattle.shard_store.specs.Stores.{StoreState, joined_with}
 
 -- ---- which blocks
 
--- no write of the block that begins here is taken any more
-abbrev pub is_over : Option Space → ℕ → ℕ → Bool
-is_over None start now = false
-is_over (Some space) start now = nat_le (start + space.block + space.past) now
-
+-- no write of the block is taken any more
 abbrev pub may_be_flushed : Rules → ℕ × ℕ → Bool
-may_be_flushed rules block = is_over (slice_get rules.spaces block.0) block.1 rules.now
+may_be_flushed rules block = has_closed rules block
 
 -- the size of a block that begins here, if it may be flushed
 abbrev pub ended_size : Option Space → ℕ → ℕ → Option ℕ

@@ -5,6 +5,7 @@ use Rattle.m3_model.specs.Contents.{Contents}
 use Rattle.m3_outside.specs.DiskState.{DiskState, Told}
 use Rattle.snapshot_steps.specs.Counts.{AreCounted}
 use Rattle.listed_volumes.specs.Listed.{known_in}
+use Rattle.listed_volumes.specs.Cached.{AreOfVolumes, AreRight}
 use Rattle.shard_store.specs.Stores.{StoreState, IsKeptOn, joined_with}
 use Rattle.shard_store.specs.declared.opened.Opened.{Opened}
 
@@ -39,6 +40,10 @@ IsOpenOn opened d = IsKeptOn opened.log opened.held (known_in opened.volumes.ite
 abbrev pub IsCountedIn : Opened → DiskState → Type 0
 IsCountedIn opened d = Told d (AreCounted opened.log opened.counts.missing opened.counts.snapshot)
 
+-- each block whose rows are kept is one of its volumes; where the disk tells, they are the volume's rows
+abbrev pub IsCachedIn : Opened → DiskState → Type 0
+IsCachedIn opened d = AreOfVolumes (known_in opened.volumes.items) opened.cache × Told d (λ _. AreRight (known_in opened.volumes.items) opened.cache)
+
 abbrev pub IsKept : Option Opened → DiskState → Type 0
 IsKept None d = ⊤
-IsKept (Some opened) d = IsOpenOn opened d × IsCountedIn opened d
+IsKept (Some opened) d = IsOpenOn opened d × IsCountedIn opened d × IsCachedIn opened d

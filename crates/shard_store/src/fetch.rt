@@ -12,7 +12,7 @@ ghost use Rattle.fileset_read.specs.Volumes.{IsUndamaged};
 ghost use Rattle.fileset_read.specs.declared.file_err.FileErr.TheVariants as failures;
 ghost use Rattle.series_merge.specs.Merges.{IsMergeOf};
 ghost use Rattle.listed_volumes.specs.Listed.{known_in};
-ghost use Rattle.shard_store.specs.StoreParts.{IsOpenOn, content_of_opened};
+ghost use Rattle.shard_store.specs.StoreParts.{IsCachedIn, IsOpenOn, content_of_opened};
 
 use crate::opened::Opened;
 use crate::volumes::heads;
@@ -71,27 +71,31 @@ pub(crate) fn join_both(
 }
 
 impl Opened {
-    /// The points with `from <= t < to` of the series that the pick asks for, in memory and of volumes.
+    /// The points with `from <= t < to` of the series that the pick asks for, in memory and of volumes. Rows of volumes that it reads
+    /// for matchers are kept.
     ///
     /// # Errors
     ///
     /// A fault. Want of memory. Damage only where the disk doesn't tell what it holds.
     pub(crate) fn fetch<D: Disk>(
-        &self,
+        &mut self,
         alloc: Global,
         disk: &mut D,
         pick: &Pick,
         from: u64,
         to: u64,
     ) -> Result<Seq<Series>, FileErr>
-        requires kept { IsOpenOn self.now (D.state disk.old) }
-        ensures answer { (D.state disk.old).tells ≡ true → IfOk result (IsAnswer (content_of_opened self.now) pick.now from to) }
+        requires kept { IsOpenOn self.old (D.state disk.old) }
+        requires cached { IsCachedIn self.old (D.state disk.old) }
+        ensures answer { (D.state disk.old).tells ≡ true → IfOk result (IsAnswer (content_of_opened self.old) pick.now from to) }
         ensures ordered { IfOk result IsOrdered }
         ensures leaves { LeavesFiles (IsErrOf result failures.Disk) (D.state disk.old) (D.state disk.new) }
         ensures sound { (D.state disk.old).tells ≡ true → IfErr result IsUndamaged }
+        ensures same { self.new ≡ record self.old { cache = self.new.cache } }
+        ensures cached { IsCachedIn self.new (D.state disk.new) }
     {
         let here = fetch_held(&self.held, pick, from, to)?;
-        let there = fetch(alloc, disk, &self.volumes, pick, from, to)?;
+        let there = fetch(alloc, disk, &self.volumes, &mut self.cache, pick, from, to)?;
         join_both(alloc, here, there)
     }
 }

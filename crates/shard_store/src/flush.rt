@@ -10,7 +10,7 @@ ghost use Rattle.m3_outside.specs.DiskState.{DiskState};
 ghost use Rattle.m3_outside.specs.DiskCalls.{LeavesFiles};
 ghost use Rattle.m3_outside.specs.declared.disk_err.DiskErr.TheVariants.{Failed as DiskFailed};
 ghost use Rattle.series_slots.specs.Ranges.{IsRangeOf};
-ghost use Rattle.block_buffer.specs.Blocks.{IsBlocksOf};
+ghost use Rattle.block_buffer.specs.Blocks.{IsClosedBlocksOf};
 ghost use Rattle.block_buffer.specs.Held.{is_in_block, without};
 ghost use Rattle.wire_bytes.specs.Volumes.{IsVolume};
 ghost use Rattle.shard_files.specs.Keeps.{Rearranges};
@@ -25,7 +25,7 @@ ghost use Rattle.volume_steps.specs.KnownLists.{IsOfOne, volume_of, with_volume,
 ghost use Rattle.shard_store.specs.Blocks.{IsBlockJoin, IsOneVolume, OtherNumbersStay, block_said};
 ghost use Rattle.shard_store.specs.Flushes.{AreFlushed, AreFlushedTo, ended_size, is_in_one};
 ghost use Rattle.listed_volumes.specs.Listed.{known_in};
-ghost use Rattle.shard_store.specs.StoreParts.{IsOpenOn, content_of_opened, IsCountedIn};
+ghost use Rattle.shard_store.specs.StoreParts.{IsOpenOn, content_of_opened, IsCachedIn, IsCountedIn};
 
 use crate::fetch::heads_of;
 use crate::moments::is_past;
@@ -90,13 +90,13 @@ fn buffered_rows(held: &HeldPoints, ns: u8, start: u64, size: u64) -> Result<Seq
     Ok(rows)
 }
 
-// The blocks that have points in memory.
+// The blocks that have points in memory and of which no write is taken any more.
 fn blocks_of(held: &HeldPoints, rules: &Rules) -> Result<Seq<(u8, u64)>, FileErr>
     requires { All (λ space. 0 < space.block) rules.now.spaces }
-    ensures blocks { IfOk result (IsBlocksOf rules.entry.now held.now.points) }
+    ensures blocks { IfOk result (IsClosedBlocksOf rules.entry.now held.now.points) }
     ensures err { IfErr result (λ why. why ≡ unread.Memory) }
 {
-    match held.blocks(rules) {
+    match held.closed_blocks(rules) {
         Ok(blocks) => Ok(blocks),
         Err(_) => Err(FileErr::Memory),
     }
@@ -173,6 +173,7 @@ impl Opened {
         ensures others { (D.state disk.old).tells ≡ true → OtherNumbersStay head.now.ns head.now.start (D.state disk.old).files (D.state disk.new).files }
         ensures content { (D.state disk.old).tells ≡ true → content_of_opened self.new ≡ content_of_opened self.old }
         ensures counted { IsCountedIn self.old (D.state disk.old) → IsCountedIn self.new (D.state disk.new) }
+        ensures cached { IsCachedIn self.old (D.state disk.old) → IsCachedIn self.new (D.state disk.new) }
         ensures disk { Rearranges (content_of_opened self.old) (IsErrOf result DiskFailed) (D.state disk.old) (D.state disk.new) }
     {
         self.volumes.reserve(1)?;
@@ -180,6 +181,7 @@ impl Opened {
         let number = write_volume(alloc, disk, head.ns, head.start, head.size, rows)?;
         volume.head.number = number;
         self.held.drop_block(head.ns, head.start, head.size);
+        self.cache.forget(&volume.head);
         add(&mut self.volumes, volume);
         Ok(())
     }
@@ -196,10 +198,12 @@ impl Opened {
         ensures others { (D.state disk.old).tells ≡ true → OthersStay (IsOfOne olds.now) (D.state disk.old).files (D.state disk.new).files }
         ensures content { (D.state disk.old).tells ≡ true → content_of_opened self.new ≡ content_of_opened self.old }
         ensures counted { IsCountedIn self.old (D.state disk.old) → IsCountedIn self.new (D.state disk.new) }
+        ensures cached { IsCachedIn self.old (D.state disk.old) → IsCachedIn self.new (D.state disk.new) }
         ensures disk { Rearranges (content_of_opened self.old) (IsErrOf result DiskFailed) (D.state disk.old) (D.state disk.new) }
     {
         remove_volumes(disk, olds)?;
         take_off(&mut self.volumes, olds);
+        self.cache.forget_all(olds);
         Ok(())
     }
 
@@ -226,6 +230,7 @@ impl Opened {
         ensures fewer { (p : Point) → HasPoint self.new.held.points p → HasPoint self.old.held.points p }
         ensures content { (D.state disk.old).tells ≡ true → content_of_opened self.new ≡ content_of_opened self.old }
         ensures counted { IsCountedIn self.old (D.state disk.old) → IsCountedIn self.new (D.state disk.new) }
+        ensures cached { IsCachedIn self.old (D.state disk.old) → IsCachedIn self.new (D.state disk.new) }
         ensures disk { Rearranges (content_of_opened self.old) (IsErrOf result DiskFailed) (D.state disk.old) (D.state disk.new) }
     {
         self.write_block(alloc, disk, head, rows)?;
@@ -254,6 +259,7 @@ impl Opened {
         ensures content { (D.state disk.old).tells ≡ true → content_of_opened self.new ≡ content_of_opened self.old }
         ensures sound { (D.state disk.old).tells ≡ true → IfErr result IsUndamaged }
         ensures counted { IsCountedIn self.old (D.state disk.old) → IsCountedIn self.new (D.state disk.new) }
+        ensures cached { IsCachedIn self.old (D.state disk.old) → IsCachedIn self.new (D.state disk.new) }
         ensures disk { Rearranges (content_of_opened self.old) (IsErrOf result unread.Disk) (D.state disk.old) (D.state disk.new) }
     {
         let rows = self.rows_of(alloc, disk, ns, start, size)?;
@@ -290,6 +296,7 @@ impl Opened {
         ensures content { (D.state disk.old).tells ≡ true → content_of_opened self.new ≡ content_of_opened self.old }
         ensures sound { (D.state disk.old).tells ≡ true → IfErr result IsUndamaged }
         ensures counted { IsCountedIn self.old (D.state disk.old) → IsCountedIn self.new (D.state disk.new) }
+        ensures cached { IsCachedIn self.old (D.state disk.old) → IsCachedIn self.new (D.state disk.new) }
         ensures disk { Rearranges (content_of_opened self.old) (IsErrOf result unread.Disk) (D.state disk.old) (D.state disk.new) }
     {
         let blocks = blocks_of(&self.held, rules)?;

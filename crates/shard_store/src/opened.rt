@@ -14,7 +14,7 @@ ghost use Rattle.shard_store.specs.StoreParts.{IsCountedIn};
 use crate::log_step::{append_entry, log_entry, ready_entry};
 use commit_log::Log;
 use held_points::HeldPoints;
-use listed_volumes::ListedVolume;
+use listed_volumes::{ListedVolume, RowCache};
 use m3_model::Point;
 use m3_outside::{Disk, DiskErr};
 use snapshot_steps::Counts;
@@ -28,6 +28,8 @@ pub(crate) struct Opened {
     pub(crate) held: HeldPoints,
     // The volumes that count, by namespace, start and number.
     pub(crate) volumes: Vec<ListedVolume>,
+    // Rows of these that were read for matches.
+    pub(crate) cache: RowCache,
     pub(crate) tenure: u64,
     pub(crate) fence: u64,
     pub(crate) counts: Counts,
@@ -52,6 +54,7 @@ impl Opened {
         ensures err { OnErr result ((self.new.tenure ≡ self.old.tenure) × (self.new.fence ≡ self.old.fence)) }
         ensures held { self.new.held ≡ self.old.held }
         ensures volumes { self.new.volumes ≡ self.old.volumes }
+        ensures cache { self.new.cache ≡ self.old.cache }
         ensures counted { ¬ (IsErrOf result DiskFailed) → IsCountedIn self.old (D.state disk.old) → IsCountedIn self.new (D.state disk.new) }
         ensures disk { Brings (a_tenure tenure) result (D.state disk.old) (D.state disk.new) }
     {
@@ -75,6 +78,7 @@ impl Opened {
         ensures tenure { self.new.tenure ≡ self.old.tenure }
         ensures held { self.new.held ≡ self.old.held }
         ensures volumes { self.new.volumes ≡ self.old.volumes }
+        ensures cache { self.new.cache ≡ self.old.cache }
         ensures counted { ¬ (IsErrOf result DiskFailed) → IsCountedIn self.old (D.state disk.old) → IsCountedIn self.new (D.state disk.new) }
         ensures disk { Brings (a_fence version) result (D.state disk.old) (D.state disk.new) }
     {
@@ -97,6 +101,7 @@ impl Opened {
         ensures content { OnOk result (joined_with self.new.held.points (known_in self.new.volumes.items) ≡ raised (joined_with self.old.held.points (known_in self.old.volumes.items)) point.now) }
         ensures memory { IsErrOf result WantOfMemory → self.new.held ≡ self.old.held }
         ensures volumes { self.new.volumes ≡ self.old.volumes }
+        ensures cache { self.new.cache ≡ self.old.cache }
         ensures tenure { self.new.tenure ≡ self.old.tenure }
         ensures fence { self.new.fence ≡ self.old.fence }
         ensures counted { ¬ (IsErrOf result DiskFailed) → IsCountedIn self.old (D.state disk.old) → IsCountedIn self.new (D.state disk.new) }

@@ -90,6 +90,7 @@ impl Opened {
         ensures known { (D.state disk.old).tells ≡ true → ¬ (IsErrOf result DiskFailed) → (known : List KnownVolume) → VolumesAre known (D.state disk.old).files → VolumesAre known (D.state disk.new).files }
         ensures held { self.new.held ≡ self.old.held }
         ensures volumes { self.new.volumes ≡ self.old.volumes }
+        ensures cache { self.new.cache ≡ self.old.cache }
         ensures numbers { (self.new.tenure ≡ self.old.tenure) × (self.new.fence ≡ self.old.fence) }
         ensures disk { Rearranges (content_of_opened self.old) (IsErrOf result DiskFailed) (D.state disk.old) (D.state disk.new) }
     {

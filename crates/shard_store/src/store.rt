@@ -35,6 +35,7 @@ use crate::log_step::begin_log;
 use crate::opened::Opened;
 use crate::settle::take_in;
 use fileset_read::FileErr;
+use listed_volumes::RowCache;
 use m3_model::{Pick, Point, Rules, Seq, Series};
 use m3_outside::{Disk, DiskErr};
 use shard_files::LoadErr;
@@ -166,6 +167,7 @@ impl<D: Disk> Store<D> {
             log,
             held,
             volumes,
+            cache: RowCache::new(),
             tenure: loaded.tenure,
             fence: loaded.fence,
             counts: Counts {
@@ -241,7 +243,9 @@ impl<D: Disk> Store<D> {
     /// The points with `from <= t < to` of the series that the pick asks for: those in memory, as `HeldPoints::fetch` finds them,
     /// joined with those of the volumes, as `listed_volumes::fetch` does. Identifiers ascend strictly by bytes, times ascend
     /// strictly, and no series is empty. Of one identifier a piece of the index and one record are read of each volume whose
-    /// block has a time in the range, and neither where its bloom filter or summaries exclude it; these two are in memory.
+    /// block has a time in the range, and neither where its bloom filter or summaries exclude it; these two are in memory. For
+    /// matchers the data of each such volume is read in one piece, but for the volumes that were matched last, of 64 at most: their
+    /// rows are in memory then.
     ///
     /// # Errors
     ///
@@ -257,7 +261,7 @@ impl<D: Disk> Store<D> {
         ensures sound { (D.state self.old.disk).tells ≡ true → IfErr result IsUndamaged }
         ensures leaves { LeavesFiles (IsErrOf result unread.Disk) (D.state self.old.disk) (D.state self.new.disk) }
     {
-        let opened = self.opened.as_ref().unwrap();
+        let opened = self.opened.as_mut().unwrap();
         let said = opened.fetch(self.alloc, &mut self.disk, pick, from, to);
         close_unless(&mut self.opened, said)
     }

@@ -12,7 +12,7 @@ ghost use Rattle.volume_bytes.specs.Heads.{head_of};
 ghost use Rattle.fileset_read.specs.Volumes.{IsUndamaged};
 ghost use Rattle.fileset_read.specs.declared.file_err.FileErr.TheVariants as unread;
 ghost use Rattle.listed_volumes.specs.Listed.{known_in};
-ghost use Rattle.shard_store.specs.StoreParts.{IsOpenOn, content_of_opened, IsCountedIn};
+ghost use Rattle.shard_store.specs.StoreParts.{IsOpenOn, content_of_opened, IsCachedIn, IsCountedIn};
 ghost use Rattle.shard_store.specs.Ticks.{expired_in, has_outlived, is_outlived, keys_in, live_volumes, ticked_content};
 
 use crate::fetch::{fetch_held, heads_of, join_both};
@@ -204,11 +204,13 @@ impl Opened {
         ensures err { IfErr result (λ why. why ≡ unread.Disk) }
         ensures numbers { (self.new.tenure ≡ self.old.tenure) × (self.new.fence ≡ self.old.fence) }
         ensures counted { IsCountedIn self.old (D.state disk.old) → IsCountedIn self.new (D.state disk.new) }
+        ensures cached { IsCachedIn self.old (D.state disk.old) → IsCachedIn self.new (D.state disk.new) }
         ensures disk { Rearranges (without (content_of_opened self.old) (has_expired rules.entry.now)) (IsErrOf result unread.Disk) (D.state disk.old) (D.state disk.new) }
     {
         self.held.expire(rules);
         remove_volumes(disk, goes)?;
         forget(&mut self.volumes, rules);
+        self.cache.forget_all(goes);
         Ok(())
     }
 
@@ -234,6 +236,7 @@ impl Opened {
         ensures lost { (D.state disk.old).tells ≡ true → IfOk result (λ n. n ≡ finite.len (content_of_opened self.old) - finite.len (content_of_opened self.new)) }
         ensures sound { (D.state disk.old).tells ≡ true → IfErr result IsUndamaged }
         ensures counted { IsCountedIn self.old (D.state disk.old) → IsCountedIn self.new (D.state disk.new) }
+        ensures cached { IsCachedIn self.old (D.state disk.old) → IsCachedIn self.new (D.state disk.new) }
         ensures disk { Rearranges (without (content_of_opened self.old) (has_expired rules.entry.now)) (IsErrOf result unread.Disk) (D.state disk.old) (D.state disk.new) }
     {
         let ready = self.ready_tick(alloc, disk, rules)?;

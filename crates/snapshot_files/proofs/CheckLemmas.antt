@@ -1,5 +1,5 @@
 -- What is told of the two files of a snapshot.
-use Rattle.std.proofs.Common.{◌≡◌, true, ℕ, List, [], ◌∷◌, length, drop, Option, Some, Result, Ok, Err, IfOk, IfErr, sym, ap, subst, ◌∙◌}
+use Rattle.std.proofs.Common.{◌≡◌, true, ℕ, List, [], ◌∷◌, length, drop, Option, Some, Result, Ok, Err, IfErr, sym, ap, subst, ◌∙◌}
 use Rattle.std.specs.Prelude.{unwrap_or, is_some}
 use Rattle.std.specs.FinMap.{get}
 use Rattle.sha2.specs.Sha256.{sha256}
@@ -24,11 +24,6 @@ use Rattle.snapshot_files.specs.declared.snap.Snap.{Snap}
 pub refuses_as : (P Q : Type 0) (e : RowErr) → (Q → P) → Refuses P e → Refuses Q e
 refuses_as P Q errors.Memory back r = tt
 refuses_as P Q errors.Form back r = λ q. r (back q)
-
--- what is known of a result, as it is handed on
-pub each_ok : {T E : Type 0} (r : Result T E) (P Q : T → Type 0) → ((x : T) → P x → Q x) → IfOk r P → IfOk r Q
-each_ok (Ok x) P Q to p = to x p
-each_ok (Err e) P Q to p = tt
 
 pub each_err : {T : Type 0} (r : Result T CheckErr) (P Q : Damage → Type 0) → ((d : Damage) → P d → Q d) → IfErr r (MayTell P) → IfErr r (MayTell Q)
 each_err (Ok x) P Q to p = tt

@@ -2,16 +2,18 @@
 use Rattle.std.proofs.Common.{◌≡◌, inl, inr, ⊎_elim, ℕ, List, [], ◌∷◌, ◌++◌, refl, ap, subst, arith}
 use Rattle.std.specs.Prelude.{filter, ◌==◌, ◌&&◌, nat_lt}
 use Rattle.std.specs.FinMap.{keys}
-use Rattle.std.proofs.lemmas.Bool.{eqb-true}
+use Rattle.std.proofs.lemmas.Bool.{eqb-true, and_parts}
 use Rattle.m3_model.specs.Ascends.{Ascends}
 use Rattle.m3_model.specs.Members.{IsIn}
 use Rattle.m3_model.proofs.MemberLemmas.{IsIn-append_cases}
+use Rattle.m3_model.proofs.Lists.{IsIn-filter, IsIn-filter_passes}
+use Rattle.m3_model.proofs.Ascending.{Ascends-filter}
 use Rattle.m3_outside.specs.declared.file_name.FileName.{FileName}
 use Rattle.m3_outside.specs.Files.{Files}
 use Rattle.m3_outside.specs.Removal.{AreRemovable}
 use Rattle.m3_outside.proofs.Removal.{Distinct, removable}
 use Rattle.shard_files.specs.Steps.{is_older, is_snapshot_file, snapshots_below}
-use Rattle.shard_files.proofs.CountedLemmas.{Before, both, chosen, IsIn-filter, filter_ascends, keys_ascend, key_there, not_itself}
+use Rattle.shard_files.proofs.CountedLemmas.{Before, keys_ascend, key_there, not_itself}
 
 -- names in strict order are apart
 ascending_apart : (names : List FileName) → Ascends Before names → Distinct names
@@ -27,8 +29,8 @@ both_apart (name ∷ front) back one two apart = (
 
 kind_of_older : (kind number : ℕ) (names : List FileName) (q : FileName) → IsIn (filter (is_older kind number) names) q → q.kind ≡ kind
 kind_of_older kind number names q m =
-    let older = both (is_snapshot_file kind q) (nat_lt q.number number) (chosen (is_older kind number) names q m) in
-    eqb-true q.kind kind (both (q.kind == kind) ((q.ns == 0) && (q.block == 0)) older.0).0
+    let older = and_parts (is_snapshot_file kind q) (nat_lt q.number number) (IsIn-filter_passes (is_older kind number) names q m) in
+    eqb-true q.kind kind (and_parts (q.kind == kind) ((q.ns == 0) && (q.block == 0)) older.0).0
 
 -- the files of older snapshots can be taken away
 pub below_removable : (number : ℕ) (files : Files) → AreRemovable (snapshots_below number files) files
@@ -36,7 +38,7 @@ below_removable number files =
     let front = filter (is_older 9 number) (keys files) in
     let back = filter (is_older 8 number) (keys files) in
     removable (front ++ back) files
-    (both_apart front back (ascending_apart front (filter_ascends Before (is_older 9 number) (keys files) (keys_ascend files))) (ascending_apart back (filter_ascends Before (is_older 8 number) (keys files) (keys_ascend files)))
+    (both_apart front back (ascending_apart front (Ascends-filter Before (is_older 9 number) (keys files) (keys_ascend files))) (ascending_apart back (Ascends-filter Before (is_older 8 number) (keys files) (keys_ascend files)))
     (λ q r f b same.
     let nine = kind_of_older 9 number (keys files) q f in
     let eight = kind_of_older 8 number (keys files) r b in

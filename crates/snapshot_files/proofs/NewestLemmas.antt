@@ -4,6 +4,7 @@ use Rattle.std.specs.Prelude.{filter}
 use Rattle.std.specs.FinMap.{get, keys, entries}
 use Rattle.std.proofs.lemmas.List.{append-nil}
 use Rattle.std.proofs.lemmas.List.Elements.{filter_more}
+use Rattle.std.proofs.lemmas.Bool.{and_parts}
 use Rattle.m3_model.specs.Members.{IsIn}
 use Rattle.m3_model.proofs.FindLemmas.{IsIn-get}
 use Rattle.m3_outside.specs.declared.file_name.FileName.{FileName}
@@ -11,7 +12,6 @@ use Rattle.m3_outside.specs.Files.{Files, name_cmp}
 use Rattle.m3_outside.proofs.Names.{name_total, name_same}
 use Rattle.shard_files.specs.Parts.{is_open, counts, is_snapshot_checkpoint, counted_snapshots, snapshot_checkpoint, NewestIs}
 use Rattle.shard_files.specs.Damage.{last_of}
-use Rattle.shard_files.proofs.CountedLemmas.{both}
 use Rattle.shard_files.proofs.PartLemmas.{snapshot_named}
 use Rattle.snapshot_files.specs.Snaps.{seen}
 use Rattle.snapshot_files.specs.Told.{IsThere, checkpoint_of, is_counted}
@@ -60,7 +60,7 @@ module _ (files : Files) where
   -- one name more is looked at
   later : (names : List FileName) (name : FileName) (b : Bool) (before : Option ℕ) → is_counted files name ≡ b → last_of names ≡ checkpoint_of before
       → last_of (names ++ cond b (name ∷ []) []) ≡ checkpoint_of (if b then Some name.number else before)
-  later names name true before counted was = last_more names name ∙ ap (λ (n : FileName). n ∷ []) (snapshot_named name (both (is_snapshot_checkpoint name) (is_open (get files name)) counted).0)
+  later names name true before counted was = last_more names name ∙ ap (λ (n : FileName). n ∷ []) (snapshot_named name (and_parts (is_snapshot_checkpoint name) (is_open (get files name)) counted).0)
   later names name false before counted was = ap last_of (append-nil names) ∙ was
 
   pub name_more : (names : List FileName) (i : ℕ) (d : FileName) (is : Bool) (before now : Option ℕ) → i < length names → is ≡ is_counted files (get_or names i d) → last_of (filter (is_counted files) (take i names)) ≡ checkpoint_of before

@@ -1,12 +1,13 @@
 -- Lists in strict order, by their neighbours.
 use Rattle.std.proofs.Common.{◌≡◌, ◌⊎◌, inl, inr, ⊎_elim, ℕ, zero, suc, ◌+◌, ◌-◌, ◌<◌, ◌≤◌, List, [], ◌∷◌, ◌++◌, length, take, get_or, refl, sym, ap, subst, ◌∙◌, arith}
-use Rattle.std.proofs.lemmas.List.{take_more}
+use Rattle.std.proofs.lemmas.List.{take_more, get_or_default}
 use Rattle.m3_model.specs.Ascends.{Ascends}
 use Rattle.m3_model.specs.Contents.{key_of}
 use Rattle.m3_model.specs.Keys.{key_cmp_total}
 use Rattle.m3_model.specs.Members.{IsIn}
 use Rattle.m3_model.specs.declared.point.Point.{Point}
 use Rattle.m3_model.proofs.MemberLemmas.{IsIn-append_cases}
+use Rattle.m3_model.proofs.Lists.{IsIn-get_or}
 use Rattle.snapshot_files.specs.Snaps.{IsBefore}
 
 module _ {X : Type 0} (R : X → X → Type 0) where
@@ -41,26 +42,16 @@ module _ {X : Type 0} (R : X → X → Type 0) where
       (λ (new : (get_or xs (i - 1) d ≡ x) ⊎ ⊥). ⊎_elim (λ (e : get_or xs (i - 1) d ≡ x). subst (λ w. R w (get_or xs i d)) e next) (λ (none : ⊥). absurd none) new)
       (IsIn-append_cases (take (i - 1) xs) (get_or xs (i - 1) d ∷ []) x (subst (λ l. IsIn l x) front m))))
 
-  get_in : (xs : List X) (i : ℕ) (d : X) → i < length xs → IsIn xs (get_or xs i d)
-  get_in [] i d lt = absurd (omega (arith, lt))
-  get_in (x ∷ xs) zero d lt = inl refl
-  get_in (x ∷ xs) (suc i) d lt = inr (get_in xs i d (omega (arith, lt)))
-
   -- of neighbours the first is below the second
   neighbours : (xs : List X) (i : ℕ) (d : X) → Ascends R xs → i + 1 < length xs → R (get_or xs i d) (get_or xs (i + 1) d)
   neighbours [] i d up lt = absurd (omega (arith, lt))
-  neighbours (x ∷ xs) zero d up lt = up.0 (get_or xs 0 d) (get_in xs 0 d (omega (arith, lt)))
+  neighbours (x ∷ xs) zero d up lt = up.0 (get_or xs 0 d) (IsIn-get_or xs 0 d (omega (arith, lt)))
   neighbours (x ∷ xs) (suc i) d up lt = let e : suc (i + 1) ≡ suc i + 1 = omega arith in subst (λ n. R (get_or xs i d) (get_or (x ∷ xs) n d)) e (neighbours xs i d up.1 (omega (arith, lt)))
-
-  same_item : (xs : List X) (i : ℕ) (d e : X) → i < length xs → get_or xs i d ≡ get_or xs i e
-  same_item [] i d e lt = absurd (omega (arith, lt))
-  same_item (x ∷ xs) zero d e lt = refl
-  same_item (x ∷ xs) (suc i) d e lt = same_item xs i d e (omega (arith, lt))
 
   -- the same of two neighbours that were looked at
   module _ (xs : List X) (i : ℕ) (x y : X) (some : 1 ≤ i) (lt : i < length xs) (x_is : x ≡ get_or xs (i - 1) x) (y_is : y ≡ get_or xs i y) where
     y_at : y ≡ get_or xs i x
-    y_at = y_is ∙ same_item xs i y x lt
+    y_at = y_is ∙ get_or_default xs i y x lt
 
     pub next_ascends : ((a b c : X) → R a b → R b c → R a c) → Ascends R (take i xs) → R x y → Ascends R (take (i + 1) xs)
     next_ascends through up below = ascends_more through xs i x lt some up (subst (λ z. R z (get_or xs i x)) x_is (subst (R x) y_at below))

@@ -4,7 +4,7 @@ use Rattle.std.specs.Prelude.{filter, nat_lt, ◌==◌}
 use Rattle.std.specs.Cmp.{nat_cmp_is}
 use Rattle.std.specs.FinMap.{get, keys}
 use Rattle.std.specs.declared.cmp.Ordering.TheVariants.{Less}
-use Rattle.std.proofs.lemmas.Bool.{eqb-true, ltb-true, ltb-false}
+use Rattle.std.proofs.lemmas.Bool.{eqb-true, ltb-true, ltb-false, and_parts}
 use Rattle.std.proofs.Math.Nat.{eq-or-lt_of_le}
 use Rattle.m3_model.specs.Answers.{HasPoint}
 use Rattle.m3_model.specs.Ascends.{Ascends}
@@ -12,6 +12,7 @@ use Rattle.m3_model.specs.Contents.{Contents}
 use Rattle.m3_model.specs.Members.{IsIn}
 use Rattle.m3_model.specs.declared.point.Point.{Point}
 use Rattle.m3_model.proofs.MemberLemmas.{IsIn-append_left, IsIn-append_right, IsIn-append_cases, IsIn-push}
+use Rattle.m3_model.proofs.Lists.{IsIn-filter_passes, filter-IsIn}
 use Rattle.m3_outside.specs.declared.file_name.FileName.{FileName}
 use Rattle.m3_outside.specs.Files.{Files, IsAbsent}
 use Rattle.m3_outside.specs.DiskState.{HaveSameNames}
@@ -28,7 +29,7 @@ use Rattle.shard_files.specs.Keeps.{HoldsKept, Keeps}
 use Rattle.shard_files.specs.Steps.{IsOfSnapshot, Saved, SavedNone, is_snapshot_file, is_older, snapshots_below}
 use Rattle.shard_files.specs.StepLaws.{MayBeSaved, MayBeCut, MayBeCleared}
 use Rattle.shard_files.specs.FileLaws.{SameKinds}
-use Rattle.shard_files.proofs.CountedLemmas.{Before, filter-IsIn, chosen, both, same_names, there_key, counted_asked, counted_open, is_counted, counted_ascend, last_is_last}
+use Rattle.shard_files.proofs.CountedLemmas.{Before, same_names, there_key, counted_asked, counted_open, is_counted, counted_ascend, last_is_last}
 use Rattle.shard_files.proofs.FilesHoldLemmas.{files_hold_one, append_brings}
 use Rattle.shard_files.proofs.NextLemmas.{one_keys}
 use Rattle.shard_files.proofs.PartLemmas.{snapshot_named, volumes_as, newest_as, log_as, one_volumes, one_newest, one_snapshot}
@@ -210,14 +211,14 @@ module _ (number : ℕ) (f x y : Files) (gone left : List FileName) (split : sna
   pub gone_low : (q : FileName) → IsIn gone q → (8 ≤ q.kind) × (q.number < number)
   gone_low q g =
       let listed : IsIn (filter (is_older 9 number) (keys f) ++ filter (is_older 8 number) (keys f)) q = subst (λ l. IsIn l q) (sym split) (IsIn-append_left gone left q g) in
-      ⊎_elim (λ (c : IsIn (filter (is_older 9 number) (keys f)) q). let k = low 9 (chosen (is_older 9 number) (keys f) q c) in let kind = k.0 in (omega (arith, kind), k.1))
-      (λ (b : IsIn (filter (is_older 8 number) (keys f)) q). let k = low 8 (chosen (is_older 8 number) (keys f) q b) in let kind = k.0 in (omega (arith, kind), k.1))
+      ⊎_elim (λ (c : IsIn (filter (is_older 9 number) (keys f)) q). let k = low 9 (IsIn-filter_passes (is_older 9 number) (keys f) q c) in let kind = k.0 in (omega (arith, kind), k.1))
+      (λ (b : IsIn (filter (is_older 8 number) (keys f)) q). let k = low 8 (IsIn-filter_passes (is_older 8 number) (keys f) q b) in let kind = k.0 in (omega (arith, kind), k.1))
       (IsIn-append_cases (filter (is_older 9 number) (keys f)) (filter (is_older 8 number) (keys f)) q listed)
     where
       low : (kind : ℕ) → is_older kind number q ≡ true → (q.kind ≡ kind) × (q.number < number)
       low kind e =
-          let first = both (is_snapshot_file kind q) (nat_lt q.number number) e in
-          let second = both (q.kind == kind) ((q.ns == 0) && (q.block == 0)) first.0 in
+          let first = and_parts (is_snapshot_file kind q) (nat_lt q.number number) e in
+          let second = and_parts (q.kind == kind) ((q.ns == 0) && (q.block == 0)) first.0 in
           (eqb-true q.kind kind second.0, ltb-true q.number number first.1)
 
   pub stays : (q : FileName) → (IsIn gone q → ⊥) → get y q ≡ get x q

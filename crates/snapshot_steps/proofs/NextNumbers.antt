@@ -4,6 +4,8 @@ use Rattle.std.specs.Prelude.{filter, ◌==◌}
 use Rattle.std.specs.FinMap.{get, keys}
 use Rattle.std.proofs.lemmas.Bool.{eqb-true}
 use Rattle.m3_model.specs.Members.{IsIn}
+use Rattle.m3_model.proofs.Lists.{IsIn-filter, IsIn-filter_passes, filter-IsIn}
+use Rattle.m3_model.proofs.Ascending.{Ascends-filter}
 use Rattle.m3_outside.specs.declared.file_name.FileName.{FileName}
 use Rattle.m3_outside.specs.DiskState.{DiskState, Becomes}
 use Rattle.m3_outside.specs.Files.{Files, files_with_zeros}
@@ -13,7 +15,7 @@ use Rattle.commit_log.specs.LogEnd.{BeganOrNot}
 use Rattle.commit_log.specs.Segment.{segment}
 use Rattle.shard_files.specs.Steps.{is_snapshot_file, next_snapshot}
 use Rattle.shard_files.specs.FileLaws.{SameKinds}
-use Rattle.shard_files.proofs.CountedLemmas.{Before, IsIn-filter, chosen, filter-IsIn, filter_ascends, keys_ascend, key_there, there_key, same_names}
+use Rattle.shard_files.proofs.CountedLemmas.{Before, keys_ascend, key_there, there_key, same_names}
 
 first_true : (a b : Bool) → (a && b) ≡ true → a ≡ true
 first_true true b e = refl
@@ -24,13 +26,13 @@ module _ (kind : ℕ) (low : 8 ≤ kind) (high : kind ≤ 9) where
   moved : (a b : Files) → SameKinds 8 9 a b → (q : FileName) → IsIn (filter (is_snapshot_file kind) (keys a)) q → IsIn (filter (is_snapshot_file kind) (keys b)) q
   moved a b alike q mem =
       let there = key_there a q (IsIn-filter (is_snapshot_file kind) (keys a) q mem) in
-      let asked = chosen (is_snapshot_file kind) (keys a) q mem in
+      let asked = IsIn-filter_passes (is_snapshot_file kind) (keys a) q mem in
       let is = eqb-true q.kind kind (first_true (q.kind == kind) ((q.ns == 0) && (q.block == 0)) asked) in
       filter-IsIn (is_snapshot_file kind) (keys b) q (there_key b q there.file (alike q (omega (arith, is, low)) (omega (arith, is, high)) ∙ there.there)) asked
 
   same_files : (x y : Files) → SameKinds 8 9 x y → filter (is_snapshot_file kind) (keys y) ≡ filter (is_snapshot_file kind) (keys x)
   same_files x y same =
-      same_names (filter (is_snapshot_file kind) (keys y)) (filter (is_snapshot_file kind) (keys x)) (filter_ascends Before (is_snapshot_file kind) (keys y) (keys_ascend y)) (filter_ascends Before (is_snapshot_file kind) (keys x) (keys_ascend x))
+      same_names (filter (is_snapshot_file kind) (keys y)) (filter (is_snapshot_file kind) (keys x)) (Ascends-filter Before (is_snapshot_file kind) (keys y) (keys_ascend y)) (Ascends-filter Before (is_snapshot_file kind) (keys x) (keys_ascend x))
       (λ q mem. moved y x (λ r l h. sym (same r l h)) q mem) (λ q mem. moved x y same q mem)
 
 same_next : (x y : Files) → SameKinds 8 9 x y → next_snapshot y ≡ next_snapshot x

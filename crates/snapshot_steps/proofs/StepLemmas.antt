@@ -7,6 +7,8 @@ use Rattle.std.proofs.Math.Nat.{eq-or-lt_of_le}
 use Rattle.m3_model.specs.Contents.{Contents}
 use Rattle.m3_model.specs.Members.{IsIn}
 use Rattle.m3_model.proofs.MemberLemmas.{map-IsIn, IsIn-map}
+use Rattle.m3_model.proofs.Lists.{IsIn-filter, IsIn-filter_passes, filter-IsIn}
+use Rattle.m3_model.proofs.Ascending.{Ascends-filter}
 use Rattle.m3_outside.specs.declared.disk_err.DiskErr.{DiskErr}
 use Rattle.m3_outside.specs.declared.disk_err.DiskErr.TheVariants.{Memory, Failed as DiskFailed}
 use Rattle.m3_outside.specs.declared.file_name.FileName.{FileName}
@@ -26,7 +28,6 @@ use Rattle.shard_files.specs.Parts.{KnownVolume, counted_snapshots, snapshot_che
 use Rattle.shard_files.specs.Keeps.{Keeps}
 use Rattle.shard_files.specs.Steps.{OthersStay, IsOfSnapshot, next_snapshot, MaySave, Saved, SavedNone, is_snapshot_file, snapshots_below}
 use Rattle.shard_files.specs.FileLaws.{SameKinds}
-use Rattle.shard_files.proofs.CountedLemmas.{IsIn-filter, filter-IsIn, chosen, filter_ascends}
 use Rattle.shard_files.proofs.CutSteps.{cut_keeps}
 use Rattle.shard_files.proofs.KeepLemmas.{keeps_then}
 use Rattle.shard_files.proofs.NextLemmas.{next_snapshot_is_new, one_keys, taken_by_names}
@@ -115,7 +116,7 @@ module _ (number : ℕ) (old new : DiskState) (lawful : IsLawfulDisk old) where
 
 -- the segments that are left
 cut_numbers : (number : ℕ) (x y : Files) → y ≡ without_files (segments_below number x) x → numbers y ≡ numbers_from number x
-cut_numbers number x y is = same_members (numbers y) (numbers_from number x) (ascend y) (filter_ascends (λ (a b : ℕ). a < b) (λ n. not (nat_lt n number)) (numbers x) (ascend x)) to back
+cut_numbers number x y is = same_members (numbers y) (numbers_from number x) (ascend y) (Ascends-filter (λ (a b : ℕ). a < b) (λ n. not (nat_lt n number)) (numbers x) (ascend x)) to back
   where
     named : (m n : ℕ) → segment m ≡ segment n → m ≡ n
     named m n e = ap (λ (q : FileName). q.number) e
@@ -130,7 +131,7 @@ cut_numbers number x y is = same_members (numbers y) (numbers_from number x) (as
     same : (n : ℕ) → not (nat_lt n number) ≡ true → get y (segment n) ≡ get x (segment n)
     same n test = ap (λ (z : Files). get z (segment n)) is ∙ left_same (segments_below number x) x (segment n) (λ g.
         let k = IsIn-map segment (numbers_below number x) (segment n) g in
-        let low : nat_lt n number ≡ true = ap (λ j. nat_lt j number) (sym (named k.0 n k.2)) ∙ chosen (λ j. nat_lt j number) (numbers x) k.0 k.1 in
+        let low : nat_lt n number ≡ true = ap (λ j. nat_lt j number) (sym (named k.0 n k.2)) ∙ IsIn-filter_passes (λ j. nat_lt j number) (numbers x) k.0 k.1 in
         let never : not true ≡ true = ap not (sym low) ∙ test in
         cc)
 
@@ -147,7 +148,7 @@ cut_numbers number x y is = same_members (numbers y) (numbers_from number x) (as
     back : (n : ℕ) → IsIn (numbers_from number x) n → IsIn (numbers y) n
     back n m =
         let f = in_there x n (IsIn-filter (λ k. not (nat_lt k number)) (numbers x) n m) in
-        there_in y n f.0 (same n (chosen (λ k. not (nat_lt k number)) (numbers x) n m) ∙ f.1)
+        there_in y n f.0 (same n (IsIn-filter_passes (λ k. not (nat_lt k number)) (numbers x) n m) ∙ f.1)
 
 pub cut_segments : {E : Type 0} (number : ℕ) (old new : DiskState) (r : Result E DiskErr) → OnOk r (Becomes (without_files (segments_below number old.files)) old new) → OnOk r (numbers new.files ≡ numbers_from number old.files)
 cut_segments number old new (Ok u) done = cut_numbers number old.files new.files done.files
@@ -155,8 +156,8 @@ cut_segments number old new (Err e) done = tt
 
 -- of segments from the last on there is one
 pub only_last : (number : ℕ) (x : Files) → IsPresent (segment number) x → NoneAbove number x → numbers_from number x ≡ number ∷ []
-only_last number x there none = same_members (numbers_from number x) (number ∷ []) (filter_ascends (λ (a b : ℕ). a < b) (λ n. not (nat_lt n number)) (numbers x) (ascend x)) ((λ n m. absurd m), tt)
-    (λ n m. inl (by n (IsIn-filter (λ k. not (nat_lt k number)) (numbers x) n m) (chosen (λ k. not (nat_lt k number)) (numbers x) n m) (nat_lt n number) refl))
+only_last number x there none = same_members (numbers_from number x) (number ∷ []) (Ascends-filter (λ (a b : ℕ). a < b) (λ n. not (nat_lt n number)) (numbers x) (ascend x)) ((λ n m. absurd m), tt)
+    (λ n m. inl (by n (IsIn-filter (λ k. not (nat_lt k number)) (numbers x) n m) (IsIn-filter_passes (λ k. not (nat_lt k number)) (numbers x) n m) (nat_lt n number) refl))
     (λ n m. ⊎_elim (λ (e : number ≡ n). subst (IsIn (numbers_from number x)) e (filter-IsIn (λ k. not (nat_lt k number)) (numbers x) number (there_in x number there.file there.there) (not_low number))) (λ (no : ⊥). absurd no) m)
   where
     not_low : (n : ℕ) → not (nat_lt n n) ≡ true

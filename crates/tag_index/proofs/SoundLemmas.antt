@@ -4,10 +4,11 @@ use Rattle.std.specs.Prelude.{Option, Some, None, option_map, nat_eq}
 use Rattle.std.specs.Str.{bytes_eq}
 use Rattle.std.proofs.lemmas.Slice.Eq.{bytes_eq-Decides}
 use Rattle.std.proofs.lemmas.Bool.{eqb-true, eq-eqb}
+use Rattle.std.proofs.Math.Bool.{and-true, or-false}
 use Rattle.tag_index.specs.declared.entry.Entry.{Entry}
 use Rattle.tag_index.specs.Links.{Link, is_link_of, is_linked}
 use Rattle.tag_index.specs.Sound.{IsSound}
-use Rattle.tag_links.proofs.LinkLemmas.{other_ordinal, or_false, and_true}
+use Rattle.tag_links.proofs.LinkLemmas.{other_ordinal}
 
 abbrev pub Numbers : Type 0
 Numbers = List ℕ → Option ℕ
@@ -87,7 +88,7 @@ sound_added n n' s s' l l' e o sound absent free small numbers slots links = rec
         ap (λ c. c || is_link_of e.tags o q) (free_unlinked n s l o sound free q at) ∙ ap (λ k. is_link_of e.tags k q) (sym at)
     linked q false t =
         let apart : is_link_of e.tags o q ≡ false = other_ordinal e.tags o q (λ at. true≢false (sym (eq-eqb q.ordinal o (sym at)) ∙ t)) in
-        ap (λ c. l q || c) apart ∙ or_false (l q) ∙ sound.links q
+        ap (λ c. l q || c) apart ∙ or-false (l q) ∙ sound.links q
 
 -- a series was removed
 pub sound_removed : (n n' : Numbers) (s s' : Slots) (l l' : Linked) (e : Entry) (o : ℕ) → IsSound n s l → s o ≡ Some e
@@ -140,7 +141,7 @@ sound_removed n n' s s' l l' e o sound at numbers slots links = record {
         gone (l q) (is_link_of e.tags o q) (sound.links q ∙ ap (λ f. is_linked f q) (ap s position ∙ at) ∙ ap (λ k. is_link_of e.tags k q) position)
     linked q false t =
         let apart : is_link_of e.tags o q ≡ false = other_ordinal e.tags o q (λ position. true≢false (sym (eq-eqb q.ordinal o (sym position)) ∙ t)) in
-        ap (λ c. l q && not c) apart ∙ and_true (l q) ∙ sound.links q
+        ap (λ c. l q && not c) apart ∙ and-true (l q) ∙ sound.links q
 
 pub turned : (a b : List ℕ) → bytes_eq a b ≡ bytes_eq b a
 turned a b = by_tests (bytes_eq a b) (bytes_eq b a) refl refl

@@ -10,14 +10,7 @@ use Rattle.std.specs.Ordering.{nat_cmp}
 use Rattle.std.specs.Str.{bytes_eq}
 use Rattle.std.proofs.lemmas.Bool.Decides.{nat_tests}
 use Rattle.std.proofs.lemmas.Slice.Eq.{bytes_eq-Decides}
-
-or_false : (b : Bool) → (b || false) ≡ b
-or_false true = refl
-or_false false = refl
-
-and_true : (b : Bool) → (b && true) ≡ b
-and_true true = refl
-and_true false = refl
+use Rattle.std.proofs.Math.Bool.{and-true, or-false}
 
 module _ {X : Type 0} (key : List ℕ) where
   -- the key has a new content, and each other key its own
@@ -31,7 +24,7 @@ module _ {X : Type 0} (key : List ℕ) where
     where
       by_test : (b : Bool) → bytes_eq key t ≡ b → test (cond b x (old t)) ≡ (test (old t) || (b && more))
       by_test true e = holds ∙ ap (λ k. test (old k) || more) ((bytes_eq-Decides key t).0 e)
-      by_test false e = sym (or_false (test (old t)))
+      by_test false e = sym (or-false (test (old t)))
 
   -- and the same for less
   pub less_there : (test : Option X → Bool) (old new : List ℕ → Option X) (x : Option X) (less : Bool) → IsPut old new x → test x ≡ (test (old key) && not less) → (t : List ℕ)
@@ -40,7 +33,7 @@ module _ {X : Type 0} (key : List ℕ) where
     where
       by_test : (b : Bool) → bytes_eq key t ≡ b → test (cond b x (old t)) ≡ (test (old t) && not (b && less))
       by_test true e = holds ∙ ap (λ k. test (old k) && not less) ((bytes_eq-Decides key t).0 e)
-      by_test false e = sym (and_true (test (old t)))
+      by_test false e = sym (and-true (test (old t)))
 
   -- a content that tests alike leaves each key as it was
   pub same_there : (test : Option X → Bool) (old new : List ℕ → Option X) (x : Option X) → IsPut old new x → test x ≡ test (old key) → (t : List ℕ) → test (new t) ≡ test (old t)

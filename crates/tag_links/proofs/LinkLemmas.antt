@@ -3,9 +3,9 @@ use Rattle.std.proofs.Common.{◌≡◌, ℕ, ◌<◌, List, [], ◌∷◌, ◌+
 use Rattle.std.specs.Prelude.{◌⊎◌, nat_eq}
 use Rattle.std.specs.Str.{bytes_eq}
 use Rattle.std.proofs.lemmas.Slice.Eq.{bytes_eq-Decides}
-use Rattle.std.proofs.lemmas.Bool.{eqb-true, eq-eqb}
+use Rattle.std.proofs.lemmas.Bool.{eqb-true, eq-eqb, and_parts, or_parts}
+use Rattle.std.proofs.Math.Bool.{and-false, and-true, or-true}
 use Rattle.m3_model.specs.Members.{IsIn}
-use Rattle.m3_model.proofs.RangeLemmas.{both_true}
 use Rattle.tag_links.specs.Links.{Link, link_of, is_same, is_link_of}
 
 abbrev pub Pair : Type 0
@@ -13,8 +13,8 @@ Pair = List ℕ × List ℕ
 
 pub same_link : (x y : Link) → is_same x y ≡ true → x ≡ y
 same_link x y e =
-    let first = both_true (bytes_eq x.name y.name) _ e in
-    let second = both_true (bytes_eq x.value y.value) _ first.1 in
+    let first = and_parts (bytes_eq x.name y.name) _ e in
+    let second = and_parts (bytes_eq x.value y.value) _ first.1 in
     let names = (bytes_eq-Decides x.name y.name).0 first.0 in
     let values = (bytes_eq-Decides x.value y.value).0 second.0 in
     let ordinals = eqb-true x.ordinal y.ordinal second.1 in
@@ -25,18 +25,6 @@ link_itself x =
     ap (λ b. b && (bytes_eq x.value x.value && nat_eq x.ordinal x.ordinal)) ((bytes_eq-Decides x.name x.name).1 refl)
     ∙ ap (λ b. b && nat_eq x.ordinal x.ordinal) ((bytes_eq-Decides x.value x.value).1 refl)
     ∙ eq-eqb x.ordinal x.ordinal refl
-
-or_true : (b : Bool) → (b || true) ≡ true
-or_true true = refl
-or_true false = refl
-
-pub or_false : (b : Bool) → (b || false) ≡ b
-or_false true = refl
-or_false false = refl
-
-both_false : (a b : Bool) → (a || b) ≡ false → (a ≡ false) × (b ≡ false)
-both_false true b e = cc
-both_false false b e = (refl, e)
 
 -- a link of the tags to the ordinal names one of them and the ordinal
 pub link_names : (tags : List Pair) (o : ℕ) (q : Link) → is_link_of tags o q ≡ true → IsIn tags (q.name, q.value) × (o ≡ q.ordinal)
@@ -56,7 +44,7 @@ names_link [] o tag h = absurd h
 names_link (x ∷ tags) o tag h =
     elim h as (λ _. (is_same (link_of o x) (link_of o tag) || is_link_of tags o (link_of o tag)) ≡ true) [
       | inl same ↦ ap (λ (t : Pair). is_same (link_of o t) (link_of o tag) || is_link_of tags o (link_of o tag)) same ∙ ap (λ b. b || is_link_of tags o (link_of o tag)) (link_itself (link_of o tag))
-      | inr later ↦ ap (λ b. is_same (link_of o x) (link_of o tag) || b) (names_link tags o tag later) ∙ or_true _
+      | inr later ↦ ap (λ b. is_same (link_of o x) (link_of o tag) || b) (names_link tags o tag later) ∙ or-true _
     ]
 
 -- a link to another ordinal is none of them
@@ -81,13 +69,13 @@ none_taken [] zero o q e = refl
 none_taken [] (suc i) o q e = refl
 none_taken (x ∷ tags) zero o q e = refl
 none_taken (x ∷ tags) (suc i) o q e =
-    let parts = both_false (is_same (link_of o x) q) (is_link_of tags o q) e in
+    let parts = or_parts (is_same (link_of o x) q) (is_link_of tags o q) e in
     ap (λ b. b || is_link_of (take i tags) o q) parts.0 ∙ none_taken tags i o q parts.1
 
 pub none_at : (tags : List Pair) (i o : ℕ) (d : Pair) (q : Link) → i < length tags → is_link_of tags o q ≡ false → is_link_of (get_or tags i d ∷ []) o q ≡ false
 none_at [] i o d q h e = absurd (omega arith)
-none_at (x ∷ tags) zero o d q h e = ap (λ b. b || false) (both_false (is_same (link_of o x) q) (is_link_of tags o q) e).0
-none_at (x ∷ tags) (suc i) o d q h e = none_at tags i o d q (omega arith) (both_false (is_same (link_of o x) q) (is_link_of tags o q) e).1
+none_at (x ∷ tags) zero o d q h e = ap (λ b. b || false) (or_parts (is_same (link_of o x) q) (is_link_of tags o q) e).0
+none_at (x ∷ tags) (suc i) o d q h e = none_at tags i o d q (omega arith) (or_parts (is_same (link_of o x) q) (is_link_of tags o q) e).1
 
 -- one more tag is linked
 pub linked_more : (was b now more : Bool) → now ≡ (b || more) → (old : Bool) → b ≡ (old || was) → now ≡ (old || (was || more))
@@ -106,19 +94,11 @@ unlinked_more was b now more e old h = e ∙ ap (λ c. c && not more) h ∙ asso
     assoc true false c = refl
     assoc false b c = refl
 
-pub and_true : (b : Bool) → (b && true) ≡ b
-and_true true = refl
-and_true false = refl
-
 -- what was linked in part is unlinked again
 pub rolled_back : (tags : List Pair) (o : ℕ) (q : Link) (old now after : Bool) → (q.ordinal ≡ o → old ≡ false) → (is_link_of tags o q ≡ false → now ≡ old)
     → after ≡ (now && not (is_link_of tags o q)) → after ≡ old
 rolled_back tags o q old now after fresh kept e = by_test (is_link_of tags o q) refl e
   where
-    none : (b : Bool) → (b && false) ≡ false
-    none true = refl
-    none false = refl
-
     by_test : (b : Bool) → is_link_of tags o q ≡ b → after ≡ (now && not b) → after ≡ old
-    by_test true t f = f ∙ none now ∙ sym (fresh (sym (link_names tags o q t).1))
-    by_test false t f = f ∙ and_true now ∙ kept t
+    by_test true t f = f ∙ and-false now ∙ sym (fresh (sym (link_names tags o q t).1))
+    by_test false t f = f ∙ and-true now ∙ kept t

@@ -7,6 +7,7 @@ use Rattle.std.specs.Ordering.{nat_cmp}
 use Rattle.std.specs.BTreeMap.{is_at}
 use Rattle.std.specs.declared.cmp.Ordering.TheVariants.{Less}
 use Rattle.std.proofs.lemmas.Bool.Decides.{nat_tests}
+use Rattle.std.proofs.Math.Bool.{or-true}
 use Rattle.m3_model.specs.Ascends.{Ascends}
 use Rattle.m3_model.specs.Members.{IsIn}
 
@@ -37,9 +38,5 @@ ordinal_found [] o h = absurd h
 ordinal_found (k ∷ ks) o h =
     elim h as (λ _. (is_at (nat_cmp o) k || list_any (is_at (nat_cmp o)) ks) ≡ true) [
       | inl same ↦ let at : is_at (nat_cmp o) k ≡ true = grind (arith, nat_tests) in ap (λ b. b || list_any (is_at (nat_cmp o)) ks) at
-      | inr later ↦ ap (λ b. is_at (nat_cmp o) k || b) (ordinal_found ks o later) ∙ or_true _
+      | inr later ↦ ap (λ b. is_at (nat_cmp o) k || b) (ordinal_found ks o later) ∙ or-true _
     ]
-  where
-    or_true : (b : Bool) → (b || true) ≡ true
-    or_true true = refl
-    or_true false = refl

@@ -2,12 +2,13 @@
 use Rattle.std.proofs.Common.{◌≡◌, ℕ, ◌<◌, ◌≤◌, ◌++◌, append_assoc, List, [], ◌∷◌, refl, sym, ap, ◌∙◌, inl, inr, Bool, true, false, cond, not, ◌||◌, arith, ◌↔◌}
 use Rattle.std.specs.Prelude.{◌⊎◌, nat_eq, nat_lt}
 use mathlib.Core.Bool.{beq}
-use Rattle.std.specs.List.{filter}
 use Rattle.std.proofs.lemmas.Bool.{eqb-true}
 use Rattle.std.proofs.lemmas.List.{append-nil}
 use Rattle.std.proofs.lemmas.Bool.Decides.{nat_tests}
+use Rattle.std.proofs.Math.Bool.{or-true}
 use Rattle.m3_model.specs.Ascends.{Ascends}
 use Rattle.m3_model.specs.Members.{IsIn}
+use Rattle.m3_model.proofs.Lists.{filter-IsIn, IsIn-filter, IsIn-filter_passes}
 use Rattle.tag_query.specs.Lists.{is_in, is_first, is_wanted, not_below, sifted}
 
 same_as : (x : ℕ) → nat_eq x x ≡ true
@@ -19,12 +20,8 @@ IsIn-is_in [] x h = absurd h
 IsIn-is_in (y ∷ ys) x h =
     elim h as (λ _. (nat_eq y x || is_in ys x) ≡ true) [
       | inl e ↦ ap (λ z. nat_eq z x || is_in ys x) e ∙ ap (λ b. b || is_in ys x) (same_as x)
-      | inr r ↦ ap (λ b. nat_eq y x || b) (IsIn-is_in ys x r) ∙ or_true (nat_eq y x)
+      | inr r ↦ ap (λ b. nat_eq y x || b) (IsIn-is_in ys x r) ∙ or-true (nat_eq y x)
     ]
-  where
-    or_true : (b : Bool) → (b || true) ≡ true
-    or_true true = refl
-    or_true false = refl
 
 -- what is found is an element
 pub is_in-IsIn : (ys : List ℕ) (x : ℕ) → is_in ys x ≡ true → IsIn ys x
@@ -90,43 +87,10 @@ sifted_above wanted x (z ∷ later) ys h =
     ap (λ b. cond (is_wanted wanted b) (z ∷ sifted wanted later (not_below x ys)) (sifted wanted later (not_below x ys))) here
     ∙ ap (λ zs. cond (is_wanted wanted (is_in ys z)) (z ∷ zs) zs) rest
 
--- an element passes a filter exactly where it passes the test
-pub IsIn-filter : (p : ℕ → Bool) (xs : List ℕ) (x : ℕ) → IsIn (filter p xs) x → IsIn xs x × (p x ≡ true)
-IsIn-filter p [] x h = absurd h
-IsIn-filter p (y ∷ xs) x h = by_test (p y) refl (IsIn-filter p xs x) h
-  where
-    by_test : (b : Bool) → p y ≡ b → (IsIn (filter p xs) x → IsIn xs x × (p x ≡ true)) → IsIn (cond b (y ∷ filter p xs) (filter p xs)) x → ((y ≡ x) ⊎ IsIn xs x) × (p x ≡ true)
-    by_test true e later m =
-        elim m as (λ _. ((y ≡ x) ⊎ IsIn xs x) × (p x ≡ true)) [
-          | inl same ↦ (inl same, ap p (sym same) ∙ e)
-          | inr r ↦ let found = later r in (inr found.0, found.1)
-        ]
-    by_test false e later m = let found = later m in (inr found.0, found.1)
-
-pub filter-IsIn : (p : ℕ → Bool) (xs : List ℕ) (x : ℕ) → IsIn xs x → p x ≡ true → IsIn (filter p xs) x
-filter-IsIn p [] x h e = absurd h
-filter-IsIn p (y ∷ xs) x h e = by_test (p y) refl (λ m. filter-IsIn p xs x m e) h
-  where
-    by_test : (b : Bool) → p y ≡ b → (IsIn xs x → IsIn (filter p xs) x) → (y ≡ x) ⊎ IsIn xs x → IsIn (cond b (y ∷ filter p xs) (filter p xs)) x
-    by_test true t later m = elim m as (λ _. (y ≡ x) ⊎ IsIn (filter p xs) x) [ inl same ↦ inl same | inr r ↦ inr (later r) ]
-    by_test false t later m =
-        elim m as (λ _. IsIn (filter p xs) x) [
-          | inl same ↦ let wrong : false ≡ true = sym t ∙ ap p same ∙ e in cc
-          | inr r ↦ later r
-        ]
-
-pub Ascends-filter : (p : ℕ → Bool) (xs : List ℕ) → Ascends ◌<◌ xs → Ascends ◌<◌ (filter p xs)
-Ascends-filter p [] h = h
-Ascends-filter p (x ∷ xs) h = by_test (p x) (Ascends-filter p xs h.1)
-  where
-    by_test : (b : Bool) → Ascends ◌<◌ (filter p xs) → Ascends ◌<◌ (cond b (x ∷ filter p xs) (filter p xs))
-    by_test true later = ((λ y m. h.0 y (IsIn-filter p xs y m).0), later)
-    by_test false later = later
-
 -- the elements that both lists have
 pub in_both : (xs ys : List ℕ) (x : ℕ) → IsIn (sifted true xs ys) x ↔ (IsIn xs x × IsIn ys x)
 in_both xs ys x = (
-  (λ m. let found = IsIn-filter (λ x. is_in ys x) xs x m in (found.0, is_in-IsIn ys x found.1)),
+  (λ m. (IsIn-filter (λ x. is_in ys x) xs x m, is_in-IsIn ys x (IsIn-filter_passes (λ x. is_in ys x) xs x m))),
   (λ m. filter-IsIn (λ x. is_in ys x) xs x m.0 (IsIn-is_in ys x m.1)),
 )
 
@@ -140,7 +104,7 @@ missing ys x e m = let wrong : not true ≡ true = ap not (sym (IsIn-is_in ys x 
 -- the elements that the first list has alone
 pub in_first : (xs ys : List ℕ) (x : ℕ) → IsIn (sifted false xs ys) x ↔ (IsIn xs x × ¬ IsIn ys x)
 in_first xs ys x = (
-  (λ m. let found = IsIn-filter (λ x. not (is_in ys x)) xs x m in (found.0, missing ys x found.1)),
+  (λ m. (IsIn-filter (λ x. not (is_in ys x)) xs x m, missing ys x (IsIn-filter_passes (λ x. not (is_in ys x)) xs x m))),
   (λ m. filter-IsIn (λ x. not (is_in ys x)) xs x m.0 (absent ys x (is_in ys x) refl m.1)),
 )
 

@@ -12,6 +12,7 @@ use Rattle.transcripts.specs.Calls.{call_of}
 use Rattle.transcripts.specs.Fates.{call_number}
 use Rattle.transcripts.specs.Rules.{rules_at}
 use Rattle.m3_model.specs.declared.rules.Rules.{Rules}
+use Rattle.m3_model.proofs.Lists.{flat_map-IsIn}
 use Rattle.transcripts.specs.Record.{joined, lists_of, InnerTurn, TurnPosition, IsTurnPosition, inner_turns}
 use Rattle.cluster_core.specs.Lists.{At}
 use Rattle.cluster_core.specs.declared.event.Asked.TheVariants as asked
@@ -25,7 +26,7 @@ use Rattle.told_by.specs.Makes.{MayAsk}
 use Rattle.told_by.specs.Sample.{begun, of_init, of_space, place, point, rules, spaced, written}
 use Rattle.told_by.proofs.LineLemmas.{position_last}
 use Rattle.told_by.proofs.OneLemmas.{is_last}
-use Rattle.told_by.proofs.TurnLemmas.{flat_map-IsIn, in_cut, in_its_line}
+use Rattle.told_by.proofs.TurnLemmas.{in_cut, in_its_line}
 
 -- a turn at a position of the run is one of the run's
 pub turn_among : (turns : List Turn) (q : TurnPosition) → IsTurnPosition turns q → IsIn (inner_turns turns) q.turn

@@ -3,6 +3,7 @@
 use Rattle.std.proofs.Common.{◌≡◌, ℕ, ◌+◌, ◌≤◌, ◌<◌, List, [], ◌∷◌, ◌++◌, take, length, refl, sym, ap, ◌∙◌, subst, inl, inr, arith, false, true}
 use Rattle.std.specs.Prelude.{Some, None}
 use Rattle.std.proofs.lemmas.Bool.{cases_lt}
+use Rattle.std.proofs.lemmas.Option.{same_Some}
 use Rattle.m3_model.specs.Hash.{shard_of}
 use Rattle.m3_model.specs.Levels.{needed_read}
 use Rattle.m3_model.specs.Members.{IsIn}
@@ -23,7 +24,6 @@ use Rattle.cluster_core.specs.Lists.{At}
 use Rattle.cluster_core.specs.declared.event.Asked.TheVariants as asked
 use Rattle.cluster_core.specs.declared.event.Event.{Event}
 use Rattle.cluster_core.specs.declared.event.Event.TheVariants as event
-use Rattle.cluster_core.proofs.ListLemmas.{some_same}
 use Rattle.told_by.specs.Broken.{MomentWithinRead, MovePrintedTwice, PlacedUnprinted, UnstreamedPeer, both_join, clocked, five, joined, joining, later_place, later_rules, moved, other_name, unprinted, unstreamed}
 use Rattle.told_by.specs.Clocks.{IsClockOf, sets_rules}
 use Rattle.told_by.specs.Reads.{IsAskedBy}
@@ -66,7 +66,7 @@ module _ (told : ToldBy None five clocked) where
           | inr le ↦
               let same : length q.lines ≡ 3 = omega arith in
               let line = (clock.alone).0 in
-              let is : line_of fetched found ≡ line = some_same (line_of fetched found) line (subst (λ n. At five n line) same (clock.alone).1) in
+              let is : line_of fetched found ≡ line = same_Some (line_of fetched found) line (subst (λ n. At five n line) same (clock.alone).1) in
               let bad : false ≡ true = sym (sets_nothing q.turn (ap lists_of is ∙ (clock.alone).2)) ∙ clock.sets in
               cc
         ]
@@ -87,7 +87,7 @@ moment_within told =
     let call : Call = record { id = Some name; version = None; needed = needed_read level.Majority } in
     let shards = length ((t.asking).place).shards in
     let s = shard_of name (seed_at None reading) shards in
-    let asked : IsAskedBy None reading t.asking s = subst (λ (c : Call). IsAskedOf c.id (seed_at None reading) shards s) (some_same call (t.asking).call (t.of_turn).of_call) refl in
+    let asked : IsAskedBy None reading t.asking s = subst (λ (c : Call). IsAskedOf c.id (seed_at None reading) shards s) (same_Some call (t.asking).call (t.of_turn).of_call) refl in
     let f = t.fetches s in
     let each = t.each s asked in
     let last : 0 + f.ended ≡ 15 = each_at (λ i e. IsEnd e → i ≡ 15) 0 clocked one_end f.ended (event.FetchDone f.began f.nodes f.series) each.done_there tt in
@@ -155,7 +155,7 @@ place_unprinted told =
   where
     by_turn : (t : InnerTurn) (stood : Placement) → IsIn (inner_turns unprinted) t → printed t.answer ≡ Some stood → 2 ≤ stood.version → ⊥
     by_turn t stood (inl e) prints late =
-        let same : place ≡ stood = some_same place stood (ap (λ (u : InnerTurn). printed u.answer) e ∙ prints) in
+        let same : place ≡ stood = same_Some place stood (ap (λ (u : InnerTurn). printed u.answer) e ∙ prints) in
         omega (arith, late, ap (λ (p : Placement). p.version) same)
     by_turn t stood (inr (inl e)) prints late = let bad : None ≡ Some stood = ap (λ (u : InnerTurn). printed u.answer) e ∙ prints in cc
     by_turn t stood (inr (inr nothing)) prints late = nothing

@@ -2,6 +2,7 @@
 use Rattle.std.proofs.Common.{◌≡◌, ℕ, zero, suc, ◌<◌, ◌≤◌, List, [], ◌∷◌, ◌++◌, take, length, refl, sym, ap, ◌∙◌, subst, inl, inr, arith, append_assoc, append-nil, length-append, Bool, true, false}
 use Rattle.std.specs.Prelude.{◌⊎◌, Option, Some, None, slice_get}
 use Rattle.std.proofs.lemmas.Bool.{cases_lt, cases_eq}
+use Rattle.std.proofs.lemmas.Option.{same_Some}
 use Rattle.m3_model.specs.Members.{IsIn}
 use Rattle.m3_model.specs.Rules.{HasExpired}
 use Rattle.transcripts.specs.Record.{InnerTurn, TurnPosition, IsTurnPosition, lists_of, joined, inner_turns}
@@ -16,7 +17,7 @@ use Rattle.cluster_core.specs.Legal.{Legal, IsNextClock}
 use Rattle.cluster_core.specs.Lists.{At}
 use Rattle.cluster_core.specs.declared.event.Event.{Event}
 use Rattle.cluster_core.specs.declared.event.Event.TheVariants as event
-use Rattle.cluster_core.proofs.ListLemmas.{some_same, at_within, at_same, at_take, fold_suc, along}
+use Rattle.cluster_core.proofs.ListLemmas.{at_within, at_same, at_take, fold_suc, along}
 use Rattle.told_by.specs.Clocks.{sets_rules, rules_left}
 use Rattle.told_by.specs.Openings.{opening_length}
 use Rattle.told_by.specs.Spans.{IsAlone, IsWithin}
@@ -43,7 +44,7 @@ expired_later r s p a h = record { space = h.space; stands = a.there p.ns h.spac
 
 next_not_above : (past : List Event) (r s : Rules) → last_clock past ≡ Some r → IsNextClock past s → NotAbove r s
 next_not_above past r s last next =
-    let same : next.last ≡ r = some_same next.last r (sym next.last_is ∙ last) in
+    let same : next.last ≡ r = same_Some next.last r (sym next.last_is ∙ last) in
     record {
       moment = omega (arith, next.not_lower, ap (λ (x : Rules). x.now) same);
       there = λ k space h.

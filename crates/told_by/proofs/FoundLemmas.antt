@@ -17,6 +17,7 @@ use Rattle.m3_model.specs.declared.point.Point.{Point}
 use Rattle.m3_model.specs.declared.point.Series.{Series}
 use Rattle.m3_model.specs.declared.rules.Rules.{Rules}
 use Rattle.m3_model.proofs.MemberLemmas.{IsIn-append_cases, IsIn-append_left, IsIn-append_right, IsIn-map}
+use Rattle.m3_model.proofs.Lists.{IsIn-flat_map}
 use Rattle.placement_core.proofs.ListLemmas.{each-from_All}
 use Rattle.cluster_core.specs.Answers.{IsFoundBy, IsWantedUnexpired}
 use Rattle.cluster_core.specs.Replicas.{IsGone, Shows}
@@ -25,7 +26,6 @@ use Rattle.cluster_core.specs.declared.replica_state.ReplicaState.{ReplicaState}
 use Rattle.cluster_core.proofs.HeldLemmas.{wanted_value}
 use Rattle.told_by.specs.Shown.{FoundIsShown}
 use Rattle.told_by.proofs.ContentLemmas.{Goes, Parted, Stays, by_key, content_by, exact_by, holds_by, left, source_by}
-use Rattle.told_by.proofs.TurnLemmas.{IsIn-flat_map}
 
 -- ---- one value a key
 

@@ -3,7 +3,9 @@ use Rattle.std.proofs.Common.{◌≡◌, ℕ, zero, suc, ◌<◌, ◌≤◌, Lis
 use Rattle.std.specs.Prelude.{◌⊎◌, Option, Some, None}
 use Rattle.std.proofs.lemmas.Bool.{cases_lt, eqb-true}
 use Rattle.std.specs.List.{filter_map}
+use Rattle.std.proofs.lemmas.Option.{same_Some}
 use Rattle.m3_model.proofs.MemberLemmas.{IsIn-filter_map}
+use Rattle.m3_model.proofs.Lists.{IsIn-flat_map}
 use Rattle.m3_model.specs.Members.{IsIn}
 use Rattle.transcripts.specs.Placements.{placements, printed}
 use Rattle.transcripts.specs.Record.{InnerTurn, Life, TurnPosition, IsTurnPosition, inner_turns, joined, lists_of}
@@ -22,7 +24,7 @@ use Rattle.cluster_core.specs.Legal.{Legal, IsNextPlace}
 use Rattle.cluster_core.specs.Lists.{At, IsMajority}
 use Rattle.cluster_core.specs.declared.event.Event.{Event}
 use Rattle.cluster_core.specs.declared.event.Event.TheVariants as event
-use Rattle.cluster_core.proofs.ListLemmas.{some_same, at_some, at_same, at_within}
+use Rattle.cluster_core.proofs.ListLemmas.{at_some, at_same, at_within}
 use Rattle.cluster_core.proofs.PlaceLemmas.{IsAt, at_fine, at_grows, at_place, at_sound, at_version}
 use Rattle.cluster_core.proofs.TraceLemmas.{lawful_place}
 use Rattle.transcripts.specs.Joined.{Joined, PrintsMajority, TurnsAvailable}
@@ -30,7 +32,7 @@ use Rattle.told_by.specs.Openings.{opening_length}
 use Rattle.told_by.specs.Placements.{PrintsPeers}
 use Rattle.told_by.specs.Told.{ToldBy}
 use Rattle.told_by.proofs.OpeningLemmas.{first_event, place_fine}
-use Rattle.told_by.proofs.TurnLemmas.{IsIn-flat_map, position_in, split_in}
+use Rattle.told_by.proofs.TurnLemmas.{position_in, split_in}
 
 -- a turn of the run has a position
 pub turn_in : (turns : List Turn) (t : InnerTurn) → IsIn (inner_turns turns) t → (q : TurnPosition) × IsTurnPosition turns q × (q.turn ≡ t)
@@ -46,7 +48,7 @@ named_in s y [] e = cc
 named_in s y (d ∷ ds) e = by (nat_eq d.0 s) refl (named_in s y ds) e
   where
     by : (b : Bool) → nat_eq d.0 s ≡ b → (done_at s ds ≡ Some y → IsIn ds (s, y)) → cond b (Some d.1) (done_at s ds) ≡ Some y → (d ≡ (s, y)) ⊎ IsIn ds (s, y)
-    by true is later f = inl (λ i. (eqb-true d.0 s is i, some_same d.1 y f i))
+    by true is later f = inl (λ i. (eqb-true d.0 s is i, same_Some d.1 y f i))
     by false is later f = inr (later f)
 
 -- a step that ends no move turns no one Available
@@ -117,7 +119,7 @@ step_found events legal first there was next k i done_was done hk hi follows s s
 
 module _ (start : Option MetaState) (turns : List Turn) (events : List Event) (told : ToldBy start turns events) where
   -- each placement of the run is a Place
-  placed : (place : Placement) → IsIn (placements start (inner_turns turns)) place → (i : ℕ) × (done : List (ℕ × ℕ)) × At events i (event.Place place done)
+  pub placed : (place : Placement) → IsIn (placements start (inner_turns turns)) place → (i : ℕ) × (done : List (ℕ × ℕ)) × At events i (event.Place place done)
   placed place h = by_start start refl h
     where
       by_turn : IsIn (filter_map (λ (t : InnerTurn). printed t.answer) (inner_turns turns)) place → (i : ℕ) × (done : List (ℕ × ℕ)) × At events i (event.Place place done)
@@ -138,7 +140,7 @@ module _ (start : Option MetaState) (turns : List Turn) (events : List Event) (t
   -- what the turn that made the Place prints is a majority of the shard
   names_enough : (first was : Placement) (s y : ℕ) (shard after : Shard) (i : ℕ) (done : List (ℕ × ℕ)) → StepFound events first was s shard after i done → (p : PrintsPeers (take i events) (told.makers i) s y) → IsMajority was.rf (former shard) p.names
   names_enough first was s y shard after i done f p =
-      let place : p.last ≡ f.last = some_same p.last f.last (sym p.last_is ∙ f.last_is) in
+      let place : p.last ≡ f.last = same_Some p.last f.last (sym p.last_is ∙ f.last_is) in
       let same : p.shard ≡ shard = at_same (f.last).shards s p.shard f.old (subst (λ (x : Placement). At x.shards s p.shard) place p.shard_is) f.old_at ∙ f.same in
       let rf : (p.last).rf ≡ was.rf = ap (λ (x : Placement). x.rf) place ∙ f.rf in
       subst (λ n. IsMajority n (former shard) p.names) rf (subst (λ (x : Shard). IsMajority (p.last).rf (former x) p.names) same p.enough)

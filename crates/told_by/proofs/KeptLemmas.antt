@@ -3,6 +3,7 @@ use Rattle.transcripts.specs.Placements.{seed_at}
 use Rattle.std.proofs.Common.{◌≡◌, ℕ, zero, suc, ◌<◌, ◌≤◌, List, [], ◌∷◌, ◌++◌, take, length, refl, sym, ap, ◌∙◌, subst, inl, inr, arith, Bool, true, false, cond}
 use Rattle.std.specs.Prelude.{Option, Some, None, IsTrue, slice_get}
 use Rattle.std.specs.List.{flat_map, filter_map}
+use Rattle.std.proofs.lemmas.Option.{same_Some}
 use Rattle.m3_model.proofs.MemberLemmas.{IsIn-append_left, IsIn-append_right, IsIn-append_cases, IsIn-filter_map, filter_map-IsIn}
 use Rattle.m3_model.specs.Hash.{shard_of}
 use Rattle.m3_model.specs.Levels.{majority, needed_read, is_strong}
@@ -27,7 +28,7 @@ use Rattle.cluster_core.specs.Lists.{At}
 use Rattle.cluster_core.specs.declared.event.Event.{Event}
 use Rattle.cluster_core.specs.declared.event.Event.TheVariants as event
 use Rattle.cluster_core.proofs.HeldLemmas.{covers_lower}
-use Rattle.cluster_core.proofs.ListLemmas.{some_same, at_same, at_take}
+use Rattle.cluster_core.proofs.ListLemmas.{at_same, at_take}
 use Rattle.cluster_core.proofs.PastLemmas.{clock_at}
 use Rattle.cluster_core.proofs.Theorem.{keeps_points}
 use Rattle.cluster_core.proofs.TraceLemmas.{lawful_start}
@@ -125,7 +126,7 @@ module _ (past : List Record) (start : Option MetaState) (turns : List Turn) (ev
       let order : (told.spans).to q ≤ (told.spans).from b = (told.tells).order.order q b in_run at earlier in
       let rest = lines_upto turns q b in_run at (line_not_later q b earlier) in
       let grown = point_grows (rules_at start q).spaces (rules_at start b).spaces (lines_grow start q b rest.0 rest.1) q.turn.act send.point sent.of_point in
-      let same : send.point ≡ p = some_same send.point p (sym grown ∙ of_point) in
+      let same : send.point ≡ p = same_Some send.point p (sym grown ∙ of_point) in
       let shard : send.s ≡ shard_in p.id = sent.shard_is ∙ ap (λ (x : Point). shard_in x.id) same in
       record {
         position = ack.ack;
@@ -232,7 +233,7 @@ module _ (past : List Record) (start : Option MetaState) (turns : List Turn) (ev
         let opened = told.opened state c.found in
         let place : first.place ≡ state.place = same_place first.place state.place [] [] (at_same events 0 (event.Place first.place []) (event.Place state.place []) first.there opened.placed) in
         let grown : Grows (state.rules).spaces (rules_at start b).spaces = subst (λ o. Grows (start_rules o).spaces (rules_at start b).spaces) c.found (after_grows (start_rules start) (inner_turns b.lines)) in
-        let same : c.point ≡ p = some_same c.point p (sym (point_grows (state.rules).spaces (rules_at start b).spaces grown t.act c.point c.of_act) ∙ of_point) in
+        let same : c.point ≡ p = same_Some c.point p (sym (point_grows (state.rules).spaces (rules_at start b).spaces grown t.act c.point c.of_act) ∙ of_point) in
         let alive : ¬ HasExpired state.rules c.point =
         λ expired. live_stays (rules_at start b) p sought.live (expired_later state.rules (rules_at start b) p (clocks (shard_in p.id) asked 1 state.rules (omega (arith, span.high)) opened.clock) (subst (HasExpired state.rules) same expired)) in
         let kept = c.left (subst (λ (x : Placement). majority x.rf ≤ length nodes) place enough) alive in

@@ -5,6 +5,7 @@ use Rattle.std.specs.Prelude.{◌⊎◌, Option, Some, None, fold}
 use Rattle.std.specs.List.{flat_map, filter_map}
 use Rattle.std.proofs.lemmas.Nat.{mod_below}
 use Rattle.m3_model.proofs.MemberLemmas.{IsIn-append_left, IsIn-append_right, IsIn-append_cases, IsIn-filter_map, filter_map-IsIn}
+use Rattle.m3_model.proofs.Lists.{IsIn-flat_map, flat_map-IsIn, take_whole}
 use Rattle.m3_model.specs.Hash.{shard_of, murmur3}
 use Rattle.m3_model.specs.Levels.{majority}
 use Rattle.m3_model.specs.Members.{IsIn}
@@ -36,8 +37,10 @@ use Rattle.cluster_core.specs.declared.event.Event.TheVariants as event
 use Rattle.cluster_core.specs.declared.event.StepCall.TheVariants as call
 use Rattle.cluster_core.specs.declared.event.StepReply.TheVariants as reply
 use Rattle.std.proofs.lemmas.Bool.{cases_lt}
+use Rattle.std.proofs.lemmas.Option.{same_Some}
+use Rattle.std.proofs.lemmas.List.{take-append-le}
 use Rattle.cluster_core.proofs.HeldLemmas.{covers_lower}
-use Rattle.cluster_core.proofs.ListLemmas.{at_append, at_same, at_some, at_within, some_same}
+use Rattle.cluster_core.proofs.ListLemmas.{at_append, at_same, at_some, at_within}
 use Rattle.cluster_core.proofs.OriginLemmas.{origin}
 use Rattle.cluster_core.proofs.PlaceLemmas.{place_cases}
 use Rattle.cluster_core.proofs.Theorem.{keeps_points}
@@ -49,12 +52,12 @@ use Rattle.told_by.proofs.AnswerLemmas.{sent_by}
 use Rattle.told_by.proofs.ClockLemmas.{NotAbove, clock_cases, clocks_below, expired_later}
 use Rattle.told_by.proofs.KeptLemmas.{acked_by_turn, late_send, opening_low, same_place, sent_by_turn, sent_grows}
 use Rattle.told_by.proofs.KindLemmas.{plain_told, plain_told_from, plain_told_to}
-use Rattle.told_by.proofs.LineLemmas.{at_front, line_told, line_told_from, line_told_to, position_last, position_stays, take_all, take_front}
+use Rattle.told_by.proofs.LineLemmas.{at_front, line_told, line_told_from, line_told_to, position_last, position_stays}
 use Rattle.told_by.proofs.OneLemmas.{among_back, is_last, is_own}
 use Rattle.told_by.proofs.OpeningLemmas.{FirstEvent, OneSeed, first_event, one_seed, place_fine}
 use Rattle.told_by.proofs.RuleLemmas.{Grows, after_grows, lines_grow, point_grows}
 use Rattle.told_by.proofs.JoinedLemmas.{turn_in}
-use Rattle.told_by.proofs.TurnLemmas.{IsIn-flat_map, flat_map-IsIn, in_cut, in_its_line, lines_upto}
+use Rattle.told_by.proofs.TurnLemmas.{in_cut, in_its_line, lines_upto}
 
 -- ---- the last Place and the last Clock
 
@@ -65,7 +68,7 @@ last_place_from (x ∷ events) was p e =
       | inl later ↦ inl (suc later.0, later.1, later.2)
       | inr here ↦ elim (place_cases was x) as (λ _. ((i : ℕ) × (done : List (ℕ × ℕ)) × At (x ∷ events) i (event.Place p done)) ⊎ (was ≡ Some p)) [
         | inl same ↦ inr (sym same ∙ here)
-        | inr placed ↦ let one : placed.0 ≡ p = some_same placed.0 p (sym placed.3 ∙ here) in inl (0, placed.1, ap Some placed.2 ∙ ap (λ q. Some (event.Place q placed.1)) one)
+        | inr placed ↦ let one : placed.0 ≡ p = same_Some placed.0 p (sym placed.3 ∙ here) in inl (0, placed.1, ap Some placed.2 ∙ ap (λ q. Some (event.Place q placed.1)) one)
       ]
     ]
 
@@ -76,7 +79,7 @@ last_clock_from (x ∷ events) was r e =
       | inl later ↦ inl (suc later.0, later.1)
       | inr here ↦ elim (clock_cases was x) as (λ _. ((i : ℕ) × At (x ∷ events) i (event.Clock r)) ⊎ (was ≡ Some r)) [
         | inl same ↦ inr (sym same ∙ here)
-        | inr set ↦ let one : set.0 ≡ r = some_same set.0 r (sym set.2 ∙ here) in inl (0, ap Some set.1 ∙ ap (λ q. Some (event.Clock q)) one)
+        | inr set ↦ let one : set.0 ≡ r = same_Some set.0 r (sym set.2 ∙ here) in inl (0, ap Some set.1 ∙ ap (λ q. Some (event.Clock q)) one)
       ]
     ]
 
@@ -156,12 +159,12 @@ idle_line start turns events = record {
 
 -- a front of a legal list is legal
 pub legal_front : (xs ys : List Event) → Legal true (xs ++ ys) → Legal true xs
-legal_front xs ys legal i e h = subst (λ es. LawfulAt true i es e) (take_front xs ys i (omega (arith, at_within xs i e h))) (legal i e (at_append xs ys i e h))
+legal_front xs ys legal i e h = subst (λ es. LawfulAt true i es e) (take-append-le i xs ys (omega (arith, at_within xs i e h))) (legal i e (at_append xs ys i e h))
 
 agrees_front : (xs ys : List Event) (opening : Opening) → AgreesWith (xs ++ ys) opening → AgreesWith xs opening
 agrees_front xs ys opening agrees i n s tenure fence points h first =
     let e = event.Step n s (call.Begin tenure) (reply.Began fence points) in
-    agrees i n s tenure fence points (at_append xs ys i e h) (subst (λ es. (replica n s es).begun ≡ []) (sym (take_front xs ys i (omega (arith, at_within xs i e h)))) first)
+    agrees i n s tenure fence points (at_append xs ys i e h) (subst (λ es. (replica n s es).begun ≡ []) (sym (take-append-le i xs ys (omega (arith, at_within xs i e h)))) first)
 
 module _ (past : List Record) (start : Option MetaState) (turns : List Turn) (unanswered : Option Request) (events more : List Event) (opening : Opening) (left : MetaState) (next : Opening)
     (legal : Legal true events) (whole_legal : Legal true (events ++ more)) (agreed : AgreesWith events opening) (agrees : AgreesWith (events ++ more) opening) (stands_so : OpeningStands past start opening)
@@ -226,7 +229,7 @@ module _ (past : List Record) (start : Option MetaState) (turns : List Turn) (un
       let below : s < length (left.place).shards = omega (arith, mod_below (murmur3 p.id one.seed) (length (first.place).shards) some, count_is) in
       let shard = at_some (left.place).shards s below in
       let live : IsLiveUpTo all (length all) p = λ j r lt there expired. alive (expired_later r left.rules p (clocks j r there) expired) in
-      let whole : take (length all) all ≡ all = take_all all in
+      let whole : take (length all) all ≡ all = take_whole all in
       let same : s ≡ shard_of p.id left.seed (length (left.place).shards) = ap (λ seed. shard_of p.id seed (length (first.place).shards)) (sym seed_is) ∙ ap (λ n. shard_of p.id left.seed n) (sym count_is) in
       subst (λ n. IsLeft next left.place n p) same (
         shard.0,
@@ -346,7 +349,7 @@ module _ (past : List Record) (start : Option MetaState) (turns : List Turn) (un
 
   of_origin : (n s : ℕ) (p : Point) → IsIn (replica n s all).sure p ⊎ IsIn (replica n s all).doubt p → WasSentEarlier longer (Some left) p
   of_origin n s p h =
-      let whole : take (length all) all ≡ all = take_all all in
+      let whole : take (length all) all ≡ all = take_whole all in
       let comes = origin all whole_legal opening agrees s (length all) (omega arith) (length all) n p (omega arith) (subst (λ es. IsIn (replica n s es).sure p ⊎ IsIn (replica n s es).doubt p) (sym whole) h) in
       elim comes as (λ _. WasSentEarlier longer (Some left) p) [
         | inl send ↦ by_send send.0 send.1 s p send.3

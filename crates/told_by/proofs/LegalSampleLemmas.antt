@@ -10,8 +10,9 @@ use Rattle.m3_model.specs.declared.placement.Instance.{Instance}
 use Rattle.m3_model.specs.declared.placement.ShardState.TheVariants.{Available}
 use Rattle.m3_model.specs.declared.point.Pick.TheVariants as pick
 use Rattle.m3_model.specs.declared.point.Series.{Series}
+use Rattle.m3_model.proofs.Lists.{All-from_each}
 use Rattle.placement_core.specs.Lawful.{IsLawful, IsShard, IsSpread, IsServing as IsServingShard}
-use Rattle.placement_core.proofs.ListLemmas.{All-from_each, Any-from_IsIn}
+use Rattle.placement_core.proofs.ListLemmas.{Any-from_IsIn}
 use Rattle.cluster_core.specs.Answers.{IsWantedUnexpired}
 use Rattle.cluster_core.specs.Asks.{IsAskFor, IsLike, WasAsked}
 use Rattle.cluster_core.specs.Earlier.{CountsNodes, GaveAnswer, GivesTenure, HasClock, HasPut, HasShard, IsClock, IsSend, PlacesShard, TookPoint}

@@ -6,6 +6,7 @@ use Rattle.std.proofs.Common.{◌≡◌, ℕ, zero, suc, ◌<◌, ◌≤◌, ◌
 use Rattle.std.specs.Prelude.{◌⊎◌, Option, Some, None}
 use Rattle.std.proofs.Math.Dec.{ltb}
 use Rattle.std.proofs.lemmas.Bool.{cases_lt, lt-ltb, le-ltb}
+use Rattle.std.proofs.lemmas.List.{take-append-le}
 use Rattle.m3_model.proofs.SplitLemmas.{not_empty}
 use Rattle.m3_model.specs.Reads.{Found}
 use Rattle.transcripts.proofs.PositionLemmas.{at_push}
@@ -171,16 +172,6 @@ pub at_front : {X : Type 0} (xs ys : List X) (i : ℕ) (x : X) → At (xs ++ ys)
 at_front [] ys i x h lt = absurd (omega arith)
 at_front (y ∷ xs) ys zero x h lt = h
 at_front (y ∷ xs) ys (suc i) x h lt = at_front xs ys i x h (omega arith)
-
-pub take_all : {X : Type 0} (xs : List X) → take (length xs) xs ≡ xs
-take_all [] = refl
-take_all (x ∷ xs) = ap (λ ys. x ∷ ys) (take_all xs)
-
-pub take_front : {X : Type 0} (xs ys : List X) (i : ℕ) → i ≤ length xs → take i (xs ++ ys) ≡ take i xs
-take_front [] ys zero le = refl
-take_front [] ys (suc i) le = absurd (omega arith)
-take_front (x ∷ xs) ys zero le = refl
-take_front (x ∷ xs) ys (suc i) le = ap (λ zs. x ∷ zs) (take_front xs ys i (omega arith))
 
 by_left : {X : Type 0} (i n : ℕ) (a b : X) → i < n → cond (ltb i n) a b ≡ a
 by_left i n a b lt = ap (λ t. cond t a b) (lt-ltb i n lt)
@@ -413,7 +404,7 @@ module _ (start : Option MetaState) (turns : List Turn) (events : List Event) (l
     each_end = λ i place done above past there d m. elim (cases_lt i (length events)) as (λ _. PrintsPeers (take i all) (makers i) d.0 d.1) [
       | inl lt ↦
           subst (λ x. PrintsPeers (take i all) x d.0 d.1) (sym (by_left i (length events) (told.makers i) (next.makers i) lt))
-          (subst (λ es. PrintsPeers es (told.makers i) d.0 d.1) (sym (take_front events more i (omega arith)))
+          (subst (λ es. PrintsPeers es (told.makers i) d.0 d.1) (sym (take-append-le i events more (omega arith)))
           ((told.tells).placements.each_end i place done above past (at_front events more i (event.Place place done) there lt) d m))
       | inr ge ↦ subst (λ x. PrintsPeers (take i all) x d.0 d.1) (sym (by_right i (length events) (told.makers i) (next.makers i) ge)) ((next.tells).placements.each_end i place done ge past there d m)
     ];
@@ -452,7 +443,7 @@ module _ (start : Option MetaState) (turns : List Turn) (events : List Event) (l
   makes_told i e above past there = elim (cases_lt i (length events)) as (λ _. MayMake start (take i all) (makers i) e) [
     | inl lt ↦
         subst (λ x. MayMake start (take i all) x e) (sym (by_left i (length events) (told.makers i) (next.makers i) lt))
-        (subst (λ es. MayMake start es (told.makers i) e) (sym (take_front events more i (omega arith))) ((told.tells).makes i e above past (at_front events more i e there lt)))
+        (subst (λ es. MayMake start es (told.makers i) e) (sym (take-append-le i events more (omega arith))) ((told.tells).makes i e above past (at_front events more i e there lt)))
     | inr ge ↦ subst (λ x. MayMake start (take i all) x e) (sym (by_right i (length events) (told.makers i) (next.makers i) ge)) ((next.tells).makes i e ge past there)
   ]
 
@@ -461,7 +452,7 @@ module _ (start : Option MetaState) (turns : List Turn) (events : List Event) (l
     | inl k ↦
         let below : (told.spans).from p ≤ length events = omega (arith, (told.tells).order.not_back p k, (told.tells).order.not_above p k) in
         let old : HearsBy start (take ((told.spans).from p) all) (InStretch events ((told.spans).from p) ((told.spans).to p)) p p.turn.act p.turn.answer =
-        subst (λ es. HearsBy start es (InStretch events ((told.spans).from p) ((told.spans).to p)) p p.turn.act p.turn.answer) (sym (take_front events more ((told.spans).from p) below)) ((told.tells).hears p k) in
+        subst (λ es. HearsBy start es (InStretch events ((told.spans).from p) ((told.spans).to p)) p p.turn.act p.turn.answer) (sym (take-append-le ((told.spans).from p) events more below)) ((told.tells).hears p k) in
         moved p (sym (old_from p k)) (sym (old_to p k))
         (hears_on start (take ((told.spans).from p) all) (InStretch events ((told.spans).from p) ((told.spans).to p)) (InStretch all ((told.spans).from p) ((told.spans).to p)) (λ i e s. (s.0, s.1, at_append events more i e s.2)) p p.turn.act p.turn.answer old)
     | inr k ↦ moved p (sym (new_from p k)) (sym (new_to p k)) ((next.tells).hears p k)

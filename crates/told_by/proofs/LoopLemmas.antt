@@ -1,5 +1,4 @@
 -- Fetches one after the other, and placements that are printed.
-use Rattle.told_by.proofs.LineLemmas.{take_all}
 use Rattle.told_by.proofs.PrintedLemmas.{greatest_so_far}
 use Rattle.std.proofs.Common.{◌≡◌, ℕ, suc, ◌≤◌, ◌+◌, List, [], ◌∷◌, ◌++◌, length, refl, sym, ap, ◌∙◌, subst, inl, inr, arith, append_assoc, length-append, Bool}
 use Rattle.std.specs.Prelude.{◌⊎◌, Option, Some}
@@ -10,6 +9,7 @@ use Rattle.m3_model.specs.declared.answer.Answer.{Answer}
 use Rattle.m3_model.specs.declared.placement.Placement.{Placement}
 use Rattle.m3_model.specs.declared.rules.MetaState.{MetaState}
 use Rattle.m3_model.specs.declared.turn.Turn.{Turn}
+use Rattle.m3_model.proofs.Lists.{take_whole}
 use Rattle.cluster_core.specs.Earlier.{last_place}
 use Rattle.cluster_core.specs.Legal.{Legal}
 use Rattle.cluster_core.specs.Lists.{At}
@@ -65,7 +65,7 @@ module _ (start : Option MetaState) (p : TurnPosition) (a : Asking) where
 
 -- the last Place has the greatest version
 last_greatest : {tells : Bool} → (events : List Event) → Legal tells events → (i : ℕ) (p last : Placement) (done : List (ℕ × ℕ)) → At events i (event.Place p done) → last_place events ≡ Some last → p.version ≤ last.version
-last_greatest events legal i p last done there is = greatest_so_far events legal i (length events) p last done there (at_within events i (event.Place p done) there) (omega arith) (ap last_place (take_all events) ∙ is)
+last_greatest events legal i p last done there is = greatest_so_far events legal i (length events) p last done there (at_within events i (event.Place p done) there) (omega arith) (ap last_place (take_whole events) ∙ is)
 
 pub last_prints : {tells : Bool} → (start : Option MetaState) (turns : List Turn) (events : List Event) (b : Answer) (more : List Event) → Legal tells (events ++ more) → ToldBy start turns events
     → ((place : Placement) → printed b ≡ Some place → last_place (events ++ more) ≡ Some place) → PrintsPlace turns (events ++ more) b

@@ -1,10 +1,10 @@
 -- A line of one act: it is told where its events tell of its only turn.
-use Rattle.told_by.proofs.LineLemmas.{take_all, take_front}
 use Rattle.told_by.specs.Makes.{EndsRestart, MayMake}
 use Rattle.told_by.specs.Hears.{HearsBy, InStretch}
 use Rattle.transcripts.specs.Record.{line_of}
 use Rattle.std.proofs.Common.{◌≡◌, ℕ, zero, suc, ◌≤◌, ◌+◌, List, [], ◌∷◌, ◌++◌, take, length, refl, sym, ap, ◌∙◌, subst, inl, inr, arith, length-append, true}
 use Rattle.std.specs.Prelude.{Option, Some}
+use Rattle.std.proofs.lemmas.List.{take-append-le}
 use Rattle.m3_model.specs.Members.{IsIn}
 use Rattle.m3_model.specs.Reads.{Found, found_of}
 use Rattle.transcripts.proofs.PositionLemmas.{only_position}
@@ -20,6 +20,7 @@ use Rattle.m3_model.specs.declared.point.Series.{Series}
 use Rattle.m3_model.specs.declared.rules.MetaState.{MetaState}
 use Rattle.m3_model.specs.declared.rules.Rules.{Rules}
 use Rattle.m3_model.specs.declared.turn.Turn.{Turn}
+use Rattle.m3_model.proofs.Lists.{take_whole}
 use Rattle.cluster_core.specs.Lists.{At}
 use Rattle.cluster_core.specs.declared.event.Event.{Event}
 use Rattle.cluster_core.specs.declared.event.Event.TheVariants as event
@@ -141,7 +142,7 @@ module _ (start : Option MetaState) (turns : List Turn) (events : List Event) (a
       };
       makes = t.makes;
       restarts = t.restarts;
-      hears = λ p h. subst (λ es. HearsBy start es (InStretch all (length events) (length all)) p p.turn.act p.turn.answer) (sym (take_front events more (length events) (omega arith) ∙ take_all events)) (each (λ q. HearsBy start events (InStretch all (length events) (length all)) q q.turn.act q.turn.answer) t.hears p h);
+      hears = λ p h. subst (λ es. HearsBy start es (InStretch all (length events) (length all)) p p.turn.act p.turn.answer) (sym (take-append-le (length events) events more (omega arith) ∙ take_whole events)) (each (λ q. HearsBy start events (InStretch all (length events) (length all)) q q.turn.act q.turn.answer) t.hears p h);
     };
     not_earlier = λ p q hp hq was is of_was of_is. (t.prints).not_earlier p hp was is of_was (ap (λ (x : TurnPosition). printed x.turn.answer) (sym (is_own q hq)) ∙ of_is);
   }

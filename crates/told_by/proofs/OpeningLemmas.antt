@@ -1,9 +1,12 @@
 -- What the beginning of the list fixes for all turns: the seed of the hash, and how many replicas and shards there are.
 use Rattle.std.proofs.Common.{◌≡◌, ℕ, suc, ◌<◌, ◌≤◌, List, [], ◌∷◌, ◌++◌, length, refl, sym, ap, ◌∙◌, subst, inl, inr, arith, append_assoc, length-append, Bool, true, false}
-use Rattle.std.specs.Prelude.{◌⊎◌, Option, Some, None, fold, if◌then◌else◌, nat_lt}
+use Rattle.std.specs.Prelude.{Option, Some, None, fold, if◌then◌else◌, nat_lt}
 use Rattle.std.specs.Option.{option_map_or}
 use Rattle.std.proofs.lemmas.List.Sums.{fold-append}
+use Rattle.std.proofs.lemmas.Option.{same_Some}
+use Rattle.std.proofs.lemmas.Bool.{cases_Bool}
 use Rattle.m3_model.proofs.MemberLemmas.{IsIn-append_left, IsIn-append_right}
+use Rattle.m3_model.proofs.Lists.{IsIn-flat_map}
 use Rattle.m3_model.specs.Members.{IsIn}
 use Rattle.transcripts.specs.Placements.{seed_at, seed_by, printed, placement_after, later_placement, newer, start_placement, replicas_of}
 use Rattle.transcripts.specs.Points.{rf_at}
@@ -21,11 +24,11 @@ use Rattle.cluster_core.specs.Legal.{Legal, IsOpeningPlace}
 use Rattle.cluster_core.specs.Lists.{At}
 use Rattle.cluster_core.specs.declared.event.Event.{Event}
 use Rattle.cluster_core.specs.declared.event.Event.TheVariants as event
-use Rattle.cluster_core.proofs.ListLemmas.{some_same, at_within, at_some, at_same, fold_suc}
+use Rattle.cluster_core.proofs.ListLemmas.{at_within, at_some, at_same, fold_suc}
 use Rattle.cluster_core.proofs.PlaceLemmas.{Fine, placed_at}
 use Rattle.told_by.specs.Openings.{opening_length, sets_seed, IsInitOf}
 use Rattle.told_by.specs.Told.{ToldBy}
-use Rattle.told_by.proofs.TurnLemmas.{IsIn-flat_map, split_in, Stands, stands, before_line, before_there, in_other_list, is_it, comes_later, alone_is, position_in, at_cut, inner-append, earlier_line}
+use Rattle.told_by.proofs.TurnLemmas.{split_in, Stands, stands, before_line, before_there, in_other_list, is_it, comes_later, alone_is, position_in, at_cut, inner-append, earlier_line}
 
 -- ---- the first event
 
@@ -46,7 +49,7 @@ pub place_fine : {tells : Bool} → (events : List Event) → Legal tells events
 place_fine events legal first there i p done h =
     let f = placed_at events legal first [] there (suc i) (omega arith) (omega (arith, at_within events i (event.Place p done) h)) in
     let last = fold_suc place_after None events i (event.Place p done) h in
-    subst (Fine first) (some_same f.0 p (sym f.1 ∙ last)) f.2
+    subst (Fine first) (same_Some f.0 p (sym f.1 ∙ last)) f.2
 
 -- ---- seeds
 
@@ -68,10 +71,6 @@ none_seeds n (t ∷ ts) none = ap (λ s. seed_from s ts) (seed_same_by t.act t.a
 
 seeds_append : (n : ℕ) (xs ys : List InnerTurn) → seed_from n (xs ++ ys) ≡ seed_from (seed_from n xs) ys
 seeds_append n xs ys = fold-append (λ (seed : ℕ) (turn : InnerTurn). seed_by turn.act turn.answer seed) n xs ys
-
-by_bool : (b : Bool) → (b ≡ true) ⊎ (b ≡ false)
-by_bool true = inl refl
-by_bool false = inr refl
 
 -- ---- replicas
 
@@ -97,11 +96,11 @@ newer_has rf place (Some other) e h = either_has rf (nat_lt place.version other.
 
 later_has : (rf : ℕ) (o was : Option Placement) → MayHaveReplicas rf o → HasReplicas rf was → HasReplicas rf (later_placement o was)
 later_has rf None was each h = h
-later_has rf (Some place) was each h = (newer place was, refl, newer_has rf place was (each place refl) (λ other is. ap (λ (p : Placement). p.rf) (some_same other h.0 (sym is ∙ h.1)) ∙ h.2))
+later_has rf (Some place) was each h = (newer place was, refl, newer_has rf place was (each place refl) (λ other is. ap (λ (p : Placement). p.rf) (same_Some other h.0 (sym is ∙ h.1)) ∙ h.2))
 
 later_may : (rf : ℕ) (o was : Option Placement) → MayHaveReplicas rf o → MayHaveReplicas rf was → MayHaveReplicas rf (later_placement o was)
 later_may rf None was each h = h
-later_may rf (Some place) was each h = λ p is. ap (λ (x : Placement). x.rf) (some_same p (newer place was) (sym is)) ∙ newer_has rf place was (each place refl) h
+later_may rf (Some place) was each h = λ p is. ap (λ (x : Placement). x.rf) (same_Some p (newer place was) (sym is)) ∙ newer_has rf place was (each place refl) h
 
 after_has : (rf : ℕ) (ts : List InnerTurn) (o : Option Placement) → EachPrints rf ts → HasReplicas rf o → HasReplicas rf (placement_after o ts)
 after_has rf [] o each h = h
@@ -121,7 +120,7 @@ module _ {tells : Bool} (start : Option MetaState) (turns : List Turn) (events :
   -- no turn past the `init` that begins the list is one
   none_before : ((p : TurnPosition) → IsTurnPosition turns p → sets_seed p.turn.act p.turn.answer ≡ true → ⊥) → (p : TurnPosition) → IsTurnPosition turns p → (t : InnerTurn) → IsIn (inner_turns p.lines) t → sets_seed t.act t.answer ≡ false
   none_before none p at t h =
-      elim (by_bool (sets_seed t.act t.answer)) as (λ _. sets_seed t.act t.answer ≡ false) [
+      elim (cases_Bool (sets_seed t.act t.answer)) as (λ _. sets_seed t.act t.answer ≡ false) [
         | inr e ↦ e
         | inl e ↦ let q = earlier_line turns p at t h in absurd (none q.position q.in_run (subst (λ (u : InnerTurn). sets_seed u.act u.answer ≡ true) (sym q.turn_is) e))
       ]
@@ -145,7 +144,7 @@ module _ {tells : Bool} (start : Option MetaState) (turns : List Turn) (events :
       -- the turns behind its line
       behind : (b : TurnPosition) → IsTurnPosition turns b → (rest : List Turn) (line : Turn) → b.lines ≡ p.lines ++ line ∷ rest → (t : InnerTurn) → IsIn (inner_turns rest) t → sets_seed t.act t.answer ≡ false
       behind b at rest line e t h =
-          elim (by_bool (sets_seed t.act t.answer)) as (λ _. sets_seed t.act t.answer ≡ false) [
+          elim (cases_Bool (sets_seed t.act t.answer)) as (λ _. sets_seed t.act t.answer ≡ false) [
             | inr otherwise ↦ otherwise
             | inl seeds ↦
                 let r = in_rest rest t h in
@@ -184,7 +183,7 @@ module _ {tells : Bool} (start : Option MetaState) (turns : List Turn) (events :
       by_start None e = let p = (told.tells).init.begun (omega (arith, ap opening_length e)) (event.Place first.place []) first.there in by_init p.0 p.1 p.2
       by_start (Some state) e = record {
         seed = state.seed;
-        found = λ other is. let same : Some state ≡ Some other = sym e ∙ is in ap (λ (s : MetaState). s.seed) (some_same state other same);
+        found = λ other is. let same : Some state ≡ Some other = sym e ∙ is in ap (λ (s : MetaState). s.seed) (same_Some state other same);
         everywhere = λ p at other i low.
             none_seeds (option_map_or (λ (s : MetaState). s.seed) start 0) (inner_turns p.lines)
             (none_before (λ q in_run sets. let init = (told.tells).init.inits q in_run sets in let bad : None ≡ Some state = sym init.found_nothing ∙ e in cc) p at)

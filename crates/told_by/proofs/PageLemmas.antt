@@ -6,6 +6,7 @@ use Rattle.std.specs.FinMap.{entries}
 use Rattle.std.specs.declared.cmp.Ordering.TheVariants.{Less}
 use Rattle.std.proofs.lemmas.Bool.{cases_eq, cases_lt}
 use Rattle.std.proofs.lemmas.Int.{ints}
+use Rattle.std.proofs.lemmas.Option.{same_Some}
 use Rattle.m3_model.specs.Ascends.{Ascends}
 use Rattle.m3_model.specs.Contents.{Contents, Holds, key_of, point_at}
 use Rattle.m3_model.specs.Keys.{key_cmp, key_cmp_total}
@@ -17,6 +18,8 @@ use Rattle.m3_model.specs.declared.point.Point.{Point}
 use Rattle.m3_model.proofs.FindLemmas.{IsIn-get, entries_ascend, get-IsIn}
 use Rattle.m3_model.proofs.Keyed.{key_cmp-IsAntisymmetric}
 use Rattle.m3_model.proofs.MemberLemmas.{IsIn-append_cases, IsIn-append_left, IsIn-append_right, IsIn-map, map-IsIn}
+use Rattle.m3_model.proofs.Ascending.{Ascends-append}
+use Rattle.m3_model.proofs.Lists.{nil_from_no_member}
 use Rattle.placement_core.proofs.ListLemmas.{IsIn-from_Any, each-from_All}
 use Rattle.cluster_core.specs.Answers.{AsksFor, GoesOn, IsKeyBelow, IsInBlock, IsPage, IsPastKey, IsUpTo}
 use Rattle.cluster_core.specs.Lists.{At}
@@ -25,7 +28,7 @@ use Rattle.cluster_core.specs.Shown.{IsPageOf, Says}
 use Rattle.cluster_core.specs.declared.event.StepCall.{StepCall}
 use Rattle.cluster_core.specs.declared.event.StepCall.TheVariants as call
 use Rattle.cluster_core.specs.declared.replica_state.ReplicaState.{ReplicaState}
-use Rattle.cluster_core.proofs.ListLemmas.{at_in, at_within, in_at, some_same}
+use Rattle.cluster_core.proofs.ListLemmas.{at_in, at_within, in_at}
 use Rattle.told_by.specs.Shown.{PageIsShown}
 use Rattle.told_by.proofs.ContentLemmas.{Goes, Parted, Stays, by_key, below_not_same, below_or_not, content_by, exact_by, has_key, holds_by, left, part, source_by}
 
@@ -71,19 +74,10 @@ asks_at _ p v h = absurd h
 -- all elements but the last stand before it
 last_top : (Before : Point → Point → Type 0) (xs : List Point) (n : ℕ) (last : Point) → Ascends Before xs → At xs n last → length xs ≡ suc n → (x : Point) → IsIn xs x → (x ≡ last) ⊎ Before x last
 last_top Before [] n last a there whole x m = absurd m
-last_top Before (y ∷ ys) zero last a there whole x (inl e) = inl (sym e ∙ some_same y last there)
+last_top Before (y ∷ ys) zero last a there whole x (inl e) = inl (sym e ∙ same_Some y last there)
 last_top Before (y ∷ ys) zero last a there whole x (inr m) = let at = in_at ys x m in absurd (omega (arith, at_within ys at.0 x at.1, whole))
 last_top Before (y ∷ ys) (suc n) last a there whole x (inl e) = inr (subst (λ z. Before z last) e (a.0 last (at_in ys n last there)))
 last_top Before (y ∷ ys) (suc n) last a there whole x (inr m) = last_top Before ys n last a.1 there (omega (arith, whole)) x m
-
-ascends_append : (Before : Point → Point → Type 0) (xs ys : List Point) → Ascends Before xs → Ascends Before ys → ((x y : Point) → IsIn xs x → IsIn ys y → Before x y) → Ascends Before (xs ++ ys)
-ascends_append Before [] ys a b across = b
-ascends_append Before (x ∷ xs) ys a b across =
-    ((λ y m. elim (IsIn-append_cases xs ys y m) as (λ _. Before x y) [ inl front ↦ a.0 y front | inr back ↦ across x y (inl refl) back ]), ascends_append Before xs ys a.1 b (λ z y m k. across z y (inr m) k))
-
-empty_of : {X : Type 0} (xs : List X) → ((x : X) → IsIn xs x → ⊥) → xs ≡ []
-empty_of [] none = refl
-empty_of (x ∷ xs) none = absurd (none x (inl refl))
 
 -- the points of the entries of a content, in order
 abbrev point_by : Key × ℤ → Point
@@ -206,7 +200,7 @@ module _ (r : ReplicaState) (c : StepCall) (page : Page) (is : IsPage r c page) 
           | inl front ↦ IsIn-append_left page.points behind.kept (point_at k v) front
           | inr back ↦ IsIn-append_right page.points behind.kept (point_at k v) (is_behind k v e back asks)
         ];
-        ascending = ascends_append by_key page.points behind.kept is.ascending
+        ascending = Ascends-append by_key page.points behind.kept is.ascending
             (behind.order (points_ascend (entries content) (entries_ascend key_cmp key_cmp_total key_cmp-IsAntisymmetric content)))
             (λ x y mx my. let o = behind_other y my in above y o.0 o.1 x mx);
         few = is.few;
@@ -223,7 +217,7 @@ module _ (r : ReplicaState) (c : StepCall) (page : Page) (is : IsPage r c page) 
       let apart : (y : Point) → IsIn [] y → (x : Point) → IsIn page.points x → key_of x ≡ key_of y → ⊥ = λ y n x m same. n in
       let up : (x : Point) → IsIn page.points x → IsUpTo page.next (key_of x) = λ x m. subst (λ n. IsUpTo n (key_of x)) (sym e) tt in
       let above : (y : Point) → IsIn (rest.kept ++ []) y → AsksFor c y → (x : Point) → IsIn page.points x → by_key x y = λ y m asks x k. absurd (over y m asks) in
-      page_by [] none apart up above (inl (empty_of _ (λ y m. let o = behind_other [] none apart up above y m in over y o.0 o.1), e))
+      page_by [] none apart up above (inl (nil_from_no_member _ (λ y m. let o = behind_other [] none apart up above y m in over y o.0 o.1), e))
 
   -- where it goes on, some point that is asked for follows
   by_some : (next : Key) → page.next ≡ Some next → GoesOn r c page next → (shown : Contents) × Shows r shown × IsPageOf shown c page

@@ -2,10 +2,12 @@
 use Rattle.std.proofs.Common.{◌≡◌, ℕ, zero, suc, ◌<◌, ◌≤◌, ◌+◌, ◌-◌, List, [], ◌∷◌, take, length, refl, sym, ap, ◌∙◌, subst, inl, inr, arith, length-append, if◌then◌else◌, Bool}
 use Rattle.std.specs.Prelude.{Option, Some, None}
 use Rattle.std.proofs.lemmas.Bool.{cases_lt, le-ltb, lt-ltb}
+use Rattle.std.proofs.lemmas.Option.{same_Some}
 use Rattle.m3_model.specs.Members.{IsIn}
 use Rattle.m3_model.specs.declared.placement.Placement.{Placement}
 use Rattle.m3_model.specs.declared.rules.MetaState.{MetaState}
 use Rattle.m3_model.specs.declared.turn.Turn.{Turn}
+use Rattle.m3_model.proofs.Lists.{IsIn-flat_map, flat_map-IsIn}
 use Rattle.transcripts.proofs.PlacementLemmas.{after_from}
 use Rattle.transcripts.specs.Placements.{later_placement, newer, placement_after, printed, start_placement}
 use Rattle.transcripts.specs.Record.{InnerTurn, TurnPosition, IsTurnPosition, inner_turns, joined, lists_of}
@@ -14,7 +16,7 @@ use Rattle.cluster_core.specs.Legal.{Legal}
 use Rattle.cluster_core.specs.Lists.{At}
 use Rattle.cluster_core.specs.declared.event.Event.{Event}
 use Rattle.cluster_core.specs.declared.event.Event.TheVariants as event
-use Rattle.cluster_core.proofs.ListLemmas.{at_in, at_same, at_some, at_take, at_within, in_at, some_same, take_at}
+use Rattle.cluster_core.proofs.ListLemmas.{at_in, at_same, at_some, at_take, at_within, in_at, take_at}
 use Rattle.cluster_core.proofs.PlaceLemmas.{at_grows, at_place, placed_at}
 use Rattle.cluster_core.proofs.TraceLemmas.{lawful_place}
 use Rattle.told_by.specs.Laws.{PlacementsStand}
@@ -23,7 +25,7 @@ use Rattle.told_by.specs.Told.{ToldBy}
 use Rattle.told_by.proofs.KeptLemmas.{opening_low}
 use Rattle.told_by.proofs.LeaveLemmas.{place_there}
 use Rattle.told_by.proofs.OpeningLemmas.{first_event, place_fine}
-use Rattle.told_by.proofs.TurnLemmas.{IsIn-flat_map, at_cut, cut_at, flat_map-IsIn, in_its_line, position_in}
+use Rattle.told_by.proofs.TurnLemmas.{at_cut, cut_at, in_its_line, position_in}
 
 -- ---- versions of Places
 
@@ -172,7 +174,7 @@ module _ {tells : Bool} (start : Option MetaState) (turns : List Turn) (events :
       by_start : (o : Option MetaState) → start ≡ o → start_placement o ≡ Some p → (i : ℕ) × (done : List (ℕ × ℕ)) × At events i (event.Place p done) × (i < told.ends k)
       by_start None is base = cc
       by_start (Some state) is base =
-          let same : state.place ≡ p = some_same state.place p base in
+          let same : state.place ≡ p = same_Some state.place p base in
           let two : opening_length start ≡ 2 = ap opening_length is in
           (0, [], subst (λ x. At events 0 (event.Place x [])) same (told.opened state is).placed, omega (arith, (told.lines).first, two, ends_grow start turns events told 0 k (omega arith) high))
 
@@ -217,7 +219,7 @@ module _ {tells : Bool} (start : Option MetaState) (turns : List Turn) (events :
       let l = place_there (take (told.ends k) events) q el in
       let at = at_take events l.0 (told.ends k) (event.Place q l.1) l.2 in
       let r = printed_before k high l.0 q l.1 at.0 at.1 in
-      let same : r.0 ≡ p = some_same r.0 p (sym r.1 ∙ eo) in
+      let same : r.0 ≡ p = same_Some r.0 p (sym r.1 ∙ eo) in
       let up = greatest_so_far events legal i.0 (told.ends k) p q i.1 i.2 i.3 (ends_within start turns events told k high) el in
       let version : q.version ≡ p.version = omega (arith, up, r.2, ap (λ (x : Placement). x.version) same) in
       ap Some (one_place events legal l.0 i.0 q p l.1 i.1 at.0 i.2 version)

@@ -1,6 +1,7 @@
 -- The short run is told, line by line.
 use Rattle.std.proofs.Common.{◌≡◌, ℕ, zero, suc, ◌+◌, ◌≤◌, List, [], ◌∷◌, ◌++◌, take, length, refl, sym, ap, ◌∙◌, subst, inl, inr, arith, false, true}
 use Rattle.std.specs.Prelude.{ℤ, ◌<◌, ⊤, Option, Some, None}
+use Rattle.std.proofs.lemmas.Option.{same_Some}
 use Rattle.m3_model.specs.Ascends.{Ascends}
 use Rattle.m3_model.specs.Hash.{shard_of}
 use Rattle.m3_model.specs.Levels.{needed_read, needed_write}
@@ -40,7 +41,7 @@ use Rattle.told_by.proofs.AnswerLemmas.{shard_below}
 use Rattle.told_by.proofs.KindLemmas.{clock_told, init_told, read_told, write_told}
 use Rattle.told_by.proofs.LineLemmas.{line_told, no_place, told_at_first}
 use Rattle.told_by.proofs.OneLemmas.{at_back}
-use Rattle.cluster_core.proofs.ListLemmas.{some_same, at_any, at_same, in_at}
+use Rattle.cluster_core.proofs.ListLemmas.{at_any, at_same, in_at}
 
 -- of each element of a list, by its position
 abbrev pub Each : {X : Type 0} → (ℕ → X → Type 0) → ℕ → List X → Type 0
@@ -49,7 +50,7 @@ Each P k (x ∷ xs) = P k x × Each P (suc k) xs
 
 pub each_at : {X : Type 0} (P : ℕ → X → Type 0) (k : ℕ) (xs : List X) → Each P k xs → (j : ℕ) (x : X) → At xs j x → P (k + j) x
 each_at P k [] h j x there = cc
-each_at P k (y ∷ xs) h zero x there = let here : k ≡ k + 0 = omega arith in subst (λ n. P n x) here (subst (P k) (some_same y x there) h.0)
+each_at P k (y ∷ xs) h zero x there = let here : k ≡ k + 0 = omega arith in subst (λ n. P n x) here (subst (P k) (same_Some y x there) h.0)
 each_at P k (y ∷ xs) h (suc j) x there = let here : suc k + j ≡ k + suc j = omega arith in subst (λ n. P n x) here (each_at P (suc k) xs h.1 j x there)
 
 -- what a line makes, event by event
@@ -102,7 +103,7 @@ opened_here : HearsOpened (InStretch of_init 0 4) place
 opened_here node zero tenure given =
     let own : Assignment = record { node = 0; tenure = 1; state = Available; source = None } in
     let x = IsIn-from_Any (λ (a : Assignment). (a.node ≡ node) × (a.tenure ≡ tenure)) given.0 given.2 in
-    let m : IsIn (own ∷ []) x.0 = subst (λ assignments. IsIn assignments x.0) (sym (some_same (own ∷ []) given.0 given.1)) x.1 in
+    let m : IsIn (own ∷ []) x.0 = subst (λ assignments. IsIn assignments x.0) (sym (same_Some (own ∷ []) given.0 given.1)) x.1 in
     elim m as (λ _. (a : StepReply) × IsFirstBegun a × HasStep (InStretch of_init 0 4) (IsBeginOf tenure) node 0 a) [
       | inl same ↦
           let here : 0 ≡ node = ap (λ (a : Assignment). a.node) same ∙ (x.2).0 in

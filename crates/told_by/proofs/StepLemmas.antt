@@ -1,6 +1,7 @@
 -- Lines that make a placement, and those that are refused, are told.
 use Rattle.std.proofs.Common.{◌≡◌, ◌<◌, ◌∙◌, ℕ, zero, suc, Bool, true, false, List, [], ◌∷◌, ◌++◌, length, take, Option, Some, None, refl, sym, ap, subst, inl, inr, arith, fold}
 use Rattle.std.proofs.lemmas.Grind.{fold-append}
+use Rattle.std.proofs.lemmas.Option.{same_Some}
 use Rattle.m3_model.specs.Members.{IsIn}
 use Rattle.m3_model.specs.Reads.{found_of}
 use Rattle.m3_model.specs.declared.act.Act.{Act}
@@ -9,6 +10,7 @@ use Rattle.m3_model.specs.declared.answer.Answer.TheVariants as answer
 use Rattle.m3_model.specs.declared.placement.Placement.{Placement}
 use Rattle.m3_model.specs.declared.rules.MetaState.{MetaState}
 use Rattle.m3_model.specs.declared.turn.Turn.{Turn}
+use Rattle.m3_model.proofs.Lists.{take_whole}
 use Rattle.placement_acts.specs.Acts.{is_step_act}
 use Rattle.placement_acts.proofs.ActLemmas.{by_step}
 use Rattle.cluster_core.specs.Earlier.{last_place, place_after as place_by}
@@ -20,7 +22,6 @@ use Rattle.cluster_core.specs.declared.event.Event.{Event}
 use Rattle.cluster_core.specs.declared.event.Event.TheVariants as event
 use Rattle.cluster_core.specs.declared.event.StepCall.TheVariants as call
 use Rattle.cluster_core.specs.declared.event.StepReply.{StepReply}
-use Rattle.cluster_core.proofs.ListLemmas.{some_same}
 use Rattle.transcripts.specs.Placements.{printed}
 use Rattle.transcripts.specs.Record.{TurnPosition}
 use Rattle.told_by.specs.Clocks.{sets_rules}
@@ -32,7 +33,7 @@ use Rattle.told_by.specs.Steps.{EndsGone, IsUnmoved, StepsTell, UnmovedTell}
 use Rattle.told_by.specs.Told.{ToldBy}
 use Rattle.told_by.specs.Writes.{IsUnmetWrite}
 use Rattle.told_by.proofs.KindLemmas.{taken}
-use Rattle.told_by.proofs.LineLemmas.{nothing_at, take_all}
+use Rattle.told_by.proofs.LineLemmas.{nothing_at}
 use Rattle.told_by.proofs.LoopLemmas.{last_prints}
 use Rattle.told_by.proofs.OneLemmas.{at_back}
 
@@ -70,7 +71,7 @@ module _ (next : Placement) where
   pub ends_in : (k : ℕ) (ends : List Event) (e : Event) → At ends k e → IsIn ends e
   ends_in zero [] e there = cc
   ends_in (suc k) [] e there = cc
-  ends_in zero (x ∷ ends) e there = inl (some_same x e there)
+  ends_in zero (x ∷ ends) e there = inl (same_Some x e there)
   ends_in (suc k) (x ∷ ends) e there = inr (ends_in k ends e there)
 
   module _ (start : Option MetaState) (turns : List Turn) (events : List Event) (a : Act) (step : is_step_act a ≡ true) (ends : List Event) (gone : (e : Event) → IsIn ends e → EndsGone next e) where
@@ -85,8 +86,8 @@ module _ (next : Placement) where
     last_behind k = fold-append place_by None events (take (suc (suc k)) added) ∙ stays k ends gone
 
     may_make : (k : ℕ) (e : Event) → At added k e → MayMake start (events ++ take k added) own e
-    may_make zero e there = subst (MayMake start (events ++ []) own) (some_same _ e there) (step_asks start (events ++ []) own (asked.Place next []) a step refl)
-    may_make (suc zero) e there = subst (MayMake start (events ++ take 1 added) own) (some_same _ e there) (record { stood = next; prints = refl; not_before = omega arith })
+    may_make zero e there = subst (MayMake start (events ++ []) own) (same_Some _ e there) (step_asks start (events ++ []) own (asked.Place next []) a step refl)
+    may_make (suc zero) e there = subst (MayMake start (events ++ take 1 added) own) (same_Some _ e there) (record { stood = next; prints = refl; not_before = omega arith })
     may_make (suc (suc k)) e there = by e (gone e (ends_in k ends e there))
       where
         by : (x : Event) → EndsGone next x → MayMake start (events ++ take (suc (suc k)) added) own x
@@ -95,8 +96,8 @@ module _ (next : Placement) where
         by _ h = absurd h
 
     may_change : (k : ℕ) (e : Event) → At added k e → MayChange own (events ++ take k added) e
-    may_change zero e there = subst (MayChange own (events ++ [])) (some_same _ e there) tt
-    may_change (suc zero) e there = subst (MayChange own (events ++ take 1 added)) (some_same _ e there) (λ d none. absurd none)
+    may_change zero e there = subst (MayChange own (events ++ [])) (same_Some _ e there) tt
+    may_change (suc zero) e there = subst (MayChange own (events ++ take 1 added)) (same_Some _ e there) (λ d none. absurd none)
     may_change (suc (suc k)) e there = by e (gone e (ends_in k ends e there))
       where
         by : (x : Event) → EndsGone next x → MayChange own (events ++ take (suc (suc k)) added) x
@@ -126,7 +127,7 @@ module _ (next : Placement) where
     }
       where
         whole : fold place_by (Some next) ends ≡ Some next
-        whole = ap (fold place_by (Some next)) (sym (take_all ends)) ∙ stays (length ends) ends gone
+        whole = ap (fold place_by (Some next)) (sym (take_whole ends)) ∙ stays (length ends) ends gone
 
 pub steps_tell : {tells : Bool} → StepsTell tells
 steps_tell {tells} start turns events a next more step some legal told adds =

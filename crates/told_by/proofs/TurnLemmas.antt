@@ -1,14 +1,15 @@
 -- Where turns stand in a run.
 use Rattle.std.proofs.Common.{◌≡◌, ℕ, zero, suc, ◌<◌, ◌≤◌, List, [], ◌∷◌, ◌++◌, length, refl, sym, ap, ◌∙◌, subst, inl, inr, arith, append_assoc, append-nil, length-append}
-use Rattle.std.specs.List.{flat_map}
 use Rattle.std.proofs.lemmas.Bool.{cases_lt, cases_eq}
 use Rattle.std.proofs.lemmas.Grind.{flat_map-append}
-use Rattle.m3_model.proofs.MemberLemmas.{IsIn-append_left, IsIn-append_right, IsIn-append_cases}
+use Rattle.std.proofs.lemmas.Option.{same_Some}
+use Rattle.m3_model.proofs.MemberLemmas.{IsIn-append_left, IsIn-append_right}
+use Rattle.m3_model.proofs.Lists.{IsIn-flat_map, flat_map-IsIn}
 use Rattle.m3_model.specs.Members.{IsIn}
 use Rattle.transcripts.specs.Record.{InnerTurn, TurnPosition, IsTurnPosition, IsInLine, client_at, lists_of, joined, inner_turns}
 use Rattle.m3_model.specs.declared.turn.Turn.{Turn}
 use Rattle.cluster_core.specs.Lists.{At}
-use Rattle.cluster_core.proofs.ListLemmas.{some_same, at_same}
+use Rattle.cluster_core.proofs.ListLemmas.{at_same}
 use Rattle.told_by.specs.Spans.{IsEarlier, IsAlone}
 
 -- ---- lists cut at an element
@@ -19,22 +20,6 @@ split_in (y ∷ ys) x h =
     elim h as (λ _. (front : List _) × (back : List _) × (y ∷ ys ≡ front ++ x ∷ back)) [
       | inl e ↦ ([], ys, ap (λ z. z ∷ ys) e)
       | inr r ↦ let s = split_in ys x r in (y ∷ s.0, s.1, ap (λ zs. y ∷ zs) s.2)
-    ]
-
-pub IsIn-flat_map : {X Y : Type 0} (f : X → List Y) (xs : List X) (y : Y) → IsIn (flat_map f xs) y → (x : X) × IsIn xs x × IsIn (f x) y
-IsIn-flat_map f [] y h = absurd h
-IsIn-flat_map f (x ∷ xs) y h =
-    elim (IsIn-append_cases (f x) (flat_map f xs) y h) as (λ _. (z : _) × IsIn (x ∷ xs) z × IsIn (f z) y) [
-      | inl here ↦ (x, inl refl, here)
-      | inr later ↦ let l = IsIn-flat_map f xs y later in (l.0, inr l.1, l.2)
-    ]
-
-pub flat_map-IsIn : {X Y : Type 0} (f : X → List Y) (xs : List X) (x : X) (y : Y) → IsIn xs x → IsIn (f x) y → IsIn (flat_map f xs) y
-flat_map-IsIn f [] x y h i = absurd h
-flat_map-IsIn f (z ∷ xs) x y h i =
-    elim h as (λ _. IsIn (f z ++ flat_map f xs) y) [
-      | inl e ↦ IsIn-append_left (f z) (flat_map f xs) y (subst (λ w. IsIn (f w) y) (sym e) i)
-      | inr r ↦ IsIn-append_right (f z) (flat_map f xs) y (flat_map-IsIn f xs x y r i)
     ]
 
 -- two cuts of one list, the one before the other
@@ -72,7 +57,7 @@ at_cut (y ∷ xs) x ys = at_cut xs x ys
 
 pub cut_at : {X : Type 0} (xs : List X) (i : ℕ) (x : X) → At xs i x → (front : List X) × (back : List X) × (xs ≡ front ++ x ∷ back) × (length front ≡ i)
 cut_at [] i x e = cc
-cut_at (y ∷ ys) zero x e = ([], ys, ap (λ z. z ∷ ys) (some_same y x e), refl)
+cut_at (y ∷ ys) zero x e = ([], ys, ap (λ z. z ∷ ys) (same_Some y x e), refl)
 cut_at (y ∷ ys) (suc i) x e = let r = cut_at ys i x e in (y ∷ r.0, r.1, ap (λ zs. y ∷ zs) r.2, ap suc r.3)
 
 pub inner-append : (xs ys : List Turn) → inner_turns (xs ++ ys) ≡ inner_turns xs ++ inner_turns ys

@@ -1,7 +1,10 @@
 -- Turns that are alone in their lines, and the placement that they meet.
 use Rattle.std.proofs.Common.{◌≡◌, ℕ, zero, suc, ◌<◌, ◌≤◌, ◌+◌, List, [], ◌∷◌, ◌++◌, take, length, refl, sym, ap, ◌∙◌, subst, inl, inr, arith, append-nil, Bool}
 use Rattle.std.specs.Prelude.{◌⊎◌, Some, None, Option}
+use Rattle.std.proofs.lemmas.Option.{same_Some}
+use Rattle.std.proofs.lemmas.List.{take-append-le}
 use Rattle.m3_model.proofs.SplitLemmas.{not_empty}
+use Rattle.m3_model.proofs.Lists.{take_whole}
 use Rattle.m3_model.specs.declared.placement.Placement.{Placement}
 use Rattle.m3_model.specs.declared.rules.MetaState.{MetaState}
 use Rattle.m3_model.specs.declared.turn.Turn.{Turn}
@@ -10,13 +13,13 @@ use Rattle.cluster_core.specs.Legal.{Legal}
 use Rattle.cluster_core.specs.Lists.{At}
 use Rattle.cluster_core.specs.declared.event.Event.{Event}
 use Rattle.cluster_core.specs.declared.event.Event.TheVariants as event
-use Rattle.cluster_core.proofs.ListLemmas.{along, at_some, fold_suc, some_same}
+use Rattle.cluster_core.proofs.ListLemmas.{along, at_some, fold_suc}
 use Rattle.cluster_core.proofs.PlaceLemmas.{place_cases}
 use Rattle.transcripts.specs.Placements.{printed}
 use Rattle.transcripts.specs.Record.{InnerTurn, IsInLine, TurnPosition, IsTurnPosition, client_at, inner_turns, joined, lists_of}
 use Rattle.told_by.specs.Spans.{IsAlone}
 use Rattle.told_by.specs.Told.{ToldBy}
-use Rattle.told_by.proofs.LineLemmas.{line_below, take_all, take_front}
+use Rattle.told_by.proofs.LineLemmas.{line_below}
 use Rattle.told_by.proofs.PrintedLemmas.{ends_grow}
 use Rattle.told_by.proofs.TurnLemmas.{at_cut, cut_same}
 use Rattle.told_causes.specs.Boot.{HasOneTurn}
@@ -51,7 +54,7 @@ pub alone_position : (turns : List Turn) (q b : TurnPosition) → IsAlone turns 
 alone_position turns q b alone qa ba same =
     let cut = cut_same b.lines b.line ba.after q.lines q.line qa.after (sym ba.in_run ∙ qa.in_run) same in
     let there : At turns (length q.lines) q.line = subst (λ ts. At ts (length q.lines) q.line) (sym qa.in_run) (at_cut q.lines q.line qa.after) in
-    let line : q.line ≡ alone.0 = some_same q.line alone.0 (sym there ∙ alone.1) in
+    let line : q.line ≡ alone.0 = same_Some q.line alone.0 (sym there ∙ alone.1) in
     let here = only_at alone.0 q.turn alone.2 q line qa.stands in
     let other = only_at alone.0 q.turn alone.2 b (cut.heres ∙ line) ba.stands in
     by b q cut.fronts cut.heres (other.client ∙ sym here.client) (other.earlier ∙ sym here.earlier) (other.beside ∙ sym here.beside) (other.turn ∙ sym here.turn)
@@ -85,13 +88,13 @@ take_none (x ∷ xs) = refl
 pub one_alone : (turns : List Turn) (q : TurnPosition) → IsTurnPosition turns q → HasOneTurn turns (length q.lines) → IsAlone turns q
 one_alone turns q at one =
     let there : At turns (length q.lines) q.line = subst (λ ts. At ts (length q.lines) q.line) (sym at.in_run) (at_cut q.lines q.line at.after) in
-    let here = only_at one.0 one.1 one.3 q (some_same q.line one.0 (sym there ∙ one.2)) at.stands in
+    let here = only_at one.0 one.1 one.3 q (same_Some q.line one.0 (sym there ∙ one.2)) at.stands in
     (one.0, one.2, one.3 ∙ ap (λ (u : InnerTurn). (u ∷ []) ∷ []) (sym here.turn))
 
 module _ {tells : Bool} (start : Option MetaState) (turns : List Turn) (events : List Event) (legal : Legal tells events) (told : ToldBy start turns events) where
   -- the lines before a turn are the first of the run
   pub lines_before : (q : TurnPosition) → IsTurnPosition turns q → take (length q.lines) turns ≡ q.lines
-  lines_before q at = ap (take (length q.lines)) at.in_run ∙ take_front q.lines (q.line ∷ at.after) (length q.lines) (omega arith) ∙ take_all q.lines
+  lines_before q at = ap (take (length q.lines)) at.in_run ∙ take-append-le (length q.lines) q.lines (q.line ∷ at.after) (omega arith) ∙ take_whole q.lines
 
   -- where a turn is alone in its line, it made the Places there
   pub own_place : (q : TurnPosition) → IsTurnPosition turns q → HasOneTurn turns (length q.lines) → (i : ℕ) (place : Placement) (done : List (ℕ × ℕ)) → told.ends (length q.lines) ≤ i → i < told.ends (suc (length q.lines)) → At events i (event.Place place done)
@@ -140,7 +143,7 @@ module _ {tells : Bool} (events : List Event) (legal : Legal tells events) where
       (λ m e le there was place last. elim (place_cases (last_place (take m events)) e) as (λ _. StandsFrom j (suc m) place) [
         | inl same ↦ stands_longer j m place (was place (sym (fold_suc place_after None events m e there ∙ same) ∙ last))
         | inr placed ↦
-            let it : placed.0 ≡ place = some_same placed.0 place (sym (fold_suc place_after None events m e there ∙ placed.3) ∙ last) in
+            let it : placed.0 ≡ place = same_Some placed.0 place (sym (fold_suc place_after None events m e there ∙ placed.3) ∙ last) in
             inr (m, placed.1, le, omega arith, subst (λ q. At events m (event.Place q placed.1)) it (there ∙ ap Some placed.2))
       ])
       k low high

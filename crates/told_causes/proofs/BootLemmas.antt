@@ -1,8 +1,10 @@
 -- A replica that isn't begun waits for a bootstrap.
 use Rattle.std.proofs.Common.{◌≡◌, ℕ, zero, suc, ◌<◌, ◌≤◌, ◌+◌, ◌-◌, List, [], ◌∷◌, ◌++◌, take, length, refl, sym, ap, ◌∙◌, subst, inl, inr, arith, Bool, true, false, append-nil}
-use Rattle.std.specs.Prelude.{◌⊎◌, Some, None, Option, nat_eq, ◌&&◌, ◌||◌, is_some}
+use Rattle.std.specs.Prelude.{◌⊎◌, Some, None, Option, nat_eq, ◌&&◌, is_some}
 use Rattle.std.specs.Cmp.Lexicographic.{pointwise}
-use Rattle.std.proofs.lemmas.Bool.{cases_eq, cases_lt}
+use Rattle.std.proofs.lemmas.Bool.{cases_eq, cases_lt, or_left, cases_Bool, and_parts, or_right}
+use Rattle.std.proofs.lemmas.Option.{same_Some}
+use Rattle.std.proofs.lemmas.List.{take-append-le}
 use Rattle.m3_model.specs.Members.{IsIn}
 use Rattle.m3_model.specs.declared.act.Act.{Act}
 use Rattle.m3_model.specs.declared.act.Act.TheVariants as act
@@ -28,7 +30,7 @@ use Rattle.cluster_core.specs.declared.event.StepCall.TheVariants as call
 use Rattle.cluster_core.specs.declared.event.StepReply.{StepReply}
 use Rattle.cluster_core.specs.declared.event.StepReply.TheVariants as reply
 use Rattle.cluster_core.specs.declared.replica_state.ReplicaState.{ReplicaState}
-use Rattle.cluster_core.proofs.ListLemmas.{at_some, at_take, some_same}
+use Rattle.cluster_core.proofs.ListLemmas.{at_some, at_take}
 use Rattle.cluster_core.proofs.PlaceLemmas.{placed_at}
 use Rattle.cluster_core.proofs.TraceLemmas.{lawful_step, replica_own, replica_suc, step_cases}
 use Rattle.transcripts.specs.Fates.{OfNode}
@@ -41,7 +43,7 @@ use Rattle.told_by.specs.Openings.{IsInitOf, opening_length, sets_seed}
 use Rattle.told_by.specs.Spans.{From}
 use Rattle.told_by.specs.Told.{ToldBy}
 use Rattle.told_by.proofs.LeaveLemmas.{place_there}
-use Rattle.told_by.proofs.LineLemmas.{line_below, take_front}
+use Rattle.told_by.proofs.LineLemmas.{line_below}
 use Rattle.told_by.proofs.OpeningLemmas.{first_event}
 use Rattle.told_by.proofs.PrintedLemmas.{after_up, ends_within, placements_stand}
 use Rattle.told_by.proofs.TurnLemmas.{alone_is, at_cut, cut_at, own_list, position_in}
@@ -52,7 +54,7 @@ use Rattle.told_causes.specs.Standing.{IsHaltAct}
 use Rattle.told_causes.proofs.HaltLemmas.{last_name, late_step, one_line, opening_low}
 use Rattle.told_causes.proofs.NameLemmas.{name_is}
 use Rattle.told_causes.proofs.RefusalLemmas.{first_boot, first_down, refused_law}
-use Rattle.told_causes.proofs.WaitLemmas.{EndsWait, MemberAt, and_both, assigned_by, member_at, member_given, member_place, or_right, placed, placed_next, restart_waits, waiting, waiting_place, waits_next, waits_on}
+use Rattle.told_causes.proofs.WaitLemmas.{EndsWait, MemberAt, assigned_by, member_at, member_given, member_place, placed, placed_next, restart_waits, waiting, waiting_place, waits_next, waits_on}
 
 -- ---- one step
 
@@ -83,10 +85,6 @@ boot_by r call.Stop reply.Done e = absurd (let bad : standing.Down ≡ standing.
 boot_by r (call.Begin tenure) (reply.Began fence points) e = absurd (let bad : standing.Open ≡ standing.Boot = e in cc)
 boot_by r (call.Begin tenure) a e = inl e
 boot_by r _ _ e = inl e
-
-pub true_or_not : (b : Bool) → (b ≡ true) ⊎ (b ≡ false)
-true_or_not true = inl refl
-true_or_not false = inr refl
 
 -- an act that sets the seed is an `init`
 record IsInit (a : Act) (b : Answer) : Type 0 where
@@ -354,7 +352,7 @@ module _ {tells : Bool} (start : Option MetaState) (turns : List Turn) (events :
           ∙ ap (λ b. later_placement (printed b) None) init.answered in
           let m = member_at init.place s n (subst (λ o. has_replica o s n ≡ true) printed_is member) in
           let i = init_of q.turn.act q.turn.answer init.sets in
-          let same : i.place ≡ init.place = some_same i.place init.place (ap printed (sym i.answered ∙ init.answered)) in
+          let same : i.place ≡ init.place = same_Some i.place init.place (ap printed (sym i.answered ∙ init.answered)) in
           let hears : HearsOpened (InStretch events ((told.spans).from q) ((told.spans).to q)) init.place =
           subst (HearsOpened (InStretch events ((told.spans).from q) ((told.spans).to q))) same
           (subst (λ b. HearsBy start (take ((told.spans).from q) events) (InStretch events ((told.spans).from q) ((told.spans).to q)) q (act.Init i.rf i.shards i.seed i.nodes) b) i.answered
@@ -405,13 +403,13 @@ module _ {tells : Bool} (start : Option MetaState) (turns : List Turn) (events :
           let cut = cut_at turns k line there in
           let q = position_in turns cut.0 line cut.1 cut.2 t m in
           let line_is : length (q.0).lines ≡ k = ap length q.3 ∙ cut.3 in
-          let ends = and_both _ _ h.ends in
-          let named = and_both (pointwise nat_eq name h.node) (is_covering s h.asked) ends.1 in
-          let stays = and_both (is_member x (placed x start turns k)) (is_member x (placed x start turns (suc k))) ends.0 in
+          let ends = and_parts _ _ h.ends in
+          let named = and_parts (pointwise nat_eq name h.node) (is_covering s h.asked) ends.1 in
+          let stays = and_parts (is_member x (placed x start turns k)) (is_member x (placed x start turns (suc k))) ends.0 in
           boot_clash k (told.ends (suc k)) boots q.0 q.1 line_is (omega (arith, (told.lines).high q.0 q.1, ap (λ m. told.ends (suc m)) line_is)) stays.0 (by_met q.0 q.1 line_is stays.0 stays.1) h.node h.asked h.available h.place h.version (ap (λ (u : InnerTurn). u.act) q.2 ∙ h.act_is)
           (ap (λ (u : InnerTurn). u.answer) q.2 ∙ h.answered) (name_is name h.node named.0) named.1
   by_line k less boots (inr never) =
-      elim (true_or_not (is_member x (placed x start turns (suc k)))) as (λ _. Waits (suc k)) [
+      elim (cases_Bool (is_member x (placed x start turns (suc k)))) as (λ _. Waits (suc k)) [
         | inr gone ↦ inr (λ j high. elim (cases_eq j (suc k)) as (λ _. is_member x (placed x start turns j) ≡ false) [
           | inl now ↦ subst (λ m. is_member x (placed x start turns m) ≡ false) (sym now) gone
           | inr other ↦ never j (omega (arith, high, other))
@@ -425,14 +423,10 @@ module _ {tells : Bool} (start : Option MetaState) (turns : List Turn) (events :
           let line = line_at k less in
           let assigned : is_assigned x (placed x start turns k) (placed x start turns (suc k)) ≡ true = assigned_by (is_some (placed x start turns k)) (is_member x (placed x start turns k)) (is_member x (placed x start turns (suc k))) (ap is_some is) (never k (omega arith)) member in
           inl (waits_next x start turns k line.0 line.1 (place_is k (omega (arith, less))) ∙ or_left _ _ assigned)
-        where
-          or_left : (a b : Bool) → a ≡ true → (a || b) ≡ true
-          or_left true b e = refl
-          or_left false b e = cc
 
   at_first : Waits 0
   at_first =
-      elim (true_or_not (is_member x (start_placement start))) as (λ _. Waits 0) [
+      elim (cases_Bool (is_member x (start_placement start))) as (λ _. Waits 0) [
         | inl member ↦ inl (ap (λ ls. (waiting_after x start ls).waits) (take_none turns) ∙ member)
         | inr gone ↦ inr (λ j high. let none : j ≡ 0 = omega (arith, high) in ap (λ m. is_member x (placed x start turns m)) none ∙ ap (λ ls. is_member x (placement_after (start_placement start) (inner_turns ls))) (take_none turns) ∙ gone)
       ]
@@ -472,9 +466,9 @@ module _ {tells : Bool} (start : Option MetaState) (turns : List Turn) (events :
           let k = length p.lines in
           let before_p = (told.tells).order.order q.position p q.in_run at (inr (ap length q.lines_are, q.client_is, q.earlier)) in
           let finishes : (told.spans).to q.position ≤ i = omega (arith, before_p, low) in
-          let ends = and_both _ _ h.ends in
-          let named = and_both (pointwise nat_eq name h.node) (is_covering s h.asked) ends.1 in
-          let both = and_both (is_member x (waiting_after x start p.lines).place) (is_member x after) ends.0 in
+          let ends = and_parts _ _ h.ends in
+          let named = and_parts (pointwise nat_eq name h.node) (is_covering s h.asked) ends.1 in
+          let both = and_parts (is_member x (waiting_after x start p.lines).place) (is_member x after) ends.0 in
           let member : is_member x (placed x start turns k) ≡ true = ap (is_member x) (sym stood_before) ∙ both.0 in
           boot_clash k i boots q.position q.in_run (ap length q.lines_are) finishes member
           (λ place last. member_before start turns events legal told places p at ((told.spans).from q.position) (omega (arith, (told.lines).low q.position q.in_run, ap (λ ls. told.ends (length ls)) q.lines_are)) (omega (arith, (told.tells).order.not_back q.position q.in_run, before_p)) place last n s member (ap (is_member x) (sym after_is) ∙ both.1))
@@ -489,7 +483,7 @@ module _ {tells : Bool} (start : Option MetaState) (turns : List Turn) (events :
       by_waits boots (inr never) =
           let j = was.lines in
           let not_later = was.not_later in
-          let same : take j p.lines ≡ take j turns = sym (ap (take j) at.in_run ∙ take_front p.lines (p.line ∷ at.after) j not_later) in
+          let same : take j p.lines ≡ take j turns = sym (ap (take j) at.in_run ∙ take-append-le j p.lines (p.line ∷ at.after) not_later) in
           absurd (let bad : true ≡ false = sym was.member ∙ ap (λ ls. has_replica (placement_after (start_placement start) (inner_turns ls)) s n) same ∙ never j not_later in cc)
 
       by_how : (from : ℕ) → ((m : ℕ) → from ≤ m → m ≤ i → BootAt m) → (from ≡ told.ends (length p.lines)) ⊎ ((m : ℕ) × (suc m ≡ from) × (told.ends (length p.lines) ≤ m) × At events m (event.Step n s call.Restart reply.Done)) → length p.lines < length turns

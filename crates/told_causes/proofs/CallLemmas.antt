@@ -9,6 +9,7 @@ use Rattle.std.proofs.Common.{◌≡◌, ℕ, suc, ◌<◌, ◌≤◌, ◌+◌, 
 use Rattle.std.specs.Prelude.{Option, Some, None, nat_le, if◌then◌else◌, slice_get}
 use Rattle.std.specs.Option.{option_or}
 use Rattle.std.proofs.lemmas.Bool.{leb-true}
+use Rattle.std.proofs.lemmas.Option.{same_Some}
 use Rattle.m3_model.specs.Calls.{is_call}
 use Rattle.m3_model.specs.Members.{IsIn}
 use Rattle.m3_model.specs.Rules.{InWindow, IsPast, IsFuture}
@@ -36,7 +37,6 @@ use Rattle.cluster_core.specs.declared.event.StepCall.TheVariants as call
 use Rattle.cluster_core.specs.declared.event.StepReply.{StepReply}
 use Rattle.cluster_core.specs.declared.event.StepReply.TheVariants as reply
 use Rattle.cluster_core.specs.declared.replica_state.ReplicaState.{ReplicaState}
-use Rattle.cluster_core.proofs.ListLemmas.{some_same}
 use Rattle.cluster_core.proofs.TraceLemmas.{lawful_step}
 use Rattle.m3_model.specs.Hash.{shard_of}
 use Rattle.m3_model.specs.Levels.{needed_write}
@@ -68,24 +68,24 @@ IsOfMoment reason.Future = Unit {0}
 IsOfMoment _ = ⊥
 
 shut_not : (x : Standing) (why : Reason) → IsOfMoment why → shut x ≡ Some why → ⊥
-shut_not standing.Down why h e = subst IsOfMoment (sym (some_same reason.Down why e)) h
-shut_not standing.Boot why h e = subst IsOfMoment (sym (some_same reason.Boot why e)) h
+shut_not standing.Down why h e = subst IsOfMoment (sym (same_Some reason.Down why e)) h
+shut_not standing.Boot why h e = subst IsOfMoment (sym (same_Some reason.Boot why e)) h
 shut_not standing.Open why h e = cc
 
 unowned_not : (o : Option ℕ) (version : ℕ) (why : Reason) → IsOfMoment why → unowned o version ≡ Some why → ⊥
-unowned_not None version why h e = subst IsOfMoment (sym (some_same reason.NotOwned why e)) h
+unowned_not None version why h e = subst IsOfMoment (sym (same_Some reason.NotOwned why e)) h
 unowned_not (Some tenure) version why h e = by (nat_le tenure version) e
   where
     by : (b : Bool) → (if b then None else Some reason.NotOwned) ≡ Some why → ⊥
     by true e = cc
-    by false e = subst IsOfMoment (sym (some_same reason.NotOwned why e)) h
+    by false e = subst IsOfMoment (sym (same_Some reason.NotOwned why e)) h
 
 outdated_not : (fence version : ℕ) (why : Reason) → IsOfMoment why → outdated fence version ≡ Some why → ⊥
 outdated_not fence version why h e = by (nat_le fence version) e
   where
     by : (b : Bool) → (if b then None else Some (reason.Stale fence)) ≡ Some why → ⊥
     by true e = cc
-    by false e = subst IsOfMoment (sym (some_same (reason.Stale fence) why e)) h
+    by false e = subst IsOfMoment (sym (same_Some (reason.Stale fence) why e)) h
 
 -- a put that is refused for its moment is outside
 pub put_outside : (r : ReplicaState) (client number version : ℕ) (rules : Rules) (point : Point) (why : Reason) → IsOfMoment why → first_refusal r (call.Put client number rules version point) ≡ Some why → outside rules point ≡ Some why
@@ -227,7 +227,7 @@ taken_said start turns events legal told p in_run place shard node h = served_ta
 pub served_reached : (start : Option MetaState) (events : List Event) (spans : Spans) (p : TurnPosition) (place : Placement) (shard node : ℕ) → HasServed start (Within events spans p) p place shard node → OfNode place node (λ name. is_stopped (inner_turns p.lines) name ≡ false) → reaches p place node ≡ true
 served_reached start events spans p place shard node h up =
     let sent = h.3 in
-    let same : (up.instance_).name ≡ (sent.instance_).name = ap (λ (i : Instance). i.name) (some_same up.instance_ sent.instance_ (sym up.stands ∙ sent.stands)) in
+    let same : (up.instance_).name ≡ (sent.instance_).name = ap (λ (i : Instance). i.name) (same_Some up.instance_ sent.instance_ (sym up.stands ∙ sent.stands)) in
     ap (λ o. option_map_or (λ (i : Instance). is_reached p i.name) o false) sent.stands
     ∙ ap (λ b. not b && not (is_stopped (inner_turns p.lines) (sent.instance_).name)) sent.holds
     ∙ ap (λ b. not b) (ap (is_stopped (inner_turns p.lines)) (sym same) ∙ up.holds)
@@ -236,7 +236,7 @@ pub acks_said : {tells : Bool} → AcksAreSaid tells
 acks_said start turns events legal told p in_run halts names ns id t v level version nodes acts answers =
     let h : HearsAcks start (Within events told.spans p) p nodes =
     subst (λ b. HearsBy start (take ((told.spans).from p) events) (Within events told.spans p) p p.turn.act b) answers ((told.tells).hears p in_run) in
-    let is : record { id = Some id; version = version; needed = needed_write level } ≡ h.call = some_same (record { id = Some id; version = version; needed = needed_write level }) h.call (sym (ap call_of acts) ∙ h.of_call) in
+    let is : record { id = Some id; version = version; needed = needed_write level } ≡ h.call = same_Some (record { id = Some id; version = version; needed = needed_write level }) h.call (sym (ap call_of acts) ∙ h.of_call) in
     let shard = shard_of id (seed_at start p) (length (h.place).shards) in
     let asks : AsksShard start p h.place (h.call).id shard = subst (λ (c : Call). AsksShard start p h.place c.id shard) is refl in
     record {

@@ -4,7 +4,7 @@ use Rattle.std.specs.Prelude.{◌⊎◌, Option, Some, None, ◌&&◌, ◌||◌,
 use Rattle.std.specs.List.{list_any}
 use Rattle.std.specs.Option.{option_map_or}
 use Rattle.std.proofs.lemmas.List.Sums.{sum_by-append}
-use Rattle.std.proofs.lemmas.Bool.{cases_eq, eq-eqb, eqb-true}
+use Rattle.std.proofs.lemmas.Bool.{cases_eq, eq-eqb, eqb-true, or_right, and_parts, and_from}
 use Rattle.m3_model.specs.Members.{IsIn}
 use Rattle.cluster_core.specs.Lists.{At}
 use Rattle.cluster_core.specs.declared.event.Event.{Event}
@@ -16,14 +16,6 @@ use Rattle.transcripts.specs.Faults.{AreDifferent, Fault, FaultKind, Taking, Fai
 use Rattle.told_causes.specs.Faults.{FaultsAreDifferent, FaultsAreFew, FaultsAreSteps, IsToldOf, StepsAreFaults, fault_of, at_first_line, faults_told, is_same_fault, is_same_kind, line_events, with_fault, with_line, tells_of}
 
 -- ---- equal faults
-
-both : (a b : Bool) → a ≡ true → b ≡ true → (a && b) ≡ true
-both true b e f = f
-both false b e f = cc
-
-parts : (a b : Bool) → (a && b) ≡ true → (a ≡ true) × (b ≡ true)
-parts true b e = (refl, e)
-parts false b e = cc
 
 kind_self : (k : FaultKind) → is_same_kind k k ≡ true
 kind_self Taking = refl
@@ -37,13 +29,13 @@ kind_is Damaged Damaged e = refl
 kind_is _ _ e = cc
 
 fault_self : (f : Fault) → is_same_fault f f ≡ true
-fault_self f = both (nat_eq f.line f.line && nat_eq f.node f.node) (nat_eq f.shard f.shard && is_same_kind f.kind f.kind) (both (nat_eq f.line f.line) (nat_eq f.node f.node) (eq-eqb f.line f.line refl) (eq-eqb f.node f.node refl)) (both (nat_eq f.shard f.shard) (is_same_kind f.kind f.kind) (eq-eqb f.shard f.shard refl) (kind_self f.kind))
+fault_self f = and_from (nat_eq f.line f.line && nat_eq f.node f.node) (nat_eq f.shard f.shard && is_same_kind f.kind f.kind) (and_from (nat_eq f.line f.line) (nat_eq f.node f.node) (eq-eqb f.line f.line refl) (eq-eqb f.node f.node refl)) (and_from (nat_eq f.shard f.shard) (is_same_kind f.kind f.kind) (eq-eqb f.shard f.shard refl) (kind_self f.kind))
 
 fault_is : (f g : Fault) → is_same_fault f g ≡ true → f ≡ g
 fault_is f g e =
-    let halves = parts (nat_eq f.line g.line && nat_eq f.node g.node) (nat_eq f.shard g.shard && is_same_kind f.kind g.kind) e in
-    let first = parts (nat_eq f.line g.line) (nat_eq f.node g.node) halves.0 in
-    let second = parts (nat_eq f.shard g.shard) (is_same_kind f.kind g.kind) halves.1 in
+    let halves = and_parts (nat_eq f.line g.line && nat_eq f.node g.node) (nat_eq f.shard g.shard && is_same_kind f.kind g.kind) e in
+    let first = and_parts (nat_eq f.line g.line) (nat_eq f.node g.node) halves.0 in
+    let second = and_parts (nat_eq f.shard g.shard) (is_same_kind f.kind g.kind) halves.1 in
     let line : f.line ≡ g.line = eqb-true f.line g.line first.0 in
     let node : f.node ≡ g.node = eqb-true f.node g.node first.1 in
     let shard : f.shard ≡ g.shard = eqb-true f.shard g.shard second.0 in
@@ -57,10 +49,6 @@ among_any f (g ∷ faults) h =
       | inl same ↦ ap (λ b. b || list_any (is_same_fault f) faults) (ap (is_same_fault f) same ∙ fault_self f)
       | inr later ↦ or_right (is_same_fault f g) (list_any (is_same_fault f) faults) (among_any f faults later)
     ]
-  where
-    or_right : (a b : Bool) → b ≡ true → (a || b) ≡ true
-    or_right true b e = refl
-    or_right false b e = e
 
 any_among : (f : Fault) (faults : List Fault) → list_any (is_same_fault f) faults ≡ true → IsIn faults f
 any_among f [] e = cc

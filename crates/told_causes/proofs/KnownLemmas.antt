@@ -1,6 +1,7 @@
 -- What is asked of a call is so of the read of the short run.
 use Rattle.std.proofs.Common.{◌≡◌, ℕ, zero, suc, List, [], ◌∷◌, ◌++◌, length, refl, sym, ap, ◌∙◌, subst, inl, inr, true, false}
 use Rattle.std.specs.Prelude.{Option, Some, None, slice_get}
+use Rattle.std.proofs.lemmas.Option.{same_Some}
 use Rattle.m3_model.specs.Levels.{needed_read}
 use Rattle.m3_model.specs.Members.{IsIn}
 use Rattle.m3_model.specs.declared.act.ReadLevel.TheVariants as level
@@ -18,7 +19,6 @@ use Rattle.cluster_core.specs.declared.event.Event.{Event}
 use Rattle.cluster_core.specs.declared.event.Event.TheVariants as event
 use Rattle.cluster_core.specs.declared.event.StepCall.{StepCall}
 use Rattle.cluster_core.specs.declared.event.StepReply.TheVariants as reply
-use Rattle.cluster_core.proofs.ListLemmas.{some_same}
 use Rattle.told_by.specs.Hears.{IsHeard, IsNamedBy}
 use Rattle.told_by.specs.Lines.{position_after}
 use Rattle.told_by.specs.Sample.{events, fetched, name, place, series, turns}
@@ -68,7 +68,7 @@ no_fault i line x fault there tells = each_at (λ k y. fault_of line y ≡ Some 
 
 -- the read uses the one placement
 stood_is : (p : Placement) (stood others : List InnerTurn) → AreSomeOf others [] → stood ≡ inner_turns lines_before ++ ([] ++ others) → placement_after None stood ≡ Some p → place ≡ p
-stood_is p stood [] some are stands = some_same place p (ap (placement_after None) (sym are) ∙ stands)
+stood_is p stood [] some are stands = same_Some place p (ap (placement_after None) (sym are) ∙ stands)
 stood_is p stood (t ∷ others) some are stands = absurd some
 
 by_version : (p : Placement) (version : Option ℕ) → None ≡ version → MayUse None reading version p → place ≡ p
@@ -78,14 +78,14 @@ by_version p (Some v) e h = absurd (let bad : None ≡ Some v = e in cc)
 used_is : (p : Placement) → IsUsedBy None reading p → place ≡ p
 used_is p h =
     let own : Call = record { id = Some name; version = None; needed = needed_read level.Majority } in
-    by_version p (h.call).version (ap (λ (c : Call). c.version) (some_same own h.call h.of_act)) h.may_use
+    by_version p (h.call).version (ap (λ (c : Call). c.version) (same_Some own h.call h.of_act)) h.may_use
 
 -- ---- nodes
 
 named_by : IsNamedBy events 0 name
 named_by i p done own there is =
     let here : slice_get place.instances 0 ≡ Some own = ap (λ (q : Placement). slice_get q.instances 0) (one_place i p done there) ∙ is in
-    let same : node ≡ own = some_same node own here in
+    let same : node ≡ own = same_Some node own here in
     ap (λ (x : Instance). x.name) (sym same)
 
 named_once : (p : Placement) (n : ℕ) → place ≡ p → (i : Instance) → slice_get p.instances n ≡ Some i → IsNamedOnce events p n

@@ -2,7 +2,6 @@
 use Rattle.transcripts.specs.Fates.{reaches}
 use Rattle.m3_model.specs.declared.answer.Answer.TheVariants as answer
 use Rattle.cluster_core.proofs.QuorumLemmas.{dec_in, distinct_within}
-use Rattle.placement_core.proofs.ListLemmas.{filter-IsIn}
 use Rattle.std.specs.Prelude.{filter}
 use Rattle.std.proofs.lemmas.List.Sums.{length-filter}
 use Rattle.m3_model.specs.declared.act.ReadLevel.{ReadLevel}
@@ -17,14 +16,15 @@ use Rattle.told_causes.proofs.CallLemmas.{reasons_said, served_reached, taken_sa
 use Rattle.told_causes.proofs.RunLemmas.{who_served}
 use Rattle.std.proofs.Common.{◌≡◌, ℕ, ◌≤◌, List, take, length, refl, sym, ap, ◌∙◌, subst, inl, inr, arith, Bool, true, false}
 use Rattle.std.specs.Prelude.{Option, Some, None, map}
+use Rattle.std.proofs.lemmas.Option.{same_Some}
 use Rattle.m3_model.specs.Members.{IsIn}
 use Rattle.m3_model.specs.declared.act.Act.TheVariants as act
 use Rattle.m3_model.specs.declared.placement.Placement.{Placement}
 use Rattle.m3_model.specs.declared.reason.Reason.{Reason}
 use Rattle.m3_model.specs.declared.rules.MetaState.{MetaState}
 use Rattle.m3_model.specs.declared.turn.Turn.{Turn}
+use Rattle.m3_model.proofs.Lists.{filter-IsIn}
 use Rattle.cluster_core.specs.declared.event.Event.{Event}
-use Rattle.cluster_core.proofs.ListLemmas.{some_same}
 use Rattle.transcripts.specs.Calls.{AsksShard, Call, call_of}
 use Rattle.transcripts.specs.Placements.{MayUse}
 use Rattle.transcripts.specs.Record.{TurnPosition}
@@ -83,7 +83,7 @@ found_said start turns events told p known id level version series short calls s
     subst (λ b. HearsBy start (take ((told.spans).from p) events) (Within events told.spans p) p p.turn.act b) answers ((told.tells).hears p known.in_run) in
     let used : IsUsedBy start p h.place = record { call = h.call; of_act = h.of_call; may_use = h.may_use } in
     let own : Call = record { id = id; version = version; needed = needed_read level } in
-    let is : own ≡ h.call = some_same own h.call (sym calls ∙ h.of_call) in
+    let is : own ≡ h.call = same_Some own h.call (sym calls ∙ h.of_call) in
     let here : (shard : ℕ) → AsksShard start p h.place id shard → AsksShard start p h.place (h.call).id shard = λ shard asked. subst (λ (c : Call). AsksShard start p h.place c.id shard) is asked in
     record {
       place = h.place;

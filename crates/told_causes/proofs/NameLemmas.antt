@@ -6,6 +6,7 @@ use Rattle.std.specs.Cmp.Lexicographic.{pointwise}
 use Rattle.std.proofs.lemmas.Bool.Decides.{Decides-eqb}
 use Rattle.std.proofs.lemmas.List.Sums.{fold-append}
 use Rattle.std.proofs.lemmas.Slice.Eq.{slice_eq-Decides}
+use Rattle.std.proofs.lemmas.Bool.{or_parts}
 use Rattle.m3_model.specs.Members.{IsIn}
 use Rattle.m3_model.specs.declared.act.Act.{Act}
 use Rattle.m3_model.specs.declared.act.Act.TheVariants as act
@@ -61,14 +62,10 @@ stays_by name (act.Stop node) answer.Done e = by_test (pointwise nat_eq name nod
 stays_by name (act.Restart node pick) answer.Done e = ap (λ t. cond t false true) e
 stays_by name _ _ e = refl
 
-parts_of : (a b : Bool) → (a || b) ≡ false → (a ≡ false) × (b ≡ false)
-parts_of true b e = cc
-parts_of false b e = (refl, e)
-
 stays_stopped : (name : List ℕ) (turns : List InnerTurn) → list_any (is_restart name) turns ≡ false → fold (λ before turn. stopped_by name turn.act turn.answer before) true turns ≡ true
 stays_stopped name [] e = refl
 stays_stopped name (t ∷ turns) e =
-    let p = parts_of (is_restart name t) (list_any (is_restart name) turns) e in
+    let p = or_parts (is_restart name t) (list_any (is_restart name) turns) e in
     ap (λ b. fold (λ before turn. stopped_by name turn.act turn.answer before) b turns) (stays_by name t.act t.answer p.0) ∙ stays_stopped name turns p.1
 
 -- ---- lines

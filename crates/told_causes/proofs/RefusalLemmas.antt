@@ -2,6 +2,7 @@
 use Rattle.std.proofs.Common.{◌≡◌, ℕ, List, refl, subst, inl, inr, Bool, true, false}
 use Rattle.std.specs.Prelude.{◌⊎◌, Option, Some, None, nat_le, if◌then◌else◌, slice_get, ◌+◌}
 use Rattle.std.specs.Option.{option_or}
+use Rattle.std.proofs.lemmas.Option.{same_Some}
 use Rattle.m3_model.specs.declared.point.Point.{Point}
 use Rattle.m3_model.specs.declared.reason.Reason.{Reason}
 use Rattle.m3_model.specs.declared.reason.Reason.TheVariants as reason
@@ -9,7 +10,6 @@ use Rattle.m3_model.specs.declared.replica.Standing.{Standing}
 use Rattle.m3_model.specs.declared.replica.Standing.TheVariants as standing
 use Rattle.m3_model.specs.declared.rules.Rules.{Rules}
 use Rattle.m3_model.specs.declared.rules.Space.{Space}
-use Rattle.cluster_core.proofs.ListLemmas.{some_same}
 use Rattle.cluster_core.specs.Rows.{LawfulStep, ReplicaMayRefuse}
 use Rattle.cluster_core.specs.declared.event.Event.{Event}
 use Rattle.cluster_core.specs.declared.event.StepReply.TheVariants as reply
@@ -29,15 +29,15 @@ IsLate reason.Boot = ⊥
 IsLate _ = Unit {0}
 
 unowned_late : (o : Option ℕ) (version : ℕ) (why : Reason) → unowned o version ≡ Some why → IsLate why
-unowned_late None version why e = subst IsLate (some_same reason.NotOwned why e) tt
+unowned_late None version why e = subst IsLate (same_Some reason.NotOwned why e) tt
 unowned_late (Some tenure) version why e = by (nat_le tenure version) e
   where
     by : (b : Bool) → (if b then None else Some reason.NotOwned) ≡ Some why → IsLate why
     by true e = cc
-    by false e = subst IsLate (some_same reason.NotOwned why e) tt
+    by false e = subst IsLate (same_Some reason.NotOwned why e) tt
 
 untenured_late : (o : Option ℕ) (why : Reason) → untenured o ≡ Some why → IsLate why
-untenured_late None why e = subst IsLate (some_same reason.NotOwned why e) tt
+untenured_late None why e = subst IsLate (same_Some reason.NotOwned why e) tt
 untenured_late (Some tenure) why e = cc
 
 outdated_late : (fence version : ℕ) (why : Reason) → outdated fence version ≡ Some why → IsLate why
@@ -45,10 +45,10 @@ outdated_late fence version why = by (nat_le fence version)
   where
     by : (b : Bool) → (if b then None else Some (reason.Stale fence)) ≡ Some why → IsLate why
     by true e = cc
-    by false e = subst IsLate (some_same (reason.Stale fence) why e) tt
+    by false e = subst IsLate (same_Some (reason.Stale fence) why e) tt
 
 if_late : (b : Bool) (own why : Reason) → IsLate own → reason_if b own ≡ Some why → IsLate why
-if_late true own why late e = subst IsLate (some_same own why e) late
+if_late true own why late e = subst IsLate (same_Some own why e) late
 if_late false own why late e = cc
 
 outside_late : (rules : Rules) (p : Point) (o : Option Space) (why : Reason) → outside_of rules p o ≡ Some why → IsLate why

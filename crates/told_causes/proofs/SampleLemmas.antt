@@ -1,6 +1,7 @@
 -- The run that hears of a replica which nobody began.
 use Rattle.std.proofs.Common.{◌≡◌, ℕ, zero, suc, ◌+◌, ◌≤◌, ◌<◌, length, List, [], ◌∷◌, ◌++◌, take, refl, sym, ap, ◌∙◌, subst, inl, inr, arith, true, false}
 use Rattle.std.specs.Prelude.{Some, None, slice_get}
+use Rattle.std.proofs.lemmas.Option.{same_Some}
 use Rattle.m3_model.specs.Members.{IsIn}
 use Rattle.m3_model.specs.declared.act.Act.TheVariants as act
 use Rattle.m3_model.specs.declared.answer.Answer.TheVariants as answer
@@ -18,7 +19,6 @@ use Rattle.cluster_core.specs.declared.event.Event.{Event}
 use Rattle.cluster_core.specs.declared.event.Event.TheVariants as event
 use Rattle.cluster_core.specs.declared.event.StepCall.TheVariants as call
 use Rattle.cluster_core.specs.declared.event.StepReply.TheVariants as reply
-use Rattle.cluster_core.proofs.ListLemmas.{some_same}
 use Rattle.told_by.specs.Hears.{HearsReason, InStretch, IsSweepCall}
 use Rattle.told_by.specs.Lines.{MayChange, PlainLine}
 use Rattle.told_by.specs.Sample.{name, place, rules}
@@ -82,7 +82,7 @@ node = record { name = name; group = name; listed = true; drained = false }
 
 slot : (told : ToldBy (Some found) turns events) → IsKnownSlot (Some found) turns events told 0 0 name
 slot told = record {
-  everywhere = λ i p done own there is. let here : slice_get place.instances 0 ≡ Some own = ap (λ (q : Placement). slice_get q.instances 0) (one_place i p done there) ∙ is in let same : node ≡ own = some_same node own here in ap (λ (x : Instance). x.name) (sym same);
+  everywhere = λ i p done own there is. let here : slice_get place.instances 0 ≡ Some own = ap (λ (q : Placement). slice_get q.instances 0) (one_place i p done there) ∙ is in let same : node ≡ own = same_Some node own here in ap (λ (x : Instance). x.name) (sym same);
   has_name = λ i p done there has. subst (λ (q : Placement). OfNode q 0 (λ own. own ≡ name)) (one_place i p done there) (record { instance_ = node; stands = refl; holds = refl });
   owned = λ q at over begins tenure given i here. each_at (λ k x. x ≡ event.Step 0 0 (call.Begin tenure) (reply.Refused reason.NotOwned) → ⊥) 0 events ((λ e. cc), ((λ e. cc), ((λ e. cc), ((λ e. cc), tt)))) i (event.Step 0 0 (call.Begin tenure) (reply.Refused reason.NotOwned)) here.2 refl;
 }

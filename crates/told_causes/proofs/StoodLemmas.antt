@@ -5,18 +5,19 @@ use Rattle.std.specs.List.{filter}
 use Rattle.std.specs.Option.{option_map_or}
 use Rattle.std.proofs.lemmas.Bool.{cases_lt, le-leb, leb-true}
 use Rattle.std.proofs.lemmas.List.Sums.{fold-append}
+use Rattle.std.proofs.lemmas.Option.{same_Some}
 use Rattle.m3_model.specs.Members.{IsIn}
 use Rattle.m3_model.proofs.MemberLemmas.{IsIn-append_cases, IsIn-append_left, IsIn-append_right}
+use Rattle.m3_model.proofs.Lists.{IsIn-filter, IsIn-filter_passes, filter-IsIn, flat_map-IsIn}
 use Rattle.m3_model.specs.declared.placement.Placement.{Placement}
 use Rattle.m3_model.specs.declared.rules.MetaState.{MetaState}
 use Rattle.m3_model.specs.declared.turn.Turn.{Turn}
-use Rattle.placement_core.proofs.ListLemmas.{IsIn-filter, chosen, filter-IsIn}
 use Rattle.cluster_core.specs.Earlier.{last_place, place_after}
 use Rattle.cluster_core.specs.Legal.{Legal}
 use Rattle.cluster_core.specs.Lists.{At}
 use Rattle.cluster_core.specs.declared.event.Event.{Event}
 use Rattle.cluster_core.specs.declared.event.Event.TheVariants as event
-use Rattle.cluster_core.proofs.ListLemmas.{along, at_some, at_take, at_within, fold_suc, some_same}
+use Rattle.cluster_core.proofs.ListLemmas.{along, at_some, at_take, at_within, fold_suc}
 use Rattle.cluster_core.proofs.PlaceLemmas.{place_cases, placed_at}
 use Rattle.cluster_core.proofs.TraceLemmas.{lawful_place}
 use Rattle.transcripts.specs.Placements.{MayStand, has_replica, later_placement, placement_after, placement_at, printed, start_placement}
@@ -29,7 +30,7 @@ use Rattle.told_by.proofs.LeaveLemmas.{place_there}
 use Rattle.told_by.proofs.LineLemmas.{line_below}
 use Rattle.told_by.proofs.OpeningLemmas.{first_event}
 use Rattle.told_by.proofs.PrintedLemmas.{after_new, after_up, ends_grow, ends_within, greatest_so_far, one_place, placements_stand}
-use Rattle.told_by.proofs.TurnLemmas.{before_line, before_there, comes_later, flat_map-IsIn, in_cut, in_other_list, is_it, own_list, position_in, stands}
+use Rattle.told_by.proofs.TurnLemmas.{before_line, before_there, comes_later, in_cut, in_other_list, is_it, own_list, position_in, stands}
 use Rattle.told_causes.specs.Boot.{ArePlacesInOrder, GivesNone, HasOneTurn, IsPrintedIn}
 use Rattle.told_causes.proofs.AloneLemmas.{alone_position, lines_before, own_place, stands_from}
 use Rattle.told_causes.proofs.HaltLemmas.{one_line}
@@ -66,7 +67,7 @@ one_turn turns k less =
     let line = at_some turns k less in
     elim (one_or_not (lists_of line.0)) as (λ _. HasOneTurn turns k ⊎ (HasOneTurn turns k → ⊥)) [
       | inl t ↦ inl (line.0, t.0, line.1, t.1)
-      | inr none ↦ inr (λ one. none one.1 (ap lists_of (some_same line.0 one.0 (sym line.1 ∙ one.2)) ∙ one.3))
+      | inr none ↦ inr (λ one. none one.1 (ap lists_of (same_Some line.0 one.0 (sym line.1 ∙ one.2)) ∙ one.3))
     ]
 
 -- a turn earlier in the list, or in another list, is one of its line
@@ -136,7 +137,7 @@ module _ {tells : Bool} (start : Option MetaState) (turns : List Turn) (events :
       → (a b : ℕ) → told.ends k ≤ a → a ≤ b → b ≤ told.ends (suc k) → (was is : Placement) → last_place (take a events) ≡ Some was → last_place (take b events) ≡ Some is → (n s tenure : ℕ) → IsAssigned is n s tenure → IsAssigned was n s tenure
   back k less gives a b low grows high was is of_was of_is n s tenure h =
       along events (λ m. m ≤ told.ends (suc k) → (next : Placement) → last_place (take m events) ≡ Some next → IsAssigned next n s tenure → IsAssigned was n s tenure) a
-      (λ within next last given. subst (λ q. IsAssigned q n s tenure) (some_same next was (sym last ∙ of_was)) given) by_event b grows (omega (arith, high, ends_within start turns events told (suc k) less)) high is of_is h
+      (λ within next last given. subst (λ q. IsAssigned q n s tenure) (same_Some next was (sym last ∙ of_was)) given) by_event b grows (omega (arith, high, ends_within start turns events told (suc k) less)) high is of_is h
     where
       some : 1 ≤ a
       some = let there = place_there (take a events) was of_was in omega (arith, (at_take events there.0 a (event.Place was there.1) there.2).1)
@@ -150,7 +151,7 @@ module _ {tells : Bool} (start : Option MetaState) (turns : List Turn) (events :
             | inr made ↦
                 let at : At events (suc m) (event.Place made.0 made.1) = there ∙ ap Some made.2 in
                 let law = lawful_place events legal m made.0 made.1 at in
-                let it : made.0 ≡ next = some_same made.0 next (sym (fold_suc place_after None events (suc m) e there ∙ made.3) ∙ last) in
+                let it : made.0 ≡ next = same_Some made.0 next (sym (fold_suc place_after None events (suc m) e there ∙ made.3) ∙ last) in
                 before (omega (arith, within)) law.last law.last_is (gives (suc m) made.0 made.1 (omega (arith, low, le)) (omega (arith, within)) at law.last law.last_is n s tenure (subst (λ q. IsAssigned q n s tenure) (sym it) given))
           ]
 
@@ -333,7 +334,7 @@ module _ {tells : Bool} (start : Option MetaState) (turns : List Turn) (events :
               | inr other ↦
                   let q = position_in turns p.lines p.line at.after at.in_run t (in_line p turns at t (IsIn-append_right p.earlier p.beside t (IsIn-filter (prints_by place) p.beside t other))) in
                   let y = printed_in q.0 q.1 (ap length q.3) r (ap (λ (u : InnerTurn). printed u.answer) q.2 ∙ prints) in
-                  same_version r y.0 y.1 y.2 up (leb-true r.version place.version (ap (λ o. option_map_or (λ (x : Placement). nat_le x.version place.version) o true) (sym prints) ∙ chosen (prints_by place) p.beside t other))
+                  same_version r y.0 y.1 y.2 up (leb-true r.version place.version (ap (λ o. option_map_or (λ (x : Placement). nat_le x.version place.version) o true) (sym prints) ∙ IsIn-filter_passes (prints_by place) p.beside t other))
             ]
 
         it_is : (r : Placement) → placement_after (placement_at start p) ts ≡ Some r → place.version ≤ r.version → r ≡ place

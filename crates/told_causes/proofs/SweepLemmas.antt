@@ -1,6 +1,7 @@
 -- Sweeps: each reason has its cause.
 use Rattle.std.proofs.Common.{◌≡◌, ℕ, List, take, length, refl, sym, subst, Bool}
 use Rattle.std.specs.Prelude.{Option, Some}
+use Rattle.std.proofs.lemmas.Option.{same_Some}
 use Rattle.m3_model.specs.Members.{IsIn}
 use Rattle.m3_model.specs.declared.act.Act.{Act}
 use Rattle.m3_model.specs.declared.act.Act.TheVariants as act
@@ -22,7 +23,6 @@ use Rattle.cluster_core.specs.declared.event.StepCall.{StepCall}
 use Rattle.cluster_core.specs.declared.event.StepCall.TheVariants as call
 use Rattle.cluster_core.specs.declared.event.StepReply.TheVariants as reply
 use Rattle.cluster_core.specs.declared.replica_state.ReplicaState.{ReplicaState}
-use Rattle.cluster_core.proofs.ListLemmas.{some_same}
 use Rattle.cluster_core.proofs.TraceLemmas.{lawful_step}
 use Rattle.transcripts.specs.Faults.{Fault, Failing, Damaged}
 use Rattle.transcripts.specs.Reasons.{MayFail}
@@ -49,8 +49,8 @@ IsOfCall reason.Future = Unit {0}
 IsOfCall _ = ⊥
 
 shut_never : (x : Standing) (why : Reason) → IsOfCall why → shut x ≡ Some why → ⊥
-shut_never standing.Down why h e = subst IsOfCall (sym (some_same reason.Down why e)) h
-shut_never standing.Boot why h e = subst IsOfCall (sym (some_same reason.Boot why e)) h
+shut_never standing.Down why h e = subst IsOfCall (sym (same_Some reason.Down why e)) h
+shut_never standing.Boot why h e = subst IsOfCall (sym (same_Some reason.Boot why e)) h
 shut_never standing.Open why h e = cc
 
 sweep_never : (a : Act) (r : ReplicaState) (c : StepCall) → IsSweepCall a c → (why : Reason) → IsOfCall why → first_refusal r c ≡ Some why → ⊥

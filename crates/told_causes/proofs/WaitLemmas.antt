@@ -6,6 +6,8 @@ use Rattle.std.specs.List.{Any}
 use Rattle.std.proofs.lemmas.Bool.{eq-eqb, eqb-true}
 use Rattle.std.proofs.lemmas.List.Folds.{list_any-from_Any}
 use Rattle.std.proofs.lemmas.List.Sums.{fold-append}
+use Rattle.std.proofs.lemmas.Option.{same_Some}
+use Rattle.std.proofs.Math.Bool.{or-true}
 use Rattle.m3_model.specs.Members.{IsIn}
 use Rattle.m3_model.proofs.MemberLemmas.{IsIn-map, map-IsIn}
 use Rattle.m3_model.specs.declared.act.Act.{Act}
@@ -19,7 +21,6 @@ use Rattle.m3_model.specs.declared.turn.Turn.{Turn}
 use Rattle.placement_core.specs.Shards.{Shard, nodes_of, shard_at}
 use Rattle.placement_core.proofs.ListLemmas.{Any-from_IsIn, IsIn-from_Any}
 use Rattle.cluster_core.specs.Lists.{At}
-use Rattle.cluster_core.proofs.ListLemmas.{some_same}
 use Rattle.transcripts.specs.Placements.{has_replica, later_placement, placement_after, printed, start_placement}
 use Rattle.transcripts.specs.Record.{InnerTurn, inner_turns}
 use Rattle.transcripts.specs.Waiting.{Replica, Waiting, is_assigned, is_covering, is_member, waiting_after, waiting_by, waits_after, waits_by}
@@ -40,12 +41,8 @@ pub record EndsWait (x : Replica) (stays : Bool) (t : InnerTurn) : Type 0 where
   pub answered : t.answer ≡ answer.Available available place version
   pub ends : (stays && (pointwise nat_eq x.name node && is_covering x.shard asked)) ≡ true
 
-or_true : (b : Bool) → (b || true) ≡ true
-or_true true = refl
-or_true false = refl
-
 by_wait : (x : Replica) (stays : Bool) (t : InnerTurn) → (EndsWait x stays t → ⊥) → (a : Act) (b : Answer) → t.act ≡ a → t.answer ≡ b → waits_by x stays a b true ≡ true
-by_wait x stays t none (act.Restart node pick) answer.Done ea eb = or_true (pointwise nat_eq x.name node)
+by_wait x stays t none (act.Restart node pick) answer.Done ea eb = or-true (pointwise nat_eq x.name node)
 by_wait x stays t none (act.Bootstrap node asked) (answer.Available available place version) ea eb = by (stays && (pointwise nat_eq x.name node && is_covering x.shard asked)) refl
   where
     by : (c : Bool) → (stays && (pointwise nat_eq x.name node && is_covering x.shard asked)) ≡ c → (not c && true) ≡ true
@@ -101,14 +98,6 @@ module _ (x : Replica) (start : Option MetaState) (turns : List Turn) where
 
 -- ---- members
 
-pub or_right : (a b : Bool) → b ≡ true → (a || b) ≡ true
-or_right true b e = refl
-or_right false b e = e
-
-pub and_both : (a b : Bool) → (a && b) ≡ true → (a ≡ true) × (b ≡ true)
-and_both true b e = (refl, e)
-and_both false b e = cc
-
 pub assigned_by : (a b c : Bool) → a ≡ true → b ≡ false → c ≡ true → ((a && not b) && c) ≡ true
 assigned_by a b c ea eb ec = cc
 
@@ -145,7 +134,7 @@ assigned_member place s n a m e =
 
 pub shard_is : (shards : List Shard) (s : ℕ) (shard : Shard) → At shards s shard → slice_index_or shards s [] ≡ shard
 shard_is [] s shard e = cc
-shard_is (x ∷ shards) zero shard e = some_same x shard e
+shard_is (x ∷ shards) zero shard e = same_Some x shard e
 shard_is (x ∷ shards) (suc s) shard e = shard_is shards s shard e
 
 -- so has one to which the placement gives a tenure

@@ -3,7 +3,8 @@ use Rattle.std.proofs.Common.{◌≡◌, ℕ, zero, suc, ◌<◌, ◌≤◌, Lis
 use Rattle.std.specs.Bool.{OnTrue}
 use Rattle.std.specs.Prelude.{◌⊎◌, Option, Some, None, is_some, nat_eq, ◌&&◌}
 use Rattle.std.specs.Cmp.Lexicographic.{pointwise}
-use Rattle.std.proofs.lemmas.Bool.{cases_lt}
+use Rattle.std.proofs.lemmas.Bool.{cases_lt, cases_Bool, and_parts}
+use Rattle.std.proofs.lemmas.List.{take-append-le}
 use Rattle.m3_model.specs.Members.{IsIn}
 use Rattle.m3_model.specs.declared.act.Act.{Act}
 use Rattle.m3_model.specs.declared.act.Act.TheVariants as act
@@ -35,17 +36,17 @@ use Rattle.transcripts.specs.Waiting.{Replica, is_assigned, is_begun_by, is_cove
 use Rattle.told_by.specs.Hears.{IsBegun, IsNamedBy}
 use Rattle.told_by.specs.Told.{ToldBy}
 use Rattle.told_by.proofs.LeaveLemmas.{place_there}
-use Rattle.told_by.proofs.LineLemmas.{line_below, take_front}
+use Rattle.told_by.proofs.LineLemmas.{line_below}
 use Rattle.told_by.proofs.OpeningLemmas.{first_event}
 use Rattle.told_by.proofs.PrintedLemmas.{ends_grow, ends_within, placements_stand}
 use Rattle.told_by.proofs.TurnLemmas.{cut_at, own_list, position_in}
 use Rattle.told_causes.proofs.AloneLemmas.{stands_from}
-use Rattle.told_causes.proofs.BootLemmas.{HasBegun, covered_begun, true_or_not}
+use Rattle.told_causes.proofs.BootLemmas.{HasBegun, covered_begun}
 use Rattle.told_causes.proofs.StoodLemmas.{alone_last, alone_or_beside, back, gives_none, had_before, held_before, member_before, member_met}
 use Rattle.told_causes.proofs.HaltLemmas.{late_step, opening_two}
 use Rattle.told_causes.proofs.NameLemmas.{any_found, name_is}
 use Rattle.told_causes.proofs.RefusalLemmas.{first_down, refused_law}
-use Rattle.told_causes.proofs.WaitLemmas.{EndsWait, and_both, assigned_by, is_member_of, member_given, member_place}
+use Rattle.told_causes.proofs.WaitLemmas.{EndsWait, assigned_by, is_member_of, member_given, member_place}
 use Rattle.told_moves.specs.Moves.{IsQuiet, IsRefusedAt, NotOwnedIsSaid}
 use Rattle.told_moves.specs.Order.{IsInOrder}
 use Rattle.told_moves.proofs.AskLemmas.{begin_asked}
@@ -63,7 +64,7 @@ begun_is x stays t _ _ ea eb e = absurd (let bad : false ≡ true = e in cc)
 -- where no turn of the list is such a bootstrap, none began it
 none_begun : (x : Replica) (before next : Option Placement) (ts : List InnerTurn) → ((t : InnerTurn) → IsIn ts t → EndsWait x (is_member x before && is_member x next) t → ⊥) → is_begun_in x before next ts ≡ false
 none_begun x before next ts none =
-    elim (true_or_not (is_begun_in x before next ts)) as (λ _. is_begun_in x before next ts ≡ false) [
+    elim (cases_Bool (is_begun_in x before next ts)) as (λ _. is_begun_in x before next ts ≡ false) [
       | inr e ↦ e
       | inl e ↦
           let stays = is_member x before && is_member x next in
@@ -85,7 +86,7 @@ module _ {tells : Bool} (start : Option MetaState) (turns : List Turn) (events :
   -- where the replica has a tenure above the version, the node has no replica of the shard, or has it with a tenure above the version
   above_owns_not : (p : TurnPosition) (n s version tenure i : ℕ) (place : Placement) → i ≤ length events → last_place (take i events) ≡ Some place → MayStand start p place → (slot events legal n s i).tenure ≡ Some tenure → version < tenure → OwnsNot start p s n version
   above_owns_not p n s version tenure i place high last stands owned above =
-      elim (true_or_not (has_replica (Some place) s n)) as (λ _. OwnsNot start p s n version) [
+      elim (cases_Bool (has_replica (Some place) s n)) as (λ _. OwnsNot start p s n version) [
         | inr gone ↦ record { place = place; may_stand = stands; not_owned = inl gone }
         | inl member ↦
             let b = owned_began events legal n s tenure i high owned in
@@ -112,7 +113,7 @@ module _ {tells : Bool} (start : Option MetaState) (turns : List Turn) (events :
   assigned_at x e was late last gone zero high before member = absurd (omega (arith, before, late, (told.lines).first, opening_two start))
   assigned_at x e was late last gone (suc k) high before member =
       elim (cases_lt e (told.ends k)) as (λ _. WasAssigned x e (suc k)) [
-        | inl lt ↦ elim (true_or_not (is_member x (placed k))) as (λ _. WasAssigned x e (suc k)) [
+        | inl lt ↦ elim (cases_Bool (is_member x (placed k))) as (λ _. WasAssigned x e (suc k)) [
           | inl still ↦ let w = assigned_at x e was late last gone k (omega (arith, high)) lt still in let early = w.early in record { line = w.line; early = omega (arith, early); later = w.later; assigned = w.assigned }
           | inr new ↦
               let there = place_there (take e events) was last in
@@ -188,8 +189,8 @@ module _ {tells : Bool} (start : Option MetaState) (turns : List Turn) (events :
         let begins : told.ends k ≤ (told.spans).from q = omega (arith, (told.lines).low q at_q, ap told.ends line_is) in
         let first = first_event events legal e.position (event.Step n s call.End reply.Done) e.there in
         let p = placed_at events legal first.place [] first.there ((told.spans).from q) (omega (arith, later, begins)) (omega (arith, (told.tells).order.not_back q at_q, (told.tells).order.not_above q at_q)) in
-        let ends = and_both stays (pointwise nat_eq name h.node && is_covering s h.asked) h.ends in
-        let covers = and_both (pointwise nat_eq name h.node) (is_covering s h.asked) ends.1 in
+        let ends = and_parts stays (pointwise nat_eq name h.node && is_covering s h.asked) h.ends in
+        let covers = and_parts (pointwise nat_eq name h.node) (is_covering s h.asked) ends.1 in
         let is_there = members p.0 p.1 in
         let b = covered_begun start turns events legal told q at_q n s name p.0 p.1 is_there (λ z done here. member_named start turns events legal told order z n s p.0 done name here named is_there)
         h.node h.asked h.available h.place h.version h.act_is h.answered (name_is name h.node covers.0) covers.1 in
@@ -212,7 +213,7 @@ module _ {tells : Bool} (start : Option MetaState) (turns : List Turn) (events :
         turn_clash is i bound e q.0 q.1 k less later line_is (omega (arith, (told.lines).high q.0 q.1, ap (λ j. told.ends (suc j)) line_is, finishes)) (by_met q.0 q.1 line_is) (is_member x (placed k) && is_member x (placed (suc k))) (subst (EndsWait x (is_member x (placed k) && is_member x (placed (suc k)))) (sym q.2) h)
       where
         stays : (is_member x (placed k) ≡ true) × (is_member x (placed (suc k)) ≡ true)
-        stays = let ends = and_both (is_member x (placed k) && is_member x (placed (suc k))) (pointwise nat_eq name h.node && is_covering s h.asked) h.ends in and_both (is_member x (placed k)) (is_member x (placed (suc k))) ends.0
+        stays = let ends = and_parts (is_member x (placed k) && is_member x (placed (suc k))) (pointwise nat_eq name h.node && is_covering s h.asked) h.ends in and_parts (is_member x (placed k)) (is_member x (placed (suc k))) ends.0
 
         by_met : (q : TurnPosition) → IsTurnPosition turns q → length q.lines ≡ k → (place : Placement) → last_place (take ((told.spans).from q) events) ≡ Some place → has_replica (Some place) s n ≡ true
         by_met q at line_is place last =
@@ -229,7 +230,7 @@ module _ {tells : Bool} (start : Option MetaState) (turns : List Turn) (events :
     }
       where
         same : (j : ℕ) → j ≤ length p.lines → placement_by start p.lines j ≡ placed j
-        same j le = ap (λ ls. placement_after (start_placement start) (inner_turns ls)) (sym (ap (take j) at.in_run ∙ take_front p.lines (p.line ∷ at.after) j le))
+        same j le = ap (λ ls. placement_after (start_placement start) (inner_turns ls)) (sym (ap (take j) at.in_run ∙ take-append-le j p.lines (p.line ∷ at.after) le))
 
         by_earlier : tells ≡ true → (after : Option Placement) → after ≡ placement_after (placed (length p.lines)) (p.earlier ++ p.beside) → (t : InnerTurn) → IsIn p.earlier t → EndsWait x (is_member x (placement_by start p.lines (length p.lines)) && is_member x after) t → ⊥
         by_earlier is after after_is t m h =
@@ -240,8 +241,8 @@ module _ {tells : Bool} (start : Option MetaState) (turns : List Turn) (events :
             let begins : e.position < told.ends k = omega (arith, later, ends_grow start turns events told (suc w.line) k w.early (omega (arith, less))) in
             let finishes = (told.tells).order.order q.position p q.in_run at (inr (ap length q.lines_are, q.client_is, q.earlier)) in
             let stays = is_member x (placement_by start p.lines k) && is_member x after in
-            let ends = and_both stays (pointwise nat_eq name h.node && is_covering s h.asked) h.ends in
-            let both = and_both (is_member x (placement_by start p.lines k)) (is_member x after) ends.0 in
+            let ends = and_parts stays (pointwise nat_eq name h.node && is_covering s h.asked) h.ends in
+            let both = and_parts (is_member x (placement_by start p.lines k)) (is_member x after) ends.0 in
             let member : is_member x (placed k) ≡ true = ap (is_member x) (sym (same k (omega arith))) ∙ both.0 in
             turn_clash is i bound e q.position q.in_run k less begins (ap length q.lines_are) (omega (arith, finishes, low))
             (λ place last. member_before start turns events legal told order.places p at ((told.spans).from q.position) (omega (arith, (told.lines).low q.position q.in_run, ap (λ ls. told.ends (length ls)) q.lines_are)) (omega (arith, (told.tells).order.not_back q.position q.in_run, finishes)) place last n s member (ap (is_member x) (sym after_is) ∙ both.1)) stays (subst (EndsWait x stays) (sym q.turn_is) h)
@@ -261,7 +262,7 @@ module _ {tells : Bool} (start : Option MetaState) (turns : List Turn) (events :
     ended_unowned : (p : TurnPosition) → IsTurnPosition turns p → IsQuiet p → (version i : ℕ) → (told.spans).from p ≤ i → i < (told.spans).to p → (place : Placement) → last_place (take i events) ≡ Some place → MayStand start p place → EndedAt events legal n s i
         → OwnsNot start p s n version ⊎ IsNew tells x start p
     ended_unowned p at quiet version i low high place last stands e =
-        elim (true_or_not (has_replica (Some place) s n)) as (λ _. OwnsNot start p s n version ⊎ IsNew tells x start p) [
+        elim (cases_Bool (has_replica (Some place) s n)) as (λ _. OwnsNot start p s n version ⊎ IsNew tells x start p) [
           | inr gone ↦ inl (record { place = place; may_stand = stands; not_owned = inl gone })
           | inl member ↦ inr (is_new p at quiet.prints_none i low (omega (arith, high, (told.tells).order.not_above p at)) e (by_member member))
         ]

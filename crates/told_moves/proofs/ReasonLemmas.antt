@@ -3,6 +3,7 @@ use Rattle.std.proofs.Common.{◌≡◌, ℕ, ◌<◌, ◌≤◌, List, take, le
 use Rattle.std.specs.Prelude.{◌⊎◌, Option, Some, None, nat_le, if◌then◌else◌, slice_get, ◌+◌}
 use Rattle.std.specs.Option.{option_or}
 use Rattle.std.proofs.lemmas.Bool.{leb-false, leb-true}
+use Rattle.std.proofs.lemmas.Option.{same_Some}
 use Rattle.m3_model.specs.declared.placement.Placement.{Placement}
 use Rattle.m3_model.specs.declared.point.Point.{Point}
 use Rattle.m3_model.specs.declared.reason.Reason.{Reason}
@@ -23,7 +24,6 @@ use Rattle.cluster_core.specs.declared.event.StepCall.{StepCall}
 use Rattle.cluster_core.specs.declared.event.StepCall.TheVariants as call
 use Rattle.cluster_core.specs.declared.event.StepReply.TheVariants as reply
 use Rattle.cluster_core.specs.declared.replica_state.ReplicaState.{ReplicaState}
-use Rattle.cluster_core.proofs.ListLemmas.{some_same}
 use Rattle.cluster_core.proofs.TraceLemmas.{lawful_step}
 use Rattle.transcripts.specs.Placements.{MayStand}
 use Rattle.transcripts.specs.Record.{TurnPosition, IsTurnPosition}
@@ -42,12 +42,12 @@ IsMoveReason _ = ⊥
 
 -- for such a reason the replica is open
 open_or : (x : Standing) (rest : Option Reason) (why : Reason) → IsMoveReason why → option_or (shut x) rest ≡ Some why → (x ≡ standing.Open) × (rest ≡ Some why)
-open_or standing.Down rest why is e = absurd (subst IsMoveReason (sym (some_same reason.Down why e)) is)
-open_or standing.Boot rest why is e = absurd (subst IsMoveReason (sym (some_same reason.Boot why e)) is)
+open_or standing.Down rest why is e = absurd (subst IsMoveReason (sym (same_Some reason.Down why e)) is)
+open_or standing.Boot rest why is e = absurd (subst IsMoveReason (sym (same_Some reason.Boot why e)) is)
 open_or standing.Open rest why is e = (refl, e)
 
 if_not : (b : Bool) (own why : Reason) → (IsMoveReason own → ⊥) → IsMoveReason why → reason_if b own ≡ Some why → ⊥
-if_not true own why not is e = not (subst IsMoveReason (sym (some_same own why e)) is)
+if_not true own why not is e = not (subst IsMoveReason (sym (same_Some own why e)) is)
 if_not false own why not is e = cc
 
 outside_not : (rules : Rules) (p : Point) (o : Option Space) (why : Reason) → IsMoveReason why → outside_of rules p o ≡ Some why → ⊥
@@ -89,14 +89,14 @@ FoundsMove tenure fence version _ = ⊥
 by_fence : (tenure : Option ℕ) (fence version : ℕ) (why : Reason) → IsMoveReason why → IsUpTo tenure version → outdated fence version ≡ Some why → FoundsMove tenure fence version why
 by_fence tenure fence version why is within e =
     elim (outdated_cases fence version) as (λ _. FoundsMove tenure fence version why) [
-      | inl stale ↦ subst (FoundsMove tenure fence version) (some_same (reason.Stale fence) why (sym stale.0 ∙ e)) (within, refl, stale.1)
+      | inl stale ↦ subst (FoundsMove tenure fence version) (same_Some (reason.Stale fence) why (sym stale.0 ∙ e)) (within, refl, stale.1)
       | inr none ↦ let bad : None ≡ Some why = sym none ∙ e in cc
     ]
 
 by_tenure : (tenure : Option ℕ) (fence version : ℕ) (rest : Option Reason) (why : Reason) → (IsUpTo tenure version → rest ≡ Some why → FoundsMove tenure fence version why) → option_or (unowned tenure version) rest ≡ Some why → FoundsMove tenure fence version why
 by_tenure tenure fence version rest why later e =
     elim (unowned_cases tenure version) as (λ _. FoundsMove tenure fence version why) [
-      | inl above ↦ subst (FoundsMove tenure fence version) (some_same reason.NotOwned why (sym (ap (λ o. option_or o rest) above.0) ∙ e)) above.1
+      | inl above ↦ subst (FoundsMove tenure fence version) (same_Some reason.NotOwned why (sym (ap (λ o. option_or o rest) above.0) ∙ e)) above.1
       | inr within ↦ later within.1 (sym (ap (λ o. option_or o rest) within.0) ∙ e)
     ]
 

@@ -2,6 +2,7 @@
 use Rattle.std.proofs.Common.{◌≡◌, ℕ, suc, ◌<◌, ◌≤◌, List, [], ◌∷◌, ◌++◌, take, length, refl, sym, ap, ◌∙◌, subst, inl, inr, arith, Bool}
 use Rattle.std.specs.Prelude.{◌⊎◌, Some, None}
 use Rattle.std.proofs.lemmas.Bool.{cases_eq}
+use Rattle.std.proofs.lemmas.Option.{same_Some}
 use Rattle.m3_model.specs.declared.reason.Reason.{Reason}
 use Rattle.m3_model.specs.declared.reason.Reason.TheVariants as reason
 use Rattle.m3_model.specs.declared.replica.Standing.TheVariants as standing
@@ -17,7 +18,7 @@ use Rattle.cluster_core.specs.declared.event.StepCall.TheVariants as call
 use Rattle.cluster_core.specs.declared.event.StepReply.{StepReply}
 use Rattle.cluster_core.specs.declared.event.StepReply.TheVariants as reply
 use Rattle.cluster_core.specs.declared.replica_state.ReplicaState.{ReplicaState}
-use Rattle.cluster_core.proofs.ListLemmas.{along, some_same}
+use Rattle.cluster_core.proofs.ListLemmas.{along}
 use Rattle.cluster_core.proofs.TraceLemmas.{replica_suc, step_cases}
 use Rattle.told_causes.proofs.RunLemmas.{refused_open}
 
@@ -59,7 +60,7 @@ pub owned_by : (r : ReplicaState) (c : StepCall) (a : StepReply) (tenure : ℕ) 
 owned_by r c (reply.Refused why) tenure e = inl (sym (refused_tenure r c why) ∙ e)
 owned_by r call.End reply.Done tenure e = absurd (let bad : None ≡ Some tenure = e in cc)
 owned_by r call.End a tenure e = inl e
-owned_by r (call.Begin own) (reply.Began fence points) tenure e = let same : own ≡ tenure = some_same own tenure e in inr (ap (λ t. call.Begin t) same)
+owned_by r (call.Begin own) (reply.Began fence points) tenure e = let same : own ≡ tenure = same_Some own tenure e in inr (ap (λ t. call.Begin t) same)
 owned_by r (call.Begin own) a tenure e = inl e
 owned_by r _ _ tenure e = inl e
 

@@ -1,8 +1,11 @@
 -- A put or a read that is refused for a fence is so for one that a bootstrap of the shard asked for, or that an earlier run left.
 use Rattle.std.proofs.Common.{◌≡◌, ℕ, suc, ◌<◌, ◌≤◌, List, [], ◌∷◌, ◌++◌, length-append, take, length, sym, ap, ◌∙◌, subst, inl, inr, arith, true, append-nil}
 use Rattle.std.specs.Prelude.{◌⊎◌, Option, Some, None, IsTrue}
+use Rattle.std.proofs.lemmas.Option.{same_Some}
+use Rattle.std.proofs.lemmas.List.{take-append-le}
 use Rattle.m3_model.specs.Members.{IsIn}
 use Rattle.m3_model.proofs.MemberLemmas.{IsIn-append_left, IsIn-append_right}
+use Rattle.m3_model.proofs.Lists.{flat_map-IsIn}
 use Rattle.m3_model.specs.declared.act.Act.TheVariants as act
 use Rattle.m3_model.specs.declared.placement.Placement.{Placement}
 use Rattle.m3_model.specs.declared.reason.Reason.TheVariants as reason
@@ -13,7 +16,7 @@ use Rattle.cluster_core.specs.Legal.{Legal}
 use Rattle.cluster_core.specs.Lists.{At}
 use Rattle.cluster_core.specs.declared.event.Event.{Event}
 use Rattle.cluster_core.specs.declared.event.Event.TheVariants as event
-use Rattle.cluster_core.proofs.ListLemmas.{at_take, at_within, fold_suc, some_same}
+use Rattle.cluster_core.proofs.ListLemmas.{at_take, at_within, fold_suc}
 use Rattle.transcripts.specs.Fates.{OfNode}
 use Rattle.transcripts.specs.Moves.{IsBootstrapFor, IsFencedAbove, IsLeftFence, IsOfMove, IsTakenBy, IsTakenIn, placement_by}
 use Rattle.transcripts.specs.Placements.{placement_after, printed, start_placement}
@@ -22,9 +25,9 @@ use Rattle.transcripts.specs.Waiting.{is_covering}
 use Rattle.told_by.specs.Makes.{IsAssigned}
 use Rattle.told_by.specs.Told.{ToldBy}
 use Rattle.told_by.proofs.LeaveLemmas.{place_there}
-use Rattle.told_by.proofs.LineLemmas.{at_front, line_below, take_front}
+use Rattle.told_by.proofs.LineLemmas.{at_front, line_below}
 use Rattle.told_by.proofs.PrintedLemmas.{greatest_so_far, placements_stand}
-use Rattle.told_by.proofs.TurnLemmas.{at_cut, cut_before, flat_map-IsIn, in_cut, in_its_line, stands, before_line, before_there, in_other_list, is_it, comes_later}
+use Rattle.told_by.proofs.TurnLemmas.{at_cut, cut_before, in_cut, in_its_line, stands, before_line, before_there, in_other_list, is_it, comes_later}
 use Rattle.told_causes.specs.Boot.{HasOneTurn, IsBootAct}
 use Rattle.told_causes.proofs.AloneLemmas.{alone_position, lines_before, one_alone}
 use Rattle.told_causes.proofs.StoodLemmas.{alone_last, alone_or_beside, back, line_base, met}
@@ -58,7 +61,7 @@ module _ (start : Option MetaState) (turns : List Turn) (events : List Event) (l
       ]
 
   stood_front : (p : TurnPosition) → IsTurnPosition turns p → (m : ℕ) → m ≤ length p.lines → placement_by start turns m ≡ placement_by start p.lines m
-  stood_front p at m within = ap (λ ls. placement_after (start_placement start) (inner_turns ls)) (ap (take m) at.in_run ∙ take_front p.lines (p.line ∷ at.after) m within)
+  stood_front p at m within = ap (λ ls. placement_after (start_placement start) (inner_turns ls)) (ap (take m) at.in_run ∙ take-append-le m p.lines (p.line ∷ at.after) within)
 
   -- a turn of an earlier line was taken with a placement that stood when that line began, or when it ended
   taken_in : (p : TurnPosition) → IsTurnPosition turns p → (q : TurnPosition) → IsTurnPosition turns q → length q.lines < length p.lines → (place : Placement) → (placement_by start turns (length q.lines) ≡ Some place) ⊎ (placement_by start turns (suc (length q.lines)) ≡ Some place) → IsTakenIn start p.lines place q.turn
@@ -136,7 +139,7 @@ module _ (start : Option MetaState) (turns : List Turn) (events : List Event) (l
   init_low : (used : Placement) → IsPlacedIn events used → (s fence k node : ℕ) → k ≤ length events → (ask : IsMoveAsk start turns events legal told k node s fence) → IsInitAct (ask.q).turn.act → printed (ask.q).turn.answer ≡ Some ask.place → fence ≤ used.version
   init_low used placed s fence k node high ask is prints =
       let init = (told.tells).init.inits ask.q ask.in_run (order.inits ask.q ask.in_run is ask.place prints) in
-      let same : init.place ≡ ask.place = some_same init.place ask.place (sym (ap printed init.answered) ∙ prints) in
+      let same : init.place ≡ ask.place = same_Some init.place ask.place (sym (ap printed init.answered) ∙ prints) in
       let low = assigned_low events legal node s k fence ask.place high ask.last ask.assigned in
       let z = placed.place_at in
       let grows = greatest_so_far events legal 0 (suc z) init.place used [] init.placed (omega arith) (omega (arith, at_within events z (event.Place used placed.done) placed.there)) (fold_suc place_after None events z (event.Place used placed.done) placed.there) in

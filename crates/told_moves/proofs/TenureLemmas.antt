@@ -2,6 +2,7 @@
 use Rattle.std.proofs.Common.{◌≡◌, ℕ, zero, suc, ◌<◌, ◌≤◌, List, [], ◌∷◌, take, map, length, refl, sym, ap, ◌∙◌, subst, inl, inr, arith, true, Bool}
 use Rattle.std.specs.Prelude.{◌⊎◌, Some, None, Option, slice_get}
 use Rattle.std.proofs.lemmas.Bool.{cases_lt}
+use Rattle.std.proofs.lemmas.Option.{same_Some}
 use Rattle.m3_model.proofs.MemberLemmas.{IsIn-append_cases, IsIn-map, map-IsIn}
 use Rattle.m3_model.specs.Members.{IsIn}
 use Rattle.m3_model.specs.declared.placement.Assignment.{Assignment}
@@ -23,7 +24,7 @@ use Rattle.cluster_core.specs.declared.event.Event.{Event}
 use Rattle.cluster_core.specs.declared.event.Event.TheVariants as event
 use Rattle.cluster_core.specs.declared.event.StepCall.{StepCall}
 use Rattle.cluster_core.specs.declared.event.StepReply.{StepReply}
-use Rattle.cluster_core.proofs.ListLemmas.{along, at_in, at_some, at_take, at_within, fold_suc, some_same}
+use Rattle.cluster_core.proofs.ListLemmas.{along, at_in, at_some, at_take, at_within, fold_suc}
 use Rattle.cluster_core.proofs.PlaceLemmas.{IsAt, at_later, at_sound, at_step, at_unique, place_cases, placed_at}
 use Rattle.cluster_core.proofs.TraceLemmas.{lawful_place}
 use Rattle.transcripts.specs.Fates.{OfNode}
@@ -132,7 +133,7 @@ module _ {tells : Bool} (events : List Event) (legal : Legal tells events) where
   assigned_low n s j tenure place high last a =
       let there = place_there (take j events) place last in
       let g = given_by n s j tenure place last a in
-      let same : (g.is).place ≡ place = some_same (g.is).place place (sym (g.is).last ∙ last) in
+      let same : (g.is).place ≡ place = same_Some (g.is).place place (sym (g.is).last ∙ last) in
       omega (arith, tenure_low n s j tenure (omega (arith, (at_take events there.0 j (event.Place place there.1) there.2).1)) high g, (g.is).version_is, ap (λ (q : Placement). q.version) same)
 
   -- where a node has the shard, it does so with this tenure or a higher one, and the version isn't below it
@@ -194,7 +195,7 @@ module _ {tells : Bool} (events : List Event) (legal : Legal tells events) where
       → (j : ℕ) → suc i ≤ j → j ≤ length events → (next : Placement) → last_place (take j events) ≡ Some next → (is : Instance) × (slice_get next.instances n ≡ Some is) × (is.name ≡ own.name)
   name_kept n i place done own there stands =
       along events (λ k. (next : Placement) → last_place (take k events) ≡ Some next → (is : Instance) × (slice_get next.instances n ≡ Some is) × (is.name ≡ own.name)) (suc i)
-      (λ next last. (own, ap (λ (q : Placement). slice_get q.instances n) (some_same next place (sym last ∙ fold_suc place_after None events i (event.Place place done) there)) ∙ stands, refl))
+      (λ next last. (own, ap (λ (q : Placement). slice_get q.instances n) (same_Some next place (sym last ∙ fold_suc place_after None events i (event.Place place done) there)) ∙ stands, refl))
       by_event
     where
       by_event : (k : ℕ) (e : Event) → suc i ≤ k → At events k e → ((next : Placement) → last_place (take k events) ≡ Some next → (is : Instance) × (slice_get next.instances n ≡ Some is) × (is.name ≡ own.name))
@@ -207,14 +208,14 @@ module _ {tells : Bool} (events : List Event) (legal : Legal tells events) where
                 let law = lawful_place events legal k placed.0 placed.1 (at ∙ ap Some placed.2) in
                 let before = was law.last law.last_is in
                 let after = (law.step).names n before.0 before.1 in
-                let it : placed.0 ≡ next = some_same placed.0 next (sym (fold_suc place_after None events (suc k) e at ∙ placed.3) ∙ last) in
+                let it : placed.0 ≡ next = same_Some placed.0 next (sym (fold_suc place_after None events (suc k) e at ∙ placed.3) ∙ last) in
                 (after.0, ap (λ (q : Placement). slice_get q.instances n) (sym it) ∙ after.1, after.2 ∙ before.2)
           ]
 
   same_name : (n i j : ℕ) (p q : Placement) (dp dq : List (ℕ × ℕ)) (a b : Instance) → At events i (event.Place p dp) → At events j (event.Place q dq) → i ≤ j → slice_get p.instances n ≡ Some a → slice_get q.instances n ≡ Some b → b.name ≡ a.name
   same_name n i j p q dp dq a b hp hq le ia ib =
       let k = name_kept n i p dp a hp ia (suc j) (omega (arith, le)) (omega (arith, at_within events j (event.Place q dq) hq)) q (fold_suc place_after None events j (event.Place q dq) hq) in
-      ap (λ (x : Instance). x.name) (some_same b k.0 (sym ib ∙ k.1)) ∙ k.2
+      ap (λ (x : Instance). x.name) (same_Some b k.0 (sym ib ∙ k.1)) ∙ k.2
 
   -- all Places call a node as one of them does
   pub name_everywhere : (n : ℕ) (place : Placement) (name : List ℕ) → IsPlacedIn events place → OfNode place n (λ own. own ≡ name) → IsNamedBy events n name
@@ -272,12 +273,12 @@ module _ {tells : Bool} (start : Option MetaState) (turns : List Turn) (events :
           let law = lawful_place events legal z (h.is).place done there in
           elim (stands_from events legal (f) (suc z) above (omega (arith, below, high, bound)) law.last law.last_is) as (λ _. is ≤ was) [
             | inl same ↦
-                let it : law.last ≡ (g.is).place = some_same law.last (g.is).place (sym same ∙ (g.is).last) in
+                let it : law.last ≡ (g.is).place = same_Some law.last (g.is).place (sym same ∙ (g.is).last) in
                 by_step (done_at s done) ((law.step).each s g.shard h.shard (subst (λ q. At q.shards s g.shard) (sym it) (g.is).shard_is) (h.is).shard_is)
             | inr y ↦
                 let one = order.places.alone k y.0 law.last y.1 less only (omega (arith, begins, y.2)) (omega (arith, y.3, below, high)) y.4 in
                 let other = order.places.alone k (suc z) (h.is).place done less only (omega (arith, begins, above)) (omega (arith, below, high)) there in
-                let it : law.last ≡ (h.is).place = some_same law.last (h.is).place (sym one ∙ other) in
+                let it : law.last ≡ (h.is).place = same_Some law.last (h.is).place (sym one ∙ other) in
                 absurd (omega (arith, (law.step).version, ap (λ (q : Placement). q.version) it))
           ]
 

@@ -1,6 +1,7 @@
 -- Why each answer of a run is what it is, put together.
 use Rattle.std.proofs.Common.{◌≡◌, ◌≤◌, ◌<◌, ℕ, suc, Bool, List, [], ◌∷◌, ◌++◌, take, length, refl, sym, ap, ◌∙◌, subst, inl, inr, arith}
 use Rattle.std.specs.Prelude.{Some, None, Option, IsTrue}
+use Rattle.std.proofs.lemmas.Option.{same_Some}
 use Rattle.m3_model.proofs.MemberLemmas.{IsIn-append_left, IsIn-append_right}
 use Rattle.m3_model.specs.Calls.{is_call}
 use Rattle.m3_model.specs.Members.{IsIn}
@@ -20,7 +21,6 @@ use Rattle.cluster_core.specs.declared.event.Event.TheVariants as event
 use Rattle.cluster_core.specs.declared.event.StepCall.{StepCall}
 use Rattle.cluster_core.specs.declared.event.StepCall.TheVariants as call
 use Rattle.cluster_core.specs.declared.event.StepReply.TheVariants as reply
-use Rattle.cluster_core.proofs.ListLemmas.{some_same}
 use Rattle.transcripts.specs.Caused.{Caused, CausedAt, HadBefore, IsDueBy, IsOwn, refusal_after}
 use Rattle.transcripts.specs.Deliveries.{LateMessage}
 use Rattle.transcripts.specs.Faults.{Damaged, Failing, Fault, Taking}
@@ -182,8 +182,8 @@ module _ {tells : Bool} (taking : List Fault) (start : Option MetaState) (turns 
       where
         -- a step tells of no disk that couldn't be taken
         by_event : (line : ℕ) (e : Event) (f : Fault) → fault_of line e ≡ Some f → f.kind ≡ Taking → ⊥
-        by_event line (event.Step n s c (reply.Refused reason.Disk)) f tells kind = let bad : Failing ≡ Taking = ap (λ (g : Fault). g.kind) (some_same _ f tells) ∙ kind in cc
-        by_event line (event.Step n s c (reply.Refused (reason.Corrupt harm))) f tells kind = let bad : Damaged ≡ Taking = ap (λ (g : Fault). g.kind) (some_same _ f tells) ∙ kind in cc
+        by_event line (event.Step n s c (reply.Refused reason.Disk)) f tells kind = let bad : Failing ≡ Taking = ap (λ (g : Fault). g.kind) (same_Some _ f tells) ∙ kind in cc
+        by_event line (event.Step n s c (reply.Refused (reason.Corrupt harm))) f tells kind = let bad : Damaged ≡ Taking = ap (λ (g : Fault). g.kind) (same_Some _ f tells) ∙ kind in cc
         by_event line _ f tells kind = cc
 
         taken_and_told : (f : Fault) → f.kind ≡ Taking → IsIn told_faults f → ⊥

@@ -2,15 +2,16 @@
 use Rattle.std.proofs.Common.{◌≡◌, ◌≢◌, ℕ, zero, suc, ◌≤◌, ◌<◌, ◌+◌, List, [], ◌∷◌, take, drop, refl, subst, inl, inr, arith, false, true}
 use Rattle.std.specs.Prelude.{Some, None, IsTrue, slice_get}
 use Rattle.std.specs.List.{All, Any}
+use Rattle.std.proofs.lemmas.Option.{same_Some}
 use Rattle.m3_model.specs.Members.{IsIn}
 use Rattle.m3_model.specs.Names.{is_name}
 use Rattle.m3_model.specs.declared.placement.Assignment.{Assignment}
 use Rattle.m3_model.specs.declared.placement.Instance.{Instance}
 use Rattle.m3_model.specs.declared.placement.ShardState.TheVariants.{Available, Leaving}
+use Rattle.m3_model.proofs.Lists.{All-from_each}
 use Rattle.placement_core.specs.Lawful.{IsLawful, IsShard, IsSpread, IsServing as IsServingShard}
 use Rattle.placement_core.specs.Shards.{Shard, former}
 use Rattle.placement_core.specs.Steps.{IsShardStep, IsStep, done_at}
-use Rattle.placement_core.proofs.ListLemmas.{All-from_each}
 use Rattle.cluster_core.specs.Answers.{PageAsked}
 use Rattle.cluster_core.specs.Earlier.{CountsNodes, GavePage, GivesTenure, HasPut, IsClock, IsSend, PlacesShard, TookPoint}
 use Rattle.cluster_core.specs.Joins.{HasJoined, HasStreamed, MergedPage}
@@ -20,7 +21,7 @@ use Rattle.cluster_core.specs.declared.event.Asked.TheVariants as asked
 use Rattle.cluster_core.specs.declared.event.Event.TheVariants as event
 use Rattle.cluster_core.specs.declared.event.StepCall.TheVariants as call
 use Rattle.cluster_core.specs.declared.event.StepReply.TheVariants as reply
-use Rattle.cluster_core.proofs.ListLemmas.{at_any, some_same}
+use Rattle.cluster_core.proofs.ListLemmas.{at_any}
 use Rattle.told_by.specs.Broken.{joined_by, moved, moving, other_name}
 use Rattle.told_by.specs.Sample.{name, point, rules}
 use Rattle.told_by.proofs.LegalSampleLemmas.{asked_at}
@@ -202,8 +203,8 @@ ends_move = record {
   where
     each_shard : (s : ℕ) (a b : Shard) → slice_get moving.shards s ≡ Some a → slice_get moved.shards s ≡ Some b → IsShardStep 3 a b (done_at s ((0, 1) ∷ []))
     each_shard zero a b was is =
-        subst (λ x. IsShardStep 3 x b (Some 1)) (some_same under_way a was)
-        (subst (λ x. IsShardStep 3 under_way x (Some 1)) (some_same (landed ∷ []) b is) (joined_by, inr (inl refl), record { node = refl; from = 0; joins = (refl, refl); next_is = refl }))
+        subst (λ x. IsShardStep 3 x b (Some 1)) (same_Some under_way a was)
+        (subst (λ x. IsShardStep 3 under_way x (Some 1)) (same_Some (landed ∷ []) b is) (joined_by, inr (inl refl), record { node = refl; from = 0; joins = (refl, refl); next_is = refl }))
     each_shard (suc s) a b was is = cc
 
 has_joined : HasJoined (take 13 events) 1 under_way 0 1 2
@@ -211,7 +212,7 @@ has_joined = record { peers = 0 ∷ []; enough = peers_enough; streamed = one (�
 
 joined_there : JoinedAt (take 13 events) moving 0 1
 joined_there shard there =
-    subst (λ x. All (JoinedThere (take 13 events) 1 x 0 1) x) (some_same under_way shard there)
+    subst (λ x. All (JoinedThere (take 13 events) 1 x 0 1) x) (same_Some under_way shard there)
     (All-from_each (JoinedThere (take 13 events) 1 under_way 0 1) under_way (both (JoinedThere (take 13 events) 1 under_way 0 1) leaving joined_by (λ here. absurd (omega (arith, here))) (λ here joins. has_joined)))
 
 lawful_end : Lawful true (take 13 events) (event.Place moved ((0, 1) ∷ []))

@@ -1,6 +1,7 @@
 -- The run of two clients beside a worker is served, so it is kept and caused; and two runs like it aren't.
 use Rattle.std.proofs.Common.{◌≡◌, ◌≤◌, ◌<◌, ◌+◌, ℕ, zero, suc, List, [], ◌∷◌, ◌++◌, length, refl, sym, ap, ◌∙◌, subst, inl, inr, arith, Bool, true}
 use Rattle.std.specs.Prelude.{◌⊎◌, Some, None, IsTrue, slice_get}
+use Rattle.std.proofs.lemmas.Option.{same_Some}
 use Rattle.m3_model.proofs.MemberLemmas.{IsIn-append_cases}
 use Rattle.m3_model.specs.Hash.{shard_of}
 use Rattle.m3_model.specs.Levels.{needed_write}
@@ -21,7 +22,7 @@ use Rattle.cluster_core.specs.declared.event.Event.TheVariants as event
 use Rattle.cluster_core.specs.declared.event.StepCall.TheVariants as call
 use Rattle.cluster_core.specs.declared.event.StepReply.{StepReply}
 use Rattle.cluster_core.specs.declared.event.StepReply.TheVariants as reply
-use Rattle.cluster_core.proofs.ListLemmas.{at_within, some_same}
+use Rattle.cluster_core.proofs.ListLemmas.{at_within}
 use Rattle.cluster_core.proofs.TraceLemmas.{lawful_place}
 use Rattle.cluster_core.proofs.UntoldLemmas.{legal_untold}
 use Rattle.transcripts.specs.Calls.{AsksShard, Call, call_of}
@@ -187,7 +188,7 @@ stood_so : (place : Placement) → MayStand start wrong_position place → (movi
 stood_so place h =
     let after = h.1 in
     elim (after_from h.0 (Some moving) place h.2) as (λ _. (moving ≡ place) ⊎ (moved ≡ place)) [
-      | inl found ↦ inl (some_same moving place found)
+      | inl found ↦ inl (same_Some moving place found)
       | inr t ↦ elim (IsIn-append_cases (inner_turns lines_before) ([] ++ after.others) t.0 (subst (λ ts. IsIn ts t.0) after.are t.1)) as (λ _. (moving ≡ place) ⊎ (moved ≡ place)) [
         | inl before ↦ inl (by_before t.0 before t.2)
         | inr other ↦ by_other t.0 (some_in after.others wrong_position.beside t.0 after.some_of other) t.2
@@ -195,12 +196,12 @@ stood_so place h =
     ]
   where
     by_before : (t : InnerTurn) → IsIn (inner_turns lines_before) t → printed t.answer ≡ Some place → moving ≡ place
-    by_before t (inl same) prints = some_same moving place (ap (λ (x : InnerTurn). printed x.answer) same ∙ prints)
+    by_before t (inl same) prints = same_Some moving place (ap (λ (x : InnerTurn). printed x.answer) same ∙ prints)
     by_before t (inr nobody) prints = absurd nobody
 
     by_other : (t : InnerTurn) → IsIn wrong_position.beside t → printed t.answer ≡ Some place → (moving ≡ place) ⊎ (moved ≡ place)
     by_other t (inl same) prints = absurd (let bad : None ≡ Some place = ap (λ (x : InnerTurn). printed x.answer) same ∙ prints in cc)
-    by_other t (inr (inl same)) prints = inr (some_same moved place (ap (λ (x : InnerTurn). printed x.answer) same ∙ prints))
+    by_other t (inr (inl same)) prints = inr (same_Some moved place (ap (λ (x : InnerTurn). printed x.answer) same ∙ prints))
     by_other t (inr (inr nobody)) prints = absurd nobody
 
 pub leaving_acks : LeavingAcks
@@ -217,7 +218,7 @@ leaving_acks others told = by_hears ((told.tells).hears wrong_position (record {
       where
         by_call : (c : Call) → call_of written ≡ Some c → (place : Placement) → MayUse start wrong_position c.version place → ((shard : ℕ) → AsksShard start wrong_position place c.id shard → (node : ℕ) → IsIn (0 ∷ []) node → IsCounted place shard node) → ⊥
         by_call c is place may counted =
-            let same : record { id = Some name; version = None; needed = needed_write taking.Majority } ≡ c = some_same (record { id = Some name; version = None; needed = needed_write taking.Majority }) c is in
+            let same : record { id = Some name; version = None; needed = needed_write taking.Majority } ≡ c = same_Some (record { id = Some name; version = None; needed = needed_write taking.Majority }) c is in
             by_place place (stood_so place (subst (λ (x : Call). MayUse start wrong_position x.version place) (sym same) may)) (λ shard asks. counted shard (subst (λ (x : Call). AsksShard start wrong_position place x.id shard) same asks))
 
 abbrev idle : Placement → Answer
@@ -231,7 +232,7 @@ idle_prints : (next : Placement) (untaken : List Fault) (end : ℕ) → IsAnswer
 idle_prints next untaken end answered =
     elim (kind_or_silent untaken start end (idle_position next) answered) as (λ _. moving ≡ next) [
       | inl silent ↦ absurd (let bad : Some next ≡ None = silent in cc)
-      | inr kind ↦ elim kind.made as (λ _. moving ≡ next) [ inl base ↦ some_same moving kind.before base ∙ sym kind.left | inr t ↦ absurd (nobody t.0 kind.before t.1 t.2) ]
+      | inr kind ↦ elim kind.made as (λ _. moving ≡ next) [ inl base ↦ same_Some moving kind.before base ∙ sym kind.left | inr t ↦ absurd (nobody t.0 kind.before t.1 t.2) ]
     ]
   where
     nobody : (t : InnerTurn) (place : Placement) → IsIn (writing.turn ∷ reading.turn ∷ []) t → EndsInto t.answer place → ⊥
@@ -248,7 +249,7 @@ placed_for_nothing tells untaken now before next more legal adds serves i place 
     let here : IsLastTurnPosition lines_before line (idle_position next) = record { lines_are = refl; line_is = refl; stands = record { front = (writing.turn ∷ []) ∷ (reading.turn ∷ []) ∷ []; later = []; back = []; in_line = refl; others = refl; client_is = refl } } in
     let by = (serves.order).beside (λ single. let bad = single.1 in cc) (suc (3 + i)) place done (omega arith, at) in
     let same = each_beside lines_before line writing.turn reading.turn (record { act = joining; answer = idle next }) refl (λ k. refl) (λ p. printed p.turn.answer ≡ Some place → next ≡ place)
-    (λ e. absurd (let bad : None ≡ Some place = e in cc)) (λ e. absurd (let bad : None ≡ Some place = e in cc)) (λ e. some_same next place e) by.printer by.here by.prints in
+    (λ e. absurd (let bad : None ≡ Some place = e in cc)) (λ e. absurd (let bad : None ≡ Some place = e in cc)) (λ e. same_Some next place e) by.printer by.here by.prints in
     let is = idle_prints next untaken ((adds.spans).to (idle_position next)) ((serves.answers).each (idle_position next) here) in
     let law = lawful_place all legal (3 + i) place done at in
     omega (arith, (law.step).version, greatest_so_far all legal 0 (suc (3 + i)) moving law.last [] refl (omega arith) (omega (arith, at_within all (suc (3 + i)) (event.Place place done) at)) law.last_is, ap (λ (q : Placement). q.version) (is ∙ same))

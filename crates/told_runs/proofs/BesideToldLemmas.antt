@@ -1,6 +1,7 @@
 -- The list of the run of two clients beside a worker tells of it.
 use Rattle.std.proofs.Common.{◌≡◌, ℕ, zero, suc, ◌+◌, List, [], ◌∷◌, ◌++◌, length, take, refl, sym, ap, ◌∙◌, subst, inl, inr, arith, false, true}
 use Rattle.std.specs.Prelude.{◌⊎◌, Option, Some, None, Bool, nat_lt, if◌then◌else◌}
+use Rattle.std.proofs.lemmas.Option.{same_Some}
 use Rattle.m3_model.proofs.SplitLemmas.{not_empty}
 use Rattle.m3_model.specs.Hash.{shard_of}
 use Rattle.m3_model.specs.Levels.{needed_read, needed_write}
@@ -27,7 +28,7 @@ use Rattle.cluster_core.specs.declared.event.Event.TheVariants as event
 use Rattle.cluster_core.specs.declared.event.StepCall.TheVariants as call
 use Rattle.cluster_core.specs.declared.event.StepReply.{StepReply}
 use Rattle.cluster_core.specs.declared.event.StepReply.TheVariants as reply
-use Rattle.cluster_core.proofs.ListLemmas.{at_any, at_same, at_within, some_same}
+use Rattle.cluster_core.proofs.ListLemmas.{at_any, at_same, at_within}
 use Rattle.transcripts.specs.Fates.{OfNode}
 use Rattle.transcripts.specs.Joined.{IsBootstrapOf}
 use Rattle.transcripts.specs.Placements.{IsCounted, MayStand, counted_nodes, printed}
@@ -63,11 +64,11 @@ start = Some found_moving
 -- the node of the first name, and that of the second, are those of the placement
 first_slot : (node : ℕ) → OfNode moving node (λ own. own ≡ name) → node ≡ 0
 first_slot zero h = refl
-first_slot (suc zero) h = absurd (names_differ (sym h.holds ∙ ap (λ (i : Instance). i.name) (some_same h.instance_ second_node (sym h.stands))))
+first_slot (suc zero) h = absurd (names_differ (sym h.holds ∙ ap (λ (i : Instance). i.name) (same_Some h.instance_ second_node (sym h.stands))))
 first_slot (suc (suc node)) h = absurd (let bad = h.stands in cc)
 
 second_slot : (node : ℕ) → OfNode moving node (λ own. own ≡ other_name) → node ≡ 1
-second_slot zero h = absurd (names_differ (ap (λ (i : Instance). i.name) (some_same first_node h.instance_ h.stands) ∙ h.holds))
+second_slot zero h = absurd (names_differ (ap (λ (i : Instance). i.name) (same_Some first_node h.instance_ h.stands) ∙ h.holds))
 second_slot (suc zero) h = refl
 second_slot (suc (suc node)) h = absurd (let bad = h.stands in cc)
 
@@ -75,7 +76,7 @@ second_slot (suc (suc node)) h = absurd (let bad = h.stands in cc)
 given_in : (node shard tenure : ℕ) → IsAssigned moving node shard tenure → (shard ≡ 0) × (((node ≡ 0) × (tenure ≡ 1)) ⊎ ((node ≡ 1) × (tenure ≡ 2)))
 given_in node zero tenure given =
     let x = IsIn-from_Any (λ (a : Assignment). (a.node ≡ node) × (a.tenure ≡ tenure)) given.0 given.2 in
-    let m : IsIn under_way x.0 = subst (λ assignments. IsIn assignments x.0) (sym (some_same under_way given.0 given.1)) x.1 in (
+    let m : IsIn under_way x.0 = subst (λ assignments. IsIn assignments x.0) (sym (same_Some under_way given.0 given.1)) x.1 in (
       refl,
       elim m as (λ _. ((node ≡ 0) × (tenure ≡ 1)) ⊎ ((node ≡ 1) × (tenure ≡ 2))) [
         | inl same ↦ inl (sym (x.2).0 ∙ ap (λ (a : Assignment). a.node) (sym same), sym (x.2).1 ∙ ap (λ (a : Assignment). a.tenure) (sym same))
@@ -92,7 +93,7 @@ begun_by : (past : List Event) (Here : ℕ → Event → Type 0) (own : List ℕ
     → ((a : StepReply) × IsBegun a × HasStep Here (IsBeginOf t) n 0 a) → HearsBegun past Here own None
 begun_by past Here own n t last named tenures step node shard tenure slot given =
     let of_node = slot.of_node in
-    let same : moving ≡ of_node.place = some_same moving of_node.place (sym last ∙ of_node.last) in
+    let same : moving ≡ of_node.place = same_Some moving of_node.place (sym last ∙ of_node.last) in
     let node_is = named node (subst (λ q. OfNode q node (λ called. called ≡ own)) (sym same) of_node.named) in
     let g = given_in node shard tenure (subst (λ q. IsAssigned q node shard tenure) (sym same) given) in
     let tenure_is = tenures node tenure node_is g.1 in
@@ -127,7 +128,7 @@ reopening_line = record {
   opened = inl (omega arith);
   adds = λ i e there. let here : 0 + i ≡ i = omega arith in subst (λ k. MayChange (position_after [] reopening reopened) (opening ++ take k of_reopening) e) here (each_at (λ j x. MayChange (position_after [] reopening reopened) (opening ++ take j of_reopening) x) 0 of_reopening (tt, (tt, tt)) i e there);
   prints = record {
-    is_place = λ p e. let same : moving ≡ p = some_same moving p e in subst (HasPlace events_before 4) same (record { place_at = 0; done = []; there = refl; in_time = omega arith });
+    is_place = λ p e. let same : moving ≡ p = same_Some moving p e in subst (HasPlace events_before 4) same (record { place_at = 0; done = []; there = refl; in_time = omega arith });
     not_earlier = λ p k. absurd (no_place p k);
   };
   ends = λ available boot x m. let is = boot.answered in let nothing : [] ≡ available = cc in absurd (subst (λ xs. IsIn xs x) (sym nothing) m);
@@ -431,7 +432,7 @@ makes_it = (
 )
 
 prints_one : (p : TurnPosition) → IsLastTurnPosition lines_before beside p → (place : Placement) → printed p.turn.answer ≡ Some place → place ≡ moved
-prints_one = each_turn (λ p. (place : Placement) → printed p.turn.answer ≡ Some place → place ≡ moved) (λ place e. absurd (let bad : None ≡ Some place = e in cc)) (λ place e. absurd (let bad : None ≡ Some place = e in cc)) (λ place e. sym (some_same moved place e))
+prints_one = each_turn (λ p. (place : Placement) → printed p.turn.answer ≡ Some place → place ≡ moved) (λ place e. absurd (let bad : None ≡ Some place = e in cc)) (λ place e. absurd (let bad : None ≡ Some place = e in cc)) (λ place e. sym (same_Some moved place e))
 
 printed_before : (p : TurnPosition) → IsTurnPosition lines_before p → printed p.turn.answer ≡ Some moving
 printed_before = at_push (λ p. printed p.turn.answer ≡ Some moving) [] (line_of reopening reopened) (λ p k. absurd (no_place p k)) (each start [] opening reopening reopened of_reopening (λ p. printed p.turn.answer ≡ Some moving) refl)
@@ -476,7 +477,7 @@ second_line = record {
         (begun_by (take 4 events) Here other_name 1 2 refl second_slot second_tenure (reply.Began 2 [], tt, (call.Begin 2, refl, (5, (omega arith, omega arith, refl)))));
   };
   not_earlier = λ p q hp hq was is of_was of_is.
-      let old : moving ≡ was = some_same moving was (sym (printed_before p hp) ∙ of_was) in
+      let old : moving ≡ was = same_Some moving was (sym (printed_before p hp) ∙ of_was) in
       omega (arith, ap (λ (x : Placement). x.version) old, ap (λ (x : Placement). x.version) (prints_one q hq is of_is));
 }
 

@@ -2,9 +2,9 @@
 use Rattle.std.proofs.Common.{◌≡◌, ◌≤◌, ◌<◌, ◌+◌, ℕ, List, [], ◌∷◌, take, length, refl, ap, ◌∙◌, subst, inl, inr, arith, Bool, false}
 use Rattle.std.specs.Prelude.{cond, count_by}
 use Rattle.m3_model.proofs.MemberLemmas.{IsIn-append_cases}
+use Rattle.m3_model.proofs.Lists.{take_whole}
 use Rattle.m3_model.specs.Members.{IsIn}
 use Rattle.transcripts.specs.Faults.{Fault}
-use Rattle.told_by.proofs.LineLemmas.{take_all}
 use Rattle.told_causes.specs.Faults.{faults_told, tells_of}
 use Rattle.told_causes.proofs.FaultLemmas.{count_append, faults_few, faults_steps}
 use Rattle.told_runs.specs.Counted.{AreFew, AreOfRun, OfServed}
@@ -35,6 +35,6 @@ few life events told taking delivered served test blind untaken =
     let told_faults = faults_told told.ends events (length turns) in
     let none = count_none test taking (λ f m. untaken f ((served.answers).untaken f m).0) in
     let least = faults_few test blind told.ends events (length turns) (told.lines).ascends in
-    let whole : take (told.ends (length turns)) events ≡ events = ap (λ n. take n events) (told.lines).last ∙ take_all events in
+    let whole : take (told.ends (length turns)) events ≡ events = ap (λ n. take n events) (told.lines).last ∙ take_whole events in
     let here : count_by test told_faults ≤ count_by (tells_of test) events = subst (λ es. count_by test told_faults ≤ count_by (tells_of test) es) whole least in
     omega (arith, count_append test taking told_faults, none, here)

@@ -1,6 +1,7 @@
 -- What is known of each call of a run, of each delivery and of each sweep: nodes have one name, slots had a replica, and moves explain their reasons.
 use Rattle.std.proofs.Common.{◌≡◌, ◌≤◌, ◌<◌, ℕ, true, List, ◌∷◌, ◌++◌, take, length, refl, sym, ap, ◌∙◌, subst, inl, inr, arith, append_assoc, Bool}
 use Rattle.std.specs.Prelude.{◌⊎◌, Some, None, Option, IsTrue, slice_get}
+use Rattle.std.proofs.lemmas.List.{take-append-le}
 use Rattle.m3_model.specs.Calls.{is_call}
 use Rattle.m3_model.specs.Members.{IsIn}
 use Rattle.m3_model.specs.declared.act.Act.{Act}
@@ -29,7 +30,7 @@ use Rattle.transcripts.specs.Reasons.{MayFail}
 use Rattle.transcripts.specs.Record.{TurnPosition, IsTurnPosition, inner_turns}
 use Rattle.told_by.specs.Hears.{HearsLate, IsHeard, IsLatePut, IsNamedBy, IsOwnCall}
 use Rattle.told_by.specs.Told.{ToldBy}
-use Rattle.told_by.proofs.LineLemmas.{line_below, take_front}
+use Rattle.told_by.proofs.LineLemmas.{line_below}
 use Rattle.told_causes.specs.Boot.{IsBootAct, IsKnownMember, OwnsWhereBegun, WasMember}
 use Rattle.told_causes.specs.Calls.{IsExplainedAt, IsExplained, IsKnownCall, IsNamedOnce, IsSteadyNode, IsUsedBy, Within}
 use Rattle.told_causes.specs.Deliveries.{IsKnownDelivery}
@@ -84,7 +85,7 @@ module _ {tells : Bool} (start : Option MetaState) (turns : List Turn) (events :
     was_member : (place : Placement) (shard node : ℕ) → IsSlotAt place shard node → WasMember start p shard node
     was_member place shard node slot =
         let w = (slot.known).members shard node slot.member in
-        let front : take w.0 turns ≡ take w.0 p.lines = ap (take w.0) at.in_run ∙ take_front p.lines (p.line ∷ at.after) w.0 w.1 in
+        let front : take w.0 turns ≡ take w.0 p.lines = ap (take w.0) at.in_run ∙ take-append-le w.0 p.lines (p.line ∷ at.after) w.1 in
         record { lines = w.0; not_later = w.1; member = ap (λ o. has_replica o shard node) (ap (λ ls. placement_after (start_placement start) (inner_turns ls)) (sym front)) ∙ w.2 }
 
     known_member : tells ≡ true → (place : Placement) (shard node : ℕ) (slot : IsSlotAt place shard node) → (name : List ℕ) → IsNamedBy events node name → IsKnownMember start turns events told p shard node name

@@ -2,8 +2,10 @@
 use Rattle.std.proofs.Common.{◌≡◌, ◌≤◌, ◌<◌, ◌+◌, ◌*◌, ℕ, suc, List, [], ◌∷◌, ◌++◌, take, length, refl, sym, ap, ◌∙◌, subst, inl, inr, arith, Bool, true, false, append_assoc, length-append}
 use Rattle.std.specs.Prelude.{◌≢◌, ◌⊎◌, Option, Some, None, if◌then◌else◌}
 use Rattle.std.proofs.lemmas.Bool.{cases_lt, le-ltb, lt-ltb}
+use Rattle.std.proofs.lemmas.List.{take-append-le}
 use Rattle.m3_model.proofs.MemberLemmas.{IsIn-append_cases, IsIn-append_left, IsIn-append_right}
 use Rattle.m3_model.proofs.SplitLemmas.{not_empty, split_push}
+use Rattle.m3_model.proofs.Lists.{take_whole}
 use Rattle.m3_model.specs.Members.{IsIn}
 use Rattle.m3_model.specs.declared.act.Act.{Act}
 use Rattle.m3_model.specs.declared.act.Act.TheVariants as act
@@ -40,7 +42,7 @@ use Rattle.told_by.specs.Spans.{IsAlone}
 use Rattle.told_by.specs.Told.{TellsLine, ToldBy}
 use Rattle.told_by.proofs.HearLemmas.{outcomes_on}
 use Rattle.told_by.proofs.KindLemmas.{clock_told, clock_told_from, clock_told_to, init_told, init_told_from, init_told_to, plain_told, plain_told_from, plain_told_to, read_told, read_told_from, read_told_to, write_told, write_told_from, write_told_to}
-use Rattle.told_by.proofs.LineLemmas.{alone_stays, at_front, line_below, line_told, line_told_ends, line_told_from, line_told_last, line_told_to, line_told_was_from, line_told_was_to, no_place, nothing_at, take_all, take_front, told_at_first, told_found}
+use Rattle.told_by.proofs.LineLemmas.{alone_stays, at_front, line_below, line_told, line_told_ends, line_told_from, line_told_last, line_told_to, line_told_was_from, line_told_was_to, no_place, nothing_at, told_at_first, told_found}
 use Rattle.told_by.proofs.OneLemmas.{each}
 use Rattle.told_by.proofs.PrintedLemmas.{ends_within}
 use Rattle.told_by.proofs.SampleLemmas.{each_at}
@@ -104,7 +106,7 @@ module _ {tells : Bool} (past : List Record) (start : Option MetaState) (turns :
   event_cases i e there = elim (cases_lt i (length events)) as (λ _. ((i < length events) × At events i e) ⊎ Adds events more i e) [ inl lt ↦ inl (lt, at_front events more i e there lt) | inr ge ↦ inr (ge, there) ]
 
   front : (i : ℕ) → i ≤ length events → take i all ≡ take i events
-  front i le = take_front events more i le
+  front i le = take-append-le i events more le
 
   here_alone : (q : TurnPosition) → IsLastTurnPosition turns line q → lists_of line ≡ (q.turn ∷ []) ∷ [] → IsAlone long q
   here_alone q k only = (line, subst (λ ls. At long (length ls) line) (sym k.lines_are) (at_cut turns line []), only)
@@ -151,7 +153,7 @@ module _ {tells : Bool} (past : List Record) (start : Option MetaState) (turns :
     alone = λ k i place done less one low high there. each_place (λ k i place. HasOneTurn long k → last_place (take (after.ends (suc k)) all) ≡ Some place)
         (λ k i place done old low high there one.
         ap (λ n. last_place (take n all)) (ends_were (suc k) old) ∙ ap last_place (front (told.ends (suc k)) (ends_within start turns events told (suc k) old)) ∙ (served.order).alone k i place done old (old_one k old one) low high there)
-        (λ i place done new one. ap (λ n. last_place (take n all)) (ends_now (length turns) refl) ∙ ap last_place (take_all all) ∙ (serves.order).alone (new_one one) i place done new)
+        (λ i place done new one. ap (λ n. last_place (take n all)) (ends_now (length turns) refl) ∙ ap last_place (take_whole all) ∙ (serves.order).alone (new_one one) i place done new)
         k i place done less low high there one;
     beside = λ k i place done less many low high there. each_place (λ k i place. ¬ HasOneTurn long k → IsPrintedIn long after.spans k i place)
         (λ k i place done old low high there many.
@@ -277,13 +279,13 @@ module _ {tells : Bool} (past : List Record) (start : Option MetaState) (turns :
   bound_on k other there =
       elim (cases_lt k (length turns)) as (λ _. after.ends (suc k) ≤ after.ends k + room other (take (suc k) long)) [
         | inl old ↦
-            subst (λ ls. after.ends (suc k) ≤ after.ends k + room other ls) (sym (take_front turns (line ∷ []) (suc k) old))
+            subst (λ ls. after.ends (suc k) ≤ after.ends k + room other ls) (sym (take-append-le (suc k) turns (line ∷ []) old))
             (subst (λ n. after.ends (suc k) ≤ n + room other (take (suc k) turns)) (sym (ends_were k (omega (arith, old))))
             (subst (λ n. n ≤ told.ends k + room other (take (suc k) turns)) (sym (ends_were (suc k) old)) (served.bound k other (at_front turns (line ∷ []) k other there old))))
         | inr ge ↦
             let is : k ≡ length turns = omega (arith, ge, at_within long k other there, length-append turns (line ∷ [])) in
             let same : other ≡ line = at_same long (length turns) other line (subst (λ m. At long m other) is there) (at_cut turns line []) in
-            let full : take (suc k) long ≡ long = ap (λ m. take m long) (let last : suc k ≡ length long = omega (arith, is, length-append turns (line ∷ [])) in last) ∙ take_all long in
+            let full : take (suc k) long ≡ long = ap (λ m. take m long) (let last : suc k ≡ length long = omega (arith, is, length-append turns (line ∷ [])) in last) ∙ take_whole long in
             let begins : after.ends k ≡ length events = ap after.ends is ∙ ends_were (length turns) (omega arith) ∙ (told.lines).last in
             subst (λ ls. after.ends (suc k) ≤ after.ends k + room other ls) (sym full)
             (subst (λ n. n ≤ after.ends k + room other long) (sym (ends_now k is))

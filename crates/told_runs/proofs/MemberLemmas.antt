@@ -3,6 +3,8 @@ use Rattle.std.proofs.Common.{◌≡◌, ℕ, zero, suc, ◌<◌, ◌≤◌, Lis
 use Rattle.std.specs.Prelude.{◌⊎◌, ⊤, Some, None, Option}
 use Rattle.std.specs.Option.{option_or}
 use Rattle.std.proofs.lemmas.Bool.{cases_lt}
+use Rattle.std.proofs.lemmas.Option.{same_Some}
+use Rattle.std.proofs.lemmas.List.{take-append-le}
 use Rattle.m3_model.specs.Members.{IsIn}
 use Rattle.m3_model.proofs.MemberLemmas.{IsIn-map}
 use Rattle.m3_model.specs.declared.act.Act.{Act}
@@ -31,7 +33,7 @@ use Rattle.cluster_core.specs.declared.event.StepCall.TheVariants as call
 use Rattle.cluster_core.specs.declared.event.StepReply.{StepReply}
 use Rattle.cluster_core.specs.declared.event.StepReply.TheVariants as reply
 use Rattle.cluster_core.specs.declared.replica_state.ReplicaState.{ReplicaState}
-use Rattle.cluster_core.proofs.ListLemmas.{any_at, at_some, at_take, at_within, fold_suc, some_same}
+use Rattle.cluster_core.proofs.ListLemmas.{any_at, at_some, at_take, at_within, fold_suc}
 use Rattle.cluster_core.proofs.TraceLemmas.{lawful_step, replica_suc, step_cases}
 use Rattle.transcripts.specs.Caused.{HadBefore}
 use Rattle.transcripts.specs.Faults.{Fault}
@@ -40,7 +42,7 @@ use Rattle.transcripts.specs.Record.{TurnPosition, IsTurnPosition, inner_turns}
 use Rattle.told_by.specs.Makes.{MayAsk}
 use Rattle.told_by.specs.Told.{ToldBy}
 use Rattle.told_by.proofs.LeaveLemmas.{place_there}
-use Rattle.told_by.proofs.LineLemmas.{line_below, take_front}
+use Rattle.told_by.proofs.LineLemmas.{line_below}
 use Rattle.told_causes.specs.Faults.{fault_of, faults_told}
 use Rattle.told_causes.specs.Standing.{WasThere}
 use Rattle.told_causes.proofs.AloneLemmas.{lines_before, take_none}
@@ -214,8 +216,8 @@ module _ {tells : Bool} (start : Option MetaState) (turns : List Turn) (events :
       failed_member i n s c (reply.Refused (reason.Corrupt harm)) there (λ kind. taken_open r c kind (taken_free r c kind law.taken)) (by_use c (reads_use c law.reads))
 
   fault_member : (i line : ℕ) (e : Event) (fault : Fault) → At events i e → fault_of line e ≡ Some fault → HasMember events i fault.node fault.shard
-  fault_member i line (event.Step n s c (reply.Refused reason.Disk)) fault there tells = let same = some_same _ fault tells in subst (λ (f : Fault). HasMember events i f.node f.shard) same (disk_member i n s c there)
-  fault_member i line (event.Step n s c (reply.Refused (reason.Corrupt harm))) fault there tells = let same = some_same _ fault tells in subst (λ (f : Fault). HasMember events i f.node f.shard) same (damage_member i n s c harm there)
+  fault_member i line (event.Step n s c (reply.Refused reason.Disk)) fault there tells = let same = same_Some _ fault tells in subst (λ (f : Fault). HasMember events i f.node f.shard) same (disk_member i n s c there)
+  fault_member i line (event.Step n s c (reply.Refused (reason.Corrupt harm))) fault there tells = let same = same_Some _ fault tells in subst (λ (f : Fault). HasMember events i f.node f.shard) same (damage_member i n s c harm there)
   fault_member i line _ fault there tells = cc
 
   -- ---- transcripts
@@ -231,7 +233,7 @@ module _ {tells : Bool} (start : Option MetaState) (turns : List Turn) (events :
       let less : suc fault.line ≤ length turns = f.early in
       let high = f.high in
       let had = had_by (suc fault.line) f.position fault.node fault.shard less (omega (arith, high)) (fault_member f.position fault.line f.e fault f.there f.tells) in
-      let front : take (suc fault.line) turns ≡ take (suc fault.line) p.lines = ap (take (suc fault.line)) at.in_run ∙ take_front p.lines (p.line ∷ at.after) (suc fault.line) early in
+      let front : take (suc fault.line) turns ≡ take (suc fault.line) p.lines = ap (take (suc fault.line)) at.in_run ∙ take-append-le (suc fault.line) p.lines (p.line ∷ at.after) early in
       subst (λ ls. HadReplica start (inner_turns ls) s n) front (subst (λ x. HadReplica start (inner_turns (take (suc fault.line) turns)) x n) of_shard (subst (HadReplica start (inner_turns (take (suc fault.line) turns)) fault.shard) of_node had))
 
   -- a slot that a restart asks had one before its line

@@ -1,6 +1,7 @@
 -- How the list of a run that is served was made: in a line of several turns a Place gives nobody a shard, since a turn that prints it, or one beside that, says which moves it ended.
 use Rattle.std.proofs.Common.{◌≡◌, ℕ, ◌≤◌, length, zero, suc, List, [], ◌∷◌, ◌++◌, map, take, refl, sym, ap, ◌∙◌, subst, inl, inr, arith, true, Bool}
 use Rattle.std.specs.Prelude.{◌⊎◌, Option, Some, None, MatchOption}
+use Rattle.std.proofs.lemmas.Option.{same_Some}
 use Rattle.m3_model.specs.Members.{IsIn}
 use Rattle.m3_model.proofs.MemberLemmas.{IsIn-append_cases, IsIn-append_left, IsIn-append_right}
 use Rattle.m3_model.specs.declared.act.Act.{Act}
@@ -20,7 +21,7 @@ use Rattle.cluster_core.specs.Legal.{Legal}
 use Rattle.cluster_core.specs.Lists.{At}
 use Rattle.cluster_core.specs.declared.event.Event.{Event}
 use Rattle.cluster_core.specs.declared.event.Event.TheVariants as event
-use Rattle.cluster_core.proofs.ListLemmas.{at_some, at_take, at_within, some_same}
+use Rattle.cluster_core.proofs.ListLemmas.{at_some, at_take, at_within}
 use Rattle.cluster_core.proofs.TraceLemmas.{lawful_place}
 use Rattle.transcripts.specs.Caused.{EndsInto, IsMade}
 use Rattle.transcripts.specs.Faults.{Fault}
@@ -82,10 +83,10 @@ record IsEndOfMoves (start : Option MetaState) (p : TurnPosition) (place : Place
 prints_by : (taking : List Fault) (start : Option MetaState) (p : TurnPosition) (a : Act) (b : Answer) (place : Placement) → IsOfKind taking start p a b → printed b ≡ Some place
     → (sets_seed a b ≡ true) ⊎ ((lists_of p.line ≡ (p.turn ∷ []) ∷ []) ⊎ (IsEndOfMoves start p place ⊎ IsMade start p place))
 prints_by taking start p (act.Init rf shards seed nodes) (answer.Placed next version) place kind prints = inl refl
-prints_by taking start p (act.Bootstrap node asked) (answer.Available [] next version) place kind prints = inr (inr (inr (subst (IsMade start p) (sym kind.left ∙ some_same next place prints) kind.made)))
+prints_by taking start p (act.Bootstrap node asked) (answer.Available [] next version) place kind prints = inr (inr (inr (subst (IsMade start p) (sym kind.left ∙ same_Some next place prints) kind.made)))
 prints_by taking start p (act.Bootstrap node asked) (answer.Available (x ∷ available) next version) place kind prints =
     let pairs = map (λ (y : ℕ × List ℕ). (y.0, (kind.left).node)) (x ∷ available) in
-    inr (inr (inl (record { before = kind.before; stands = kind.stands; pairs = pairs; next = subst (IsAvailable kind.before pairs) (some_same next place prints) (kind.left).next })))
+    inr (inr (inl (record { before = kind.before; stands = kind.stands; pairs = pairs; next = subst (IsAvailable kind.before pairs) (same_Some next place prints) (kind.left).next })))
 prints_by taking start p (act.Add node group) (answer.Placed next version) place kind prints = inr (inl kind.0)
 prints_by taking start p (act.Drain node) (answer.Placed next version) place kind prints = inr (inl kind.0)
 prints_by taking start p (act.Cancel node) (answer.Placed next version) place kind prints = inr (inl kind.0)
@@ -143,7 +144,7 @@ module _ {tells : Bool} (taking : List Fault) (start : Option MetaState) (turns 
 
       by_start : (o : Option MetaState) → start ≡ o → start_placement start ≡ Some place → (z : ℕ) × (done : List (ℕ × ℕ)) × At events z (event.Place place done)
       by_start None is found = absurd (let bad : None ≡ Some place = sym (ap start_placement is) ∙ found in cc)
-      by_start (Some state) is found = (0, [], subst (λ q. At events 0 (event.Place q [])) (some_same state.place place (sym (ap start_placement is) ∙ found)) (told.opened state is).placed)
+      by_start (Some state) is found = (0, [], subst (λ q. At events 0 (event.Place q [])) (same_Some state.place place (sym (ap start_placement is) ∙ found)) (told.opened state is).placed)
 
   -- a placement that a turn of this line ended moves into
   record IsEndedBy (place : Placement) : Type 0 where
@@ -197,7 +198,7 @@ module _ {tells : Bool} (taking : List Fault) (start : Option MetaState) (turns 
   gives_nobody k (suc z) place done many low there by last last_is n s tenure given =
       let law = lawful_place events legal z place done there in
       let ended = ended_by by.printer by.in_run (λ one. many (subst (HasOneTurn turns) by.of_line one)) place by.prints z law.last (omega (arith, low, ap told.ends by.of_line)) (omega (arith, at_within events (suc z) (event.Place place done) there)) law.last_is (law.step).version in
-      by_moves ended.ender ended.in_run ended.moves law.last law.last_is (law.step).version (some_same last law.last (sym last_is ∙ law.last_is))
+      by_moves ended.ender ended.in_run ended.moves law.last law.last_is (law.step).version (same_Some last law.last (sym last_is ∙ law.last_is))
     where
       by_moves : (p : TurnPosition) → IsTurnPosition turns p → IsEndOfMoves start p place → (was : Placement) → last_place (take (suc z) events) ≡ Some was → place.version ≡ suc was.version → last ≡ was → IsAssigned last n s tenure
       by_moves p at moves was was_is version same =

@@ -1,6 +1,7 @@
 -- No begin that a turn is to make is refused as not owned: tenures never fall, and files hold none above the first with which a slot begins.
 use Rattle.std.proofs.Common.{◌≡◌, ◌≤◌, ◌<◌, ℕ, suc, true, List, [], take, length, sym, ap, ◌∙◌, inl, inr, arith}
 use Rattle.std.specs.Prelude.{Some, Option}
+use Rattle.std.proofs.lemmas.Option.{same_Some}
 use Rattle.m3_model.specs.declared.placement.Placement.{Placement}
 use Rattle.m3_model.specs.declared.reason.Reason.TheVariants as reason
 use Rattle.m3_model.specs.declared.rules.MetaState.{MetaState}
@@ -13,7 +14,7 @@ use Rattle.cluster_core.specs.declared.event.Event.{Event}
 use Rattle.cluster_core.specs.declared.event.Event.TheVariants as event
 use Rattle.cluster_core.specs.declared.event.StepCall.TheVariants as call
 use Rattle.cluster_core.specs.declared.event.StepReply.TheVariants as reply
-use Rattle.cluster_core.proofs.ListLemmas.{at_take, some_same}
+use Rattle.cluster_core.proofs.ListLemmas.{at_take}
 use Rattle.cluster_core.proofs.TraceLemmas.{lawful_step}
 use Rattle.transcripts.specs.Placements.{printed}
 use Rattle.transcripts.specs.Record.{TurnPosition, IsTurnPosition}
@@ -62,7 +63,7 @@ module _ (start : Option MetaState) (turns : List Turn) (events : List Event) (l
       let k = length q.lines in
       let less : k < length turns = line_below turns q at in
       let init = (told.tells).init.inits q at sets in
-      let same : init.place ≡ place = some_same init.place place (ap printed (sym init.answered) ∙ prints) in
+      let same : init.place ≡ place = same_Some init.place place (ap printed (sym init.answered) ∙ prints) in
       let low : told.ends k ≤ 0 = omega (arith, (told.lines).low q at, init.from_is) in
       let high : i < told.ends (suc k) = omega (arith, here.1, (told.lines).high q at) in
       let bound = ends_within start turns events told (suc k) less in
@@ -81,7 +82,7 @@ module _ (start : Option MetaState) (turns : List Turn) (events : List Event) (l
           let stood = place_there (take z events) (g.is).place (g.is).last in
           let there = at_take events stood.0 z (event.Place (g.is).place stood.1) stood.2 in
           let one = order.places.alone (length q.lines) stood.0 (g.is).place stood.1 less only (omega (arith, low)) (omega (arith, there.1, before)) there.0 in
-          let is : (g.is).place ≡ place = some_same (g.is).place first (sym one ∙ last) ∙ same in
+          let is : (g.is).place ≡ place = same_Some (g.is).place first (sym one ∙ last) ∙ same in
           tenure_grows events legal n s z z own tenure some (omega arith) (omega (arith, before, bound)) g (given_by events legal n s z tenure place ((g.is).last ∙ ap Some is) given)
 
   pub owns : (node shard : ℕ) → OwnsWhereBegun start turns events told node shard

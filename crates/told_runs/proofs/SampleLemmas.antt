@@ -4,6 +4,7 @@ use Rattle.std.specs.Prelude.{Some, None, slice_get}
 use Rattle.std.proofs.Common.{append-nil}
 use Rattle.std.specs.Ordering.{is_gt}
 use Rattle.std.proofs.Math.Nat.{mul-le-mul_left}
+use Rattle.std.proofs.lemmas.Option.{same_Some}
 use Rattle.m3_model.specs.Members.{IsIn}
 use Rattle.m3_model.specs.declared.act.Act.{Act}
 use Rattle.m3_model.specs.declared.answer.Answer.{Answer}
@@ -28,7 +29,7 @@ use Rattle.cluster_core.specs.declared.event.StepReply.TheVariants as reply
 use Rattle.transcripts.specs.Caused.{IsRefusedWhole, acts_in}
 use Rattle.transcripts.specs.Record.{TurnPosition, IsAfter, IsTurnPosition, IsLastTurnPosition, inner_turns, line_of}
 use Rattle.transcripts.proofs.PositionLemmas.{at_push}
-use Rattle.cluster_core.proofs.ListLemmas.{at_in, at_within, some_same}
+use Rattle.cluster_core.proofs.ListLemmas.{at_in, at_within}
 use Rattle.cluster_core.proofs.UntoldLemmas.{legal_untold}
 use Rattle.told_by.specs.Lines.{position_after}
 use Rattle.told_by.specs.Sample.{begun, events, fetched, name, place, placed, series, spaced, turns, written}
@@ -133,11 +134,11 @@ initial = record { version = refl; rf_is = refl; instances = refl; count = refl;
     least other e = subst (λ o. is_gt (taking_cmp (first_instances ((name, name) ∷ [])) loads 0 o) ≡ false) (sym e) refl
 
     placed_there : (r : ℕ) (a : Assignment) → slice_get only r ≡ Some a → IsPlaced (first_instances ((name, name) ∷ [])) (λ n. load n ([] ++ take r only ∷ [])) (take r only) a
-    placed_there zero a e = (0, record { may = record { within = omega arith; free = λ b m. absurd m }; least = λ other may. least other (may_hold other may) }, sym (some_same (first_at 0) a e))
+    placed_there zero a e = (0, record { may = record { within = omega arith; free = λ b m. absurd m }; least = λ other may. least other (may_hold other may) }, sym (same_Some (first_at 0) a e))
     placed_there (suc r) a e = cc
 
     each_shard : (s : ℕ) (shard : Shard) → slice_get place.shards s ≡ Some shard → IsPlacedShard 1 place.instances (take s place.shards) shard
-    each_shard zero shard e = subst (IsPlacedShard 1 place.instances []) (some_same only shard e) (record { all = refl; each = placed_there })
+    each_shard zero shard e = subst (IsPlacedShard 1 place.instances []) (same_Some only shard e) (record { all = refl; each = placed_there })
     each_shard (suc s) shard e = cc
 
 no_order : (before : List Turn) (line : Turn) (after : List Turn) → turns ≡ before ++ line ∷ after → IsRefusedWhole None before line.request line.reply

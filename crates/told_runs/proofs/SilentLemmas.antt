@@ -2,6 +2,7 @@
 use Rattle.std.proofs.Common.{◌≡◌, ℕ, Bool, true, false, List, refl, sym, ap, ◌∙◌, inl, inr}
 use Rattle.std.specs.Prelude.{Some, None, Option, option_map, not, ◌&&◌, nat_le, length}
 use Rattle.std.specs.Option.{option_or}
+use Rattle.std.proofs.lemmas.Option.{same_Some}
 use Rattle.m3_model.specs.Calls.{is_call}
 use Rattle.m3_model.specs.declared.act.Act.{Act}
 use Rattle.m3_model.specs.declared.act.Act.TheVariants as act
@@ -12,7 +13,6 @@ use Rattle.m3_model.specs.declared.placement.Placement.{Placement}
 use Rattle.m3_model.specs.declared.rules.MetaState.{MetaState}
 use Rattle.m3_model.specs.declared.rules.Rules.{Rules}
 use Rattle.m3_model.specs.declared.rules.Space.{Space}
-use Rattle.cluster_core.proofs.ListLemmas.{some_same}
 use Rattle.transcripts.specs.Caused.{refusal_after}
 use Rattle.transcripts.specs.Faults.{Fault}
 use Rattle.transcripts.specs.Placements.{printed}
@@ -23,12 +23,12 @@ use Rattle.told_causes.proofs.RefusalLemmas.{or_cases}
 use Rattle.told_runs.specs.Answers.{IsAnswered, IsDecidedBy, IsOfKind}
 
 if_silent : (b : Bool) (own r : Answer) → printed own ≡ None → answer_if b own ≡ Some r → printed r ≡ None
-if_silent true own r silent e = ap printed (sym (some_same own r e)) ∙ silent
+if_silent true own r silent e = ap printed (sym (same_Some own r e)) ∙ silent
 if_silent false own r silent e = cc
 
 unknown_silent : (o : Option (List ℕ)) (r : Answer) → option_map (λ name. answer.Unknown name) o ≡ Some r → printed r ≡ None
 unknown_silent None r e = cc
-unknown_silent (Some name) r e = ap printed (sym (some_same (answer.Unknown name) r e))
+unknown_silent (Some name) r e = ap printed (sym (same_Some (answer.Unknown name) r e))
 
 names_silent : (place : Option Placement) (name : List ℕ) (r : Answer) → names_reached place name ≡ Some r → printed r ≡ None
 names_silent None name r e = cc

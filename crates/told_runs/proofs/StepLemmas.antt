@@ -4,6 +4,7 @@ use Rattle.std.specs.Prelude.{not, ◌&&◌, nat_le}
 use Rattle.std.specs.Option.{option_or}
 use Rattle.std.proofs.Math.Nat.{mul-le-mul_left}
 use Rattle.std.proofs.lemmas.List.{append-nil}
+use Rattle.std.proofs.lemmas.Option.{same_Some}
 use Rattle.m3_model.specs.Members.{IsIn}
 use Rattle.m3_model.specs.declared.act.Act.{Act}
 use Rattle.m3_model.specs.declared.act.Act.TheVariants as act
@@ -15,6 +16,7 @@ use Rattle.m3_model.specs.declared.reason.Reason.TheVariants as reason
 use Rattle.m3_model.specs.declared.rules.MetaState.{MetaState}
 use Rattle.m3_model.specs.declared.turn.Request.{Request}
 use Rattle.m3_model.specs.declared.turn.Turn.{Turn}
+use Rattle.m3_model.proofs.Lists.{take_whole}
 use Rattle.placement_core.specs.Lawful.{IsLawful}
 use Rattle.placement_core.specs.NodeNames.{is_listed}
 use Rattle.placement_acts.specs.Acts.{IsDueBy, IsInTheWay, LeadsNowhere, Plans, answer_if, is_known, is_step_act, names_due, order_due, refusal_due, unknown_due, versions_due}
@@ -28,7 +30,6 @@ use Rattle.cluster_core.specs.declared.event.StepCall.{StepCall}
 use Rattle.cluster_core.specs.declared.event.StepCall.TheVariants as call
 use Rattle.cluster_core.specs.declared.event.StepReply.{StepReply}
 use Rattle.cluster_core.specs.declared.event.StepReply.TheVariants as reply
-use Rattle.cluster_core.proofs.ListLemmas.{some_same}
 use Rattle.transcripts.specs.Caused.{IsStepOf, acts_in, kept_after}
 use Rattle.transcripts.specs.Deliveries.{LateMessage}
 use Rattle.transcripts.specs.Faults.{AreDifferent, Fault, Taking}
@@ -39,7 +40,7 @@ use Rattle.told_by.specs.Hears.{InStretch}
 use Rattle.told_by.specs.Lines.{position_after}
 use Rattle.told_by.specs.Steps.{EndsGone, IsUnmoved}
 use Rattle.told_by.proofs.KindLemmas.{taken}
-use Rattle.told_by.proofs.LineLemmas.{nothing_at, take_all}
+use Rattle.told_by.proofs.LineLemmas.{nothing_at}
 use Rattle.told_by.proofs.OneLemmas.{at_back}
 use Rattle.told_by.proofs.StepLemmas.{ends_in, last_behind, steps_tell, unmoved_tell}
 use Rattle.told_runs.specs.Answers.{HearsOf, IsAnswered, IsDecidedBy, IsOfKind}
@@ -95,7 +96,7 @@ module _ (taking : List Fault) (start : Option MetaState) (turns : List Turn) (p
 -- ---- no placement
 
 if_unmoved : (test : Bool) (one r : Answer) → IsUnmoved one → answer_if test one ≡ Some r → IsUnmoved r
-if_unmoved true one r h e = subst IsUnmoved (some_same one r e) h
+if_unmoved true one r h e = subst IsUnmoved (same_Some one r e) h
 if_unmoved false one r h e = cc
 
 or_unmoved : (x y : Option Answer) (r : Answer) → ((s : Answer) → x ≡ Some s → IsUnmoved s) → ((s : Answer) → y ≡ Some s → IsUnmoved s) → option_or x y ≡ Some r → IsUnmoved r
@@ -130,7 +131,7 @@ module _ (place : Placement) (kept : ℕ) where
   way_unmoved a (answer.Group shard) h = tt
   way_unmoved a _ h = absurd h
 
-  nowhere_unmoved : (a : Act) (b : Answer) → is_step_act a ≡ true → LeadsNowhere (Some place) kept a b → IsUnmoved b
+  pub nowhere_unmoved : (a : Act) (b : Answer) → is_step_act a ≡ true → LeadsNowhere (Some place) kept a b → IsUnmoved b
   nowhere_unmoved a b step (inl memory) = subst IsUnmoved (sym memory) tt
   nowhere_unmoved a b step (inr h) = by (refusal_due (Some place) kept a) refl h
     where
@@ -159,7 +160,7 @@ module _ (next : Placement) (lawful : IsLawful next) (start : Option MetaState) 
 
   only_next : (k : ℕ) (place : Placement) (done : List (ℕ × ℕ)) → At added k (event.Place place done) → next ≡ place
   only_next zero place done there = cc
-  only_next (suc zero) place done there = let e : event.Place next [] ≡ event.Place place done = some_same _ _ there in cc
+  only_next (suc zero) place done there = let e : event.Place next [] ≡ event.Place place done = same_Some _ _ there in cc
   only_next (suc (suc k)) place done there = absurd (gone (event.Place place done) (ends_in next k ends (event.Place place done) there))
 
   -- its steps end tenures
@@ -172,7 +173,7 @@ module _ (next : Placement) (lawful : IsLawful next) (start : Option MetaState) 
   last_here k = last_behind next start turns events a step ends gone k
 
   last_whole : last_place (events ++ added) ≡ Some next
-  last_whole = ap (λ es. last_place (events ++ es)) (sym (take_all added)) ∙ last_here (length ends)
+  last_whole = ap (λ es. last_place (events ++ es)) (sym (take_whole added)) ∙ last_here (length ends)
 
   made_in_order : AddsInOrder events added
   made_in_order = record {
@@ -182,7 +183,7 @@ module _ (next : Placement) (lawful : IsLawful next) (start : Option MetaState) 
         let b = at_back events added i (event.Step n s call.End r) adds.1 adds.0 in
         let m = only_ends b.0 n s call.End r b.2 in
         let front : take i (events ++ added) ≡ events ++ take (suc (suc m.0)) added = ap (λ k. take k (events ++ added)) b.1 ∙ taken start turns events a (answer.Placed next next.version) added b.0 ∙ ap (λ k. events ++ take k added) m.1 in
-        subst (λ q. has_replica (Some q) s n ≡ false) (some_same next place (sym (last_here m.0) ∙ ap last_place (sym front) ∙ is)) m.2;
+        subst (λ q. has_replica (Some q) s n ≡ false) (same_Some next place (sym (last_here m.0) ∙ ap last_place (sym front) ∙ is)) m.2;
   }
 
   opens_none : OpensNext start events added

@@ -2,6 +2,7 @@
 use Rattle.std.proofs.Common.{◌≡◌, ℕ, zero, suc, ◌<◌, ◌≤◌, List, [], ◌∷◌, ◌++◌, take, length, refl, sym, ap, ◌∙◌, subst, inl, inr, arith, Bool, true}
 use Rattle.std.specs.Prelude.{◌⊎◌, Some, None, Option}
 use Rattle.std.proofs.lemmas.Bool.{cases_lt}
+use Rattle.std.proofs.lemmas.Option.{same_Some}
 use Rattle.m3_model.proofs.MemberLemmas.{IsIn-append_cases, IsIn-append_left, IsIn-append_right, IsIn-filter_map}
 use Rattle.m3_model.specs.Members.{IsIn}
 use Rattle.m3_model.specs.declared.placement.Placement.{Placement}
@@ -12,7 +13,7 @@ use Rattle.cluster_core.specs.Legal.{Legal}
 use Rattle.cluster_core.specs.Lists.{At}
 use Rattle.cluster_core.specs.declared.event.Event.{Event}
 use Rattle.cluster_core.specs.declared.event.Event.TheVariants as event
-use Rattle.cluster_core.proofs.ListLemmas.{fold_suc, some_same}
+use Rattle.cluster_core.proofs.ListLemmas.{fold_suc}
 use Rattle.transcripts.specs.Placements.{MayStand, MayUse, has_replica, placement_after, placements, printed, start_placement}
 use Rattle.transcripts.specs.Record.{AreSomeOf, InnerTurn, TurnPosition, IsTurnPosition, inner_turns}
 use Rattle.transcripts.proofs.PlacementLemmas.{after_from}
@@ -98,7 +99,7 @@ module _ {tells : Bool} (start : Option MetaState) (turns : List Turn) (events :
         where
           by : (z : ℕ) → At events z (event.Place place done) → z < told.ends 0 → IsKnownPlace start turns events told p place
           by zero there opening =
-              let both : event.Place state.place [] ≡ event.Place place done = some_same (event.Place state.place []) (event.Place place done) (sym (told.opened state is).placed ∙ there) in
+              let both : event.Place state.place [] ≡ event.Place place done = same_Some (event.Place state.place []) (event.Place place done) (sym (told.opened state is).placed ∙ there) in
               let same : state.place ≡ place = cc in
               subst (IsKnownPlace start turns events told p) same (found_known p state is)
           by (suc zero) there opening = absurd (legal 1 (event.Place place done) there)
@@ -169,7 +170,7 @@ module _ {tells : Bool} (start : Option MetaState) (turns : List Turn) (events :
       where
         by_start : (o : Option MetaState) → start ≡ o → start_placement start ≡ Some place → IsKnownPlace start turns events told p place
         by_start None is found = let bad : None ≡ Some place = sym (ap start_placement is) ∙ found in cc
-        by_start (Some state) is found = subst (IsKnownPlace start turns events told p) (some_same state.place place (sym (ap start_placement is) ∙ found)) (found_known p state is)
+        by_start (Some state) is found = subst (IsKnownPlace start turns events told p) (same_Some state.place place (sym (ap start_placement is) ∙ found)) (found_known p state is)
 
         among : (others : List InnerTurn) → AreSomeOf others p.beside → (t : InnerTurn) → IsIn (inner_turns p.lines ++ (p.earlier ++ others)) t → IsIn (inner_turns p.lines ++ (p.earlier ++ p.beside)) t
         among others some t m =

@@ -2,15 +2,13 @@
 use Rattle.std.proofs.Common.{◌≡◌, List, [], ◌∷◌, ◌++◌, refl, sym, ap, ◌∙◌, inl, inr}
 use Rattle.std.specs.Prelude.{◌⊎◌, Some, None, Option, if◌then◌else◌}
 use Rattle.std.proofs.lemmas.Bool.{cases_lt, le-ltb, lt-ltb}
+use Rattle.std.proofs.lemmas.Option.{same_Some}
 use Rattle.m3_model.proofs.MemberLemmas.{IsIn-append_left, IsIn-filter_map, filter_map-IsIn}
 use Rattle.m3_model.specs.Members.{IsIn}
 use Rattle.m3_model.specs.declared.placement.Placement.{Placement}
 use Rattle.m3_model.specs.declared.rules.MetaState.{MetaState}
 use Rattle.transcripts.specs.Placements.{later_placement, placement_after, placements, printed, start_placement}
 use Rattle.transcripts.specs.Record.{InnerTurn}
-
-some_same : {X : Type 0} (x y : X) → Some x ≡ Some y → x ≡ y
-some_same x y e = cc
 
 -- ---- placements that stand
 
@@ -37,7 +35,7 @@ after_from (t ∷ ts) base p e =
 -- the placement at the start is known
 pub known_first : (o : Option MetaState) (ts : List InnerTurn) (place : Placement) → start_placement o ≡ Some place → IsIn (placements o ts) place
 known_first None ts place is = cc
-known_first (Some state) ts place is = inl (some_same state.place place is)
+known_first (Some state) ts place is = inl (same_Some state.place place is)
 
 -- one that a turn prints is
 pub known_printed : (o : Option MetaState) (ts : List InnerTurn) (t : InnerTurn) (place : Placement) → IsIn ts t → printed t.answer ≡ Some place → IsIn (placements o ts) place

@@ -2,13 +2,11 @@
 use Rattle.std.proofs.Common.{◌≡◌, ℕ, List, refl, ap, subst}
 use Rattle.std.specs.Prelude.{Option, Some, None, Result, Ok, Err, map, option_map}
 use Rattle.std.specs.Result.{result_ok, result_err}
+use Rattle.std.proofs.lemmas.Option.{same_Some}
 use Rattle.m3_model.specs.Members.{IsIn}
 use Rattle.m3_model.specs.declared.reason.Reason.{Reason}
 use Rattle.m3_model.proofs.MemberLemmas.{IsIn-filter_map, map-IsIn}
 use Rattle.transcripts.specs.Sweeps.{Entry, done_in, failed_in, slot_of}
-
-some_same : {X : Type 0} (a b : X) → Some a ≡ Some b → a ≡ b
-some_same a b e = cc
 
 -- the entry of a slot that did it
 pub record HasDone (entries : List Entry) (x : ℕ × ℕ × ℕ) : Type 0 where
@@ -23,7 +21,7 @@ done_entry entries x m = let found = IsIn-filter_map (λ (e : Entry). option_map
   where
     by : (e : Entry) (said : Result ℕ Reason) → e.said ≡ said → IsIn entries e → option_map (λ n. (e.node, e.shard, n)) (result_ok said) ≡ Some x → HasDone entries x
     by e (Ok n) is among same =
-        let it : (e.node, e.shard, n) ≡ x = some_same (e.node, e.shard, n) x same in
+        let it : (e.node, e.shard, n) ≡ x = same_Some (e.node, e.shard, n) x same in
         record { entry = e; among = among; node_is = ap (λ (y : ℕ × ℕ × ℕ). y.0) it; shard_is = ap (λ (y : ℕ × ℕ × ℕ). y.1) it; said_is = subst (λ k. e.said ≡ Ok k) (ap (λ (y : ℕ × ℕ × ℕ). y.2) it) is }
     by e (Err why) is among same = cc
 
@@ -41,7 +39,7 @@ failed_entry entries x m = let found = IsIn-filter_map (λ (e : Entry). option_m
     by : (e : Entry) (said : Result ℕ Reason) → e.said ≡ said → IsIn entries e → option_map (λ why. (e.node, e.shard, why)) (result_err said) ≡ Some x → HasRefused entries x
     by e (Ok n) is among same = cc
     by e (Err why) is among same =
-        let it : (e.node, e.shard, why) ≡ x = some_same (e.node, e.shard, why) x same in
+        let it : (e.node, e.shard, why) ≡ x = same_Some (e.node, e.shard, why) x same in
         record { entry = e; among = among; node_is = ap (λ (y : ℕ × ℕ × Reason). y.0) it; shard_is = ap (λ (y : ℕ × ℕ × Reason). y.1) it; said_is = subst (λ k. e.said ≡ Err k) (ap (λ (y : ℕ × ℕ × Reason). y.2) it) is }
 
 -- an entry's slot is one of the slots

@@ -12,6 +12,7 @@ use Rattle.m3_model.specs.declared.rules.MetaState.{MetaState}
 use Rattle.m3_model.specs.declared.rules.Rules.{Rules}
 use Rattle.m3_model.specs.declared.turn.Turn.{Turn}
 use Rattle.m3_model.proofs.MemberLemmas.{map-IsIn}
+use Rattle.m3_model.proofs.Lists.{IsIn-flat_map, flat_map-IsIn}
 use Rattle.m3_outside.specs.DiskState.{DiskState}
 use Rattle.m3_outside.specs.declared.disk.Disk.{Ghosts}
 use Rattle.placement_core.specs.Shards.{nodes_of, shard_at}
@@ -29,7 +30,6 @@ use Rattle.told_runs.proofs.MemberLemmas.{listed_member}
 use Rattle.transcripts.specs.Sweeps.{IsStatus}
 use Rattle.call_lines.specs.Laws.{IsCalmCall}
 use Rattle.cluster_members.specs.declared.members.Members.{Members}
-use Rattle.cluster_upkeep.proofs.ListLemmas.{IsIn-flat, flat-IsIn}
 use Rattle.cluster_upkeep.specs.Status.{report_of, told_at}
 use Rattle.cluster_upkeep.specs.Upkeep.{HasTold}
 use Rattle.cluster_upkeep.proofs.SweepLemmas.{told_long, told_quiet}
@@ -65,7 +65,7 @@ module _ {D : Type 0} {G : Ghosts D} (state : D → DiskState) (start : Option M
 
   -- each event is the report of one of the slots
   each : (e : Event) → IsIn more e → IsHaltOf IsReport old.slots.items e
-  each e m = let found = IsIn-flat told_at lines e m in by found.0 found.1 found.2
+  each e m = let found = IsIn-flat_map told_at lines e m in by found.0 found.1 found.2
     where
       by : (line : StatusLine) → IsIn lines line → IsIn (told_at line) e → IsHaltOf IsReport old.slots.items e
       by line among (inl is) = record { slot = slot_at line.node line.shard; among = slot_there start turns old stands line.node line.shard (member line among); c = call.Report; kind = refl; is = inr (reply.Told (report_of line), sym is) }
@@ -79,7 +79,7 @@ module _ {D : Type 0} {G : Ghosts D} (state : D → DiskState) (start : Option M
     place = old.net.state.place;
     last = stands.ready.place;
     version_is = h.version_is;
-    each = λ line m. (listed_member old.net.state.place line.shard line.node (member line m), (report_of line, refl, refl, happens_in events more (step_of line) (flat-IsIn told_at lines line (step_of line) m (inl refl))));
+    each = λ line m. (listed_member old.net.state.place line.shard line.node (member line m), (report_of line, refl, refl, happens_in events more (step_of line) (flat_map-IsIn told_at lines line (step_of line) m (inl refl))));
   }
 
   status_is : IsStatus start (position_after turns act.Status b) now lines version

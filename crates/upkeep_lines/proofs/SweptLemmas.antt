@@ -2,6 +2,7 @@
 use Rattle.std.proofs.Common.{◌≡◌, ◌<◌, ◌≤◌, ◌*◌, ℕ, List, [], ◌∷◌, ◌++◌, length, map, refl, sym, ap, ◌∙◌, subst, inl, inr, arith}
 use Rattle.std.specs.Prelude.{◌⊎◌, Option, Some, None, Result, Ok, Err, IsErrOf}
 use Rattle.std.specs.List.{flat_map}
+use Rattle.std.proofs.lemmas.Option.{same_Some}
 use Rattle.m3_model.specs.Members.{IsIn}
 use Rattle.m3_model.specs.declared.act.Act.{Act}
 use Rattle.m3_model.specs.declared.act.Act.TheVariants as act
@@ -14,6 +15,7 @@ use Rattle.m3_model.specs.declared.reason.Reason.TheVariants as reason
 use Rattle.m3_model.specs.declared.rules.MetaState.{MetaState}
 use Rattle.m3_model.specs.declared.rules.Rules.{Rules}
 use Rattle.m3_model.specs.declared.turn.Turn.{Turn}
+use Rattle.m3_model.proofs.Lists.{IsIn-flat_map, flat_map-IsIn}
 use Rattle.m3_outside.specs.DiskState.{DiskState}
 use Rattle.m3_outside.specs.declared.disk.Disk.{Ghosts}
 use Rattle.cluster_core.specs.declared.event.Asked.TheVariants as asked
@@ -23,7 +25,6 @@ use Rattle.cluster_core.specs.declared.event.StepCall.{StepCall}
 use Rattle.cluster_core.specs.declared.event.StepCall.TheVariants as call
 use Rattle.cluster_core.specs.declared.event.StepReply.{StepReply}
 use Rattle.cluster_core.specs.declared.event.StepReply.TheVariants as reply
-use Rattle.cluster_core.proofs.ListLemmas.{some_same}
 use Rattle.replica_machine.specs.Steps.{reply_by}
 use Rattle.replica_exchange.specs.declared.slot.Slot.{Slot}
 use Rattle.session_net.specs.Messages.{exchange}
@@ -38,7 +39,7 @@ use Rattle.transcripts.specs.Sweeps.{Entry, IsSweptOver, done_in, failed_in, slo
 use Rattle.transcripts.proofs.SweepLemmas.{done_entry, entry_slot, failed_entry}
 use Rattle.call_lines.specs.Laws.{IsCalmCall}
 use Rattle.cluster_members.specs.declared.members.Members.{Members}
-use Rattle.cluster_upkeep.proofs.ListLemmas.{IsIn-flat, flat-IsIn, flat_long}
+use Rattle.cluster_upkeep.proofs.ListLemmas.{flat_long}
 use Rattle.cluster_upkeep.specs.Sweeps.{asked_at}
 use Rattle.cluster_upkeep.specs.Upkeep.{HasSwept}
 use Rattle.cluster_upkeep.proofs.SweepLemmas.{asked_quiet}
@@ -76,7 +77,7 @@ module _ {D : Type 0} {G : Ghosts D} (state : D → DiskState) (start : Option M
   -- each event asks one of the slots, or is its step
   each : (e : Event) → IsIn more e → IsHaltOf IsIt old.slots.items e
   each e m =
-      let found = IsIn-flat (asked_at c) h.entries e m in
+      let found = IsIn-flat_map (asked_at c) h.entries e m in
       let x = found.0 in
       let among = (h.members.each x.node x.shard).0 (entry_slot h.entries x x.node x.shard found.1 refl refl) in
       exchange_halts IsIt old.slots.items (slot_at x.node x.shard) (slot_there start turns old stands x.node x.shard among) c refl (reply_by (λ n. reply.Count n) x.said) e found.2
@@ -84,7 +85,7 @@ module _ {D : Type 0} {G : Ghosts D} (state : D → DiskState) (start : Option M
   step_here : (x : Entry) → IsIn h.entries x → Happens Here (event.Step x.node x.shard c (reply_by (λ n. reply.Count n) x.said))
   step_here x among =
       let step : Event = event.Step x.node x.shard c (reply_by (λ n. reply.Count n) x.said) in
-      happens_in events more step (flat-IsIn (asked_at c) h.entries x step among (inr (inl refl)))
+      happens_in events more step (flat_map-IsIn (asked_at c) h.entries x step among (inr (inl refl)))
 
   heard : HearsSwept Here (IsSweepCall a) done failed
   heard = record {
@@ -144,7 +145,7 @@ pub swept_tells : {D : Type 0} {G : Ghosts D} (state : D → DiskState) (old : M
 swept_tells {D} {G} state old start turns new a c done failed asks stands h = by a asks
   where
     of_call : (x : StepCall) → Some x ≡ Some c → HasSwept state x old done failed new
-    of_call x is = subst (λ y. HasSwept state y old done failed new) (sym (some_same x c is)) h
+    of_call x is = subst (λ y. HasSwept state y old done failed new) (sym (same_Some x c is)) h
 
     by : (x : Act) → sweep_call x old.net.state.rules ≡ Some c → LeavesStanding start turns old x (answer.Swept done failed) new
     by act.Tick is = tick_tells state start turns old new stands done failed (of_call (call.Tick old.net.state.rules) is)

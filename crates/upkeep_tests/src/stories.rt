@@ -34,6 +34,13 @@ t1000 p0,hello,1000,7 p0,hello,1010,8 t1300 f t1000 p0,hello,1000,9 p0,hello,102
 t1190 p0,hello,1199,1 p0,hello,1200,2 t1500 f t1899 x n t1900 x n l => ||||2||1|1 0||1|0 0||
 x f n => 0|0|0 0|";
 
+// A match finds the rows of the volume that is there, and not those of one that it found before, also where both have the same number.
+const MATCHES: &str =
+    "t1000 p0,hello,1000,7 t1300 f r0,0,2000 r0,0,2000 t1700 x t1000 r0,0,2000 p0,hello,1010,8 t1300 f r0,0,2000 l => |||1| hello@1000=7| hello@1000=7||1|||||1| hello@1010=8| 7.0.1000.1|
+t1000 p0,hello,1000,7 t1300 f r0,0,2000 t1000 p0,hello,1000,9 t1300 f r0,0,2000 r0,0,2000 l => |||1| hello@1000=7||||1| hello@1000=9| hello@1000=9| 7.0.1000.2|
+t1000 p0,a,1000,1 p1,b,1000,2 t1300 f t1200 r0,0,2000 r1,0,2000 r0,0,2000 t1400 x t1200 r1,0,2000 r0,0,2000 => ||||2|| a@1000=1| b@1000=2| a@1000=1||1||| a@1000=1|
+t1000 p0,a,1000,1 p0,b,1040,2 t1300 f r0,1030,2000 r0,0,1030 r0,1030,1040 r0,0,2000 => ||||1| b@1040=2| a@1000=1|| a@1000=1 b@1040=2|";
+
 // A snapshot has what is in memory, and one segment and one snapshot are left of all. So nothing comes back that a tick has dropped.
 const SNAPSHOTS: &str =
     "t1000 p0,hello,1000,7 s p0,hello,1010,8 z0 b1 p0,zulu,1020,9 s c b1 r0,0,2000 n => ||1|||1 of 2||2| 1 1 1|1 of 3| hello@1000=7 hello@1010=8 zulu@1020=9|0 3|
@@ -62,6 +69,13 @@ fn volumes_are_joined(rt: HostRuntime) -> Result<(), Fail> {
 #[test]
 fn replicas_tick(rt: HostRuntime) -> Result<(), Fail> {
     let wrong = first_wrong(rt.alloc(), "b1", TICKS)?;
+    assert_eq!(rt; wrong.as_str(), "");
+    Ok(())
+}
+
+#[test]
+fn matches_find_what_is_there(rt: HostRuntime) -> Result<(), Fail> {
+    let wrong = first_wrong(rt.alloc(), "b1", MATCHES)?;
     assert_eq!(rt; wrong.as_str(), "");
     Ok(())
 }

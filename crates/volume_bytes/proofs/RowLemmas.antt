@@ -1,15 +1,13 @@
 -- Rows one after another.
-use Rattle.std.proofs.Common.{add-one, ◌≡◌, inl, ℕ, ℤ, ◌+◌, ◌*◌, ◌<◌, List, [], ◌∷◌, ◌++◌, length, flat_map, drop, take, get_or, refl, sym, ap, subst, ◌∙◌, arith, append_assoc, length-append, All, FitsSigned, pos, to_z, of_z}
+use Rattle.std.proofs.Common.{add-one, ◌≡◌, ℕ, ℤ, ◌+◌, ◌*◌, ◌<◌, List, [], ◌∷◌, ◌++◌, length, flat_map, drop, get_or, refl, sym, ap, ◌∙◌, arith, append_assoc, length-append, All, FitsSigned, pos, to_z, of_z}
 use Rattle.std.proofs.lemmas.Int.{to_z-of_z}
 use Rattle.std.proofs.lemmas.List.Elements.{All-get_or}
-use Rattle.std.proofs.lemmas.List.{take-append-drop, append-nil}
+use Rattle.std.proofs.lemmas.List.{append-nil}
 use Rattle.std.proofs.Math.Seq.{drop-cons}
 use Rattle.std.proofs.lemmas.List.Sums.{sum_by-cons}
 use Rattle.std.proofs.lemmas.List.Concat.{flat_map-cons}
 use Rattle.std.specs.Int.{w64, cast_unsigned}
 use Rattle.byteorder.specs.Endian.{big_bytes}
-use Rattle.m3_model.specs.Members.{IsIn}
-use Rattle.m3_model.proofs.MemberLemmas.{IsIn-append_right}
 use Rattle.m3_model.specs.declared.point.Series.{Series}
 use Rattle.wire_bytes.specs.Volumes.{id_bytes, pair_bytes, row_bytes, data_bytes, index_entry, index_from, span_bytes, summaries_from, count_of}
 use Rattle.wire_bytes.proofs.NumberLemmas.{length_number}
@@ -17,9 +15,6 @@ use Rattle.wire_bytes.proofs.NumberLemmas.{length_number}
 -- what is left from the offset of an item
 pub left_at : {X : Type 0} (xs : List X) (i : ℕ) (x : X) → i < length xs → x ≡ get_or xs i x → drop i xs ≡ x ∷ drop (i + 1) xs
 left_at xs i x lt is = rw add-one (drop-cons xs i x lt) ∙ ap (λ y. y ∷ drop (i + 1) xs) (sym is)
-
-pub item_in : {X : Type 0} (xs : List X) (i : ℕ) (x : X) → i < length xs → x ≡ get_or xs i x → IsIn xs x
-item_in xs i x lt is = subst (λ l. IsIn l x) (take-append-drop i xs) (IsIn-append_right (take i xs) (drop i xs) x (subst (λ l. IsIn l x) (sym (left_at xs i x lt is)) (inl refl)))
 
 length_pair : (x : ℕ × ℤ) → length (pair_bytes x) ≡ 16
 length_pair x =

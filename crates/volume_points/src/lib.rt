@@ -10,8 +10,10 @@ pub mod laws;
 mod matching;
 mod ranges;
 mod reading;
+mod whole;
 
 pub use block::block_rows;
 pub use block_err::BlockErr;
 pub use joining::join;
 pub use reading::{read, read_volume};
+pub use whole::{checked_rows, may_meet, select_from};

@@ -28,7 +28,7 @@ fn is_matched(id: &str, wanted: &[Matcher]) -> bool
 }
 
 // Whether the pick asks for the series of the identifier.
-fn is_picked(id: &str, pick: &Pick) -> bool
+pub(crate) fn is_picked(id: &str, pick: &Pick) -> bool
     ensures { IsTrue result ↔ IsPicked pick.now id.now }
 {
     match pick {

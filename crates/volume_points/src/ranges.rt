@@ -6,7 +6,7 @@ use m3_model::{Memory, Seq, Series};
 use std::alloc::Global;
 
 // Whether the time lies in the range.
-fn is_inside(pair: &(u64, i64), from: u64, to: u64) -> bool
+pub(crate) fn is_inside(pair: &(u64, i64), from: u64, to: u64) -> bool
     ensures { result ≡ is_between from to pair.now }
 {
     from <= pair.0 && pair.0 < to
@@ -37,7 +37,7 @@ fn cut_one(series: Series, from: u64, to: u64) -> Option<Series>
 }
 
 // Appends the series, if there is one.
-fn add(kept: &mut Vec<Series>, part: Option<Series>) -> Result<(), Memory>
+pub(crate) fn add(kept: &mut Vec<Series>, part: Option<Series>) -> Result<(), Memory>
     ensures { OnOk result (kept.new.items ≡ kept.old.items ++ cons_option part []) }
 {
     if let Some(part) = part {

@@ -6,8 +6,8 @@ ghost use Rattle.m3_model.specs.declared.point.Series.{Series as Row};
 ghost use Rattle.m3_outside.specs.Causes.{CountsFaults};
 ghost use Rattle.m3_outside.specs.DiskState.{DiskState, Told};
 ghost use Rattle.m3_outside.specs.DiskCalls.{LeavesFiles};
-ghost use Rattle.wire_bytes.specs.Volumes.{points_of_rows};
-ghost use Rattle.shard_files.specs.Parts.{KnownVolume, VolumeHolds};
+ghost use Rattle.wire_bytes.specs.Volumes.{Data, points_of_rows};
+ghost use Rattle.shard_files.specs.Parts.{KnownVolume, VolumeHolds, part_of};
 ghost use Rattle.shard_files.specs.FilesHold.{volume_points};
 ghost use Rattle.volume_bytes.specs.Heads.{head_of};
 ghost use Rattle.fileset_read.specs.Volumes.{IsThere, IsUndamaged};
@@ -30,7 +30,7 @@ use volume_bytes::Head;
 use volume_rows::Seeker;
 
 // The namespace of a pick.
-fn space_of(pick: &Pick) -> u8
+pub(crate) fn space_of(pick: &Pick) -> u8
     ensures { result ≡ space_picked pick.now }
 {
     match pick {
@@ -39,7 +39,7 @@ fn space_of(pick: &Pick) -> u8
 }
 
 // Whether a volume of this head may have a point of the namespace with `from <= t < to`.
-fn meets(head: &Head, ns: u8, from: u64, to: u64) -> bool
+pub(crate) fn meets(head: &Head, ns: u8, from: u64, to: u64) -> bool
     ensures outside { result ≡ false → HasNoneIn head.now ns from to }
     ensures space { result ≡ true → head.now.ns ≡ ns }
 {
@@ -60,6 +60,18 @@ fn select(
     cut(alloc, picked(found, pick), from, to)
 }
 
+// The name of the file that has the volume's rows.
+pub(crate) fn data_of(head: &Head) -> FileName
+    ensures { result ≡ part_of Data (head_of head.now) }
+{
+    FileName {
+        kind: 4,
+        ns: head.ns,
+        block: head.start,
+        number: head.number,
+    }
+}
+
 // The points in the range that the pick asks for, of series as they were read from the volume.
 fn select_checked(
     alloc: Global,
@@ -75,12 +87,7 @@ fn select_checked(
     ensures no_fault { ¬ (IsErrOf result failures.Disk) }
 {
     if !may_stand(head, found.as_slice()) {
-        let file = FileName {
-            kind: 4,
-            ns: head.ns,
-            block: head.start,
-            number: head.number,
-        };
+        let file = data_of(head);
         return Err(FileErr::Form { file });
     }
     match select(alloc, found, pick, from, to) {

@@ -2,10 +2,12 @@
 use Rattle.std.proofs.Common.{◌≡◌, inl, inr, ℕ, List, [], ◌∷◌, ◌++◌, refl, sym, ap, subst, ◌∙◌, arith, rules, true, ◌&&◌, Some, None, Option, Result, Ok, Err}
 use Rattle.std.specs.Prelude.{is_some, nat_le, ◌==◌, IfOk, OnOk}
 use Rattle.std.specs.FinMap.{get}
+use Rattle.std.proofs.lemmas.List.{append-nil}
 use Rattle.m3_model.specs.Contents.{Contents}
 use Rattle.m3_model.specs.Members.{IsIn}
 use Rattle.m3_model.specs.declared.point.Series.{Series}
 use Rattle.m3_model.proofs.MemberLemmas.{IsIn-map, IsIn-append_left}
+use Rattle.m3_model.proofs.Lists.{IsIn-filter, filter-IsIn}
 use Rattle.m3_outside.specs.declared.disk_err.DiskErr.{DiskErr}
 use Rattle.m3_outside.specs.declared.file_name.FileName.{FileName}
 use Rattle.m3_outside.specs.DiskState.{DiskState, EachImage, StepOf, Elapses, Becomes, IsLawfulDisk, HaveSameNames}
@@ -21,7 +23,6 @@ use Rattle.shard_files.specs.Parts.{KnownVolume, kind_of, part_name, part_of}
 use Rattle.shard_files.specs.Keeps.{Keeps}
 use Rattle.shard_files.specs.Steps.{OthersStay, is_part, IsPartOf, next_volume, volume_after, MayWrite, Wrote, WroteNone, files_of_volume, parts_there}
 use Rattle.shard_files.specs.FileLaws.{SameKinds}
-use Rattle.shard_files.proofs.CountedLemmas.{IsIn-filter, filter-IsIn}
 use Rattle.shard_files.proofs.NextLemmas.{next_volume_is_new, taken_by_names}
 use Rattle.shard_files.proofs.PartLemmas.{same_numbers}
 use Rattle.shard_files.proofs.VolumeSteps.{of_known, log_stays, snapshots_stay, write_keeps, take_keeps}
@@ -184,13 +185,10 @@ module _ (ns start number : ℕ) where
         → OnOk u (EachImage new (HoldsKnown memory (without_volume ns start number known) tenure fence))
     removed_all (Err e) memory known tenure fence each done = tt
     removed_all (Ok u) memory known tenure fence each done = kept_as old new same (λ told x y image step has.
-        let stay = untouched old.files x y names [] (sym (append_none names)) step in
+        let stay = untouched old.files x y names [] (sym (append-nil names)) step in
         with_known memory known tenure fence x has (without_volume ns start number known) y (log_stays ns start number x y stay) (snapshots_stay ns start number x y stay)
         (removed_known ns start number x y stay known (ap (λ (z : Files). get z (part_name Checkpoint ns start number)) step ∙ all_gone old.files x (lawful.same_names told x image) Checkpoint) (are_known memory known tenure fence x has)))
         (λ told. (done told).images) each
-      where
-        append_none : {X : Type 0} (xs : List X) → xs ++ [] ≡ xs
-        append_none xs = Rattle.std.proofs.Common.append-nil xs
 
     pub remove_gone : {E : Type 0} (u : Result E DiskErr) → OnOk u (Becomes (without_files names) old new) → OnOk u ((part : Part) → IsAbsent (part_name part ns start number) new.files)
     remove_gone (Err e) done = tt

@@ -7,6 +7,8 @@ use Rattle.m3_model.specs.Members.{IsIn}
 use Rattle.m3_model.specs.declared.point.Point.{Point}
 use Rattle.m3_model.specs.declared.point.Series.{Series}
 use Rattle.m3_model.proofs.MemberLemmas.{IsIn-append_left, IsIn-append_right, IsIn-append_cases}
+use Rattle.m3_model.proofs.Lists.{IsIn-filter, IsIn-filter_passes, filter-IsIn}
+use Rattle.m3_model.proofs.Ascending.{Ascends-filter}
 use Rattle.m3_outside.specs.declared.file_name.FileName.{FileName}
 use Rattle.m3_outside.specs.Files.{Files, IsAbsent}
 use Rattle.m3_outside.proofs.Names.{name_is}
@@ -16,7 +18,7 @@ use Rattle.shard_files.specs.FilesHold.{Counted, HoldParts, file_points, points_
 use Rattle.shard_files.specs.Keeps.{IsFilePoint}
 use Rattle.shard_files.specs.StepLaws.{IsElsewhere, MayBeTaken, MayBeWritten}
 use Rattle.shard_files.specs.FileLaws.{SameKinds}
-use Rattle.shard_files.proofs.CountedLemmas.{IsIn-filter, chosen, filter-IsIn, filter_ascends, Before, same_names, counted_asked, counted_open, is_counted, counted_ascend}
+use Rattle.shard_files.proofs.CountedLemmas.{Before, same_names, counted_asked, counted_open, is_counted, counted_ascend}
 use Rattle.shard_files.proofs.HeldLemmas.{entries_are_one}
 use Rattle.shard_files.proofs.PartLemmas.{volume_kind, newest_as, log_as, one_volumes, one_newest}
 use Rattle.shard_files.proofs.VolumeSteps.{other_stays, still_counted, was_counted}
@@ -80,7 +82,7 @@ module _ (memory : Contents) (known : List KnownVolume) (tenure fence : ℕ) (x 
       by (inr vol) =
           let k = points_of_known (without_volume ns start number known) p vol in
           let old : IsIn known k.0 = IsIn-filter (λ j. not (is_volume_at ns start number j)) known k.0 k.1 in
-          let test : not (is_volume_at ns start number k.0) ≡ true = chosen (λ j. not (is_volume_at ns start number j)) known k.0 k.1 in
+          let test : not (is_volume_at ns start number k.0) ≡ true = IsIn-filter_passes (λ j. not (is_volume_at ns start number j)) known k.0 k.1 in
           inl (k.0, subst (λ ks. IsIn ks k.0) (sym has.volumes) old, (λ e. not_at ns start number k.0 test e), k.2)
 
   -- other files, whose log and snapshots are the same
@@ -150,13 +152,13 @@ module _ (ns start number : ℕ) (x y : Files) (stay : (q : FileName) → ((part
   removed_known ks gone are =
       let now : (n : FileName) → IsIn (counted_volumes y) n → n ≡ own → ⊥ = λ n m e.
       never_open (get y n) (counted_open is_volume_checkpoint y n m) (ap (λ q. is_open (get y q)) e ∙ ap is_open gone) in
-      let names : counted_volumes y ≡ left (counted_volumes x) = same_names (counted_volumes y) (left (counted_volumes x)) (counted_ascend is_volume_checkpoint y) (filter_ascends Before (λ n. not (name_at ns start number n)) (counted_volumes x) (counted_ascend is_volume_checkpoint x))
+      let names : counted_volumes y ≡ left (counted_volumes x) = same_names (counted_volumes y) (left (counted_volumes x)) (counted_ascend is_volume_checkpoint y) (Ascends-filter Before (λ n. not (name_at ns start number n)) (counted_volumes x) (counted_ascend is_volume_checkpoint x))
       (λ n m. filter-IsIn (λ q. not (name_at ns start number q)) (counted_volumes x) n (was_counted ns start number x y stay n (now n m) m) (other_test n (checkpoint_kind y n m) (now n m)))
       (λ n m.
       let old = IsIn-filter (λ q. not (name_at ns start number q)) (counted_volumes x) n m in
-      still_counted ns start number x y stay n (λ e. own_test n (chosen (λ q. not (name_at ns start number q)) (counted_volumes x) n m) e) old) in
+      still_counted ns start number x y stay n (λ e. own_test n (IsIn-filter_passes (λ q. not (name_at ns start number q)) (counted_volumes x) n m) e) old) in
       subst (λ l. AreKnown y l (without_volume ns start number ks)) (sym names)
-      (others_known (left (counted_volumes x)) (without_volume ns start number ks) (λ n m e. own_test n (chosen (λ q. not (name_at ns start number q)) (counted_volumes x) n m) e) (filter_known ns start number x (counted_volumes x) ks are))
+      (others_known (left (counted_volumes x)) (without_volume ns start number ks) (λ n m e. own_test n (IsIn-filter_passes (λ q. not (name_at ns start number q)) (counted_volumes x) n m) e) (filter_known ns start number x (counted_volumes x) ks are))
     where
       left : List FileName → List FileName
       left names = filter (λ n. not (name_at ns start number n)) names

@@ -5,16 +5,17 @@ use Rattle.std.specs.Cmp.{tied_itself}
 use Rattle.std.specs.Ordering.{nat_cmp, on, then_cmp, is_lt, ordering_then}
 use Rattle.std.specs.declared.cmp.Ordering.{Ordering}
 use Rattle.std.specs.declared.cmp.Ordering.TheVariants.{Less, Equal, Greater}
-use Rattle.std.proofs.lemmas.Bool.{eqb-true}
+use Rattle.std.proofs.lemmas.Bool.{eqb-true, and_parts}
 use Rattle.std.proofs.lemmas.Cmp.{nat_cmp_total}
 use Rattle.m3_model.specs.Ascends.{Ascends}
 use Rattle.m3_model.specs.Members.{IsIn}
+use Rattle.m3_model.proofs.Orders.{less_from}
 use Rattle.m3_outside.specs.declared.file_name.FileName.{FileName}
 use Rattle.m3_outside.specs.Files.{Files, name_cmp}
 use Rattle.m3_outside.proofs.Names.{name_total, name_same}
 use Rattle.wire_bytes.specs.Volumes.{Checkpoint}
 use Rattle.shard_files.specs.Parts.{part_name, part_of, KnownVolume, IsKnown, AreKnown}
-use Rattle.shard_files.proofs.CountedLemmas.{both, Before}
+use Rattle.shard_files.proofs.CountedLemmas.{Before}
 use Rattle.volume_steps.specs.KnownLists.{head_cmp, with_volume, is_volume_at, without_volume}
 use Rattle.volume_steps.specs.Laws.{OneMoreKnown}
 
@@ -29,13 +30,8 @@ tail_cmp = then_cmp (on (λ n. n.ns) nat_cmp) (then_cmp (on (λ n. n.block) nat_
 name_is_tail : (m n : FileName) → m.kind ≡ n.kind → name_cmp m n ≡ tail_cmp m n
 name_is_tail m n e = ap (λ o. ordering_then o (tail_cmp m n)) (ap (λ k. nat_cmp k n.kind) e ∙ tied_itself nat_cmp_total n.kind)
 
-less_is : (o : Ordering) → is_lt o ≡ true → o ≡ Less
-less_is Less e = refl
-less_is Equal e = absurd (cc)
-less_is Greater e = absurd (cc)
-
 before_of_less : (m n : FileName) → m.kind ≡ n.kind → is_lt (tail_cmp m n) ≡ true → Before m n
-before_of_less m n e lt = name_is_tail m n e ∙ less_is (tail_cmp m n) lt
+before_of_less m n e lt = name_is_tail m n e ∙ less_from (tail_cmp m n) lt
 
 before_of_other : (m n : FileName) → m.kind ≡ n.kind → (m ≡ n → ⊥) → is_lt (tail_cmp m n) ≡ false → Before n m
 before_of_other m n e apart lt = by (name_cmp m n) refl (ap is_lt (name_is_tail m n e) ∙ lt)
@@ -142,8 +138,8 @@ module _ (ns start number : ℕ) where
 
   pub at_is : (n : FileName) → n.kind ≡ 7 → name_at n ≡ true → n ≡ part_name Checkpoint ns start number
   at_is n kind e =
-      let first = both (n.ns == ns) ((n.block == start) && (n.number == number)) e in
-      let second = both (n.block == start) (n.number == number) first.1 in
+      let first = and_parts (n.ns == ns) ((n.block == start) && (n.number == number)) e in
+      let second = and_parts (n.block == start) (n.number == number) first.1 in
       let a = eqb-true n.ns ns first.0 in
       let b = eqb-true n.block start second.0 in
       let c = eqb-true n.number number second.1 in

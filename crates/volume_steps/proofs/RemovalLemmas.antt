@@ -1,13 +1,14 @@
 -- Volumes that are taken away one after another.
-use Rattle.std.proofs.Common.{◌≡◌, inl, inr, ⊎_elim, ℕ, zero, suc, ◌+◌, ◌*◌, ◌<◌, ◌≤◌, List, [], ◌∷◌, length, take, drop, get_or, refl, sym, ap, subst, ◌∙◌, arith, Bool, true, false, cond, not, ◌&&◌}
+use Rattle.std.proofs.Common.{◌≡◌, inl, inr, ⊎_elim, ℕ, ◌+◌, ◌*◌, ◌<◌, ◌≤◌, List, [], ◌∷◌, length, take, drop, get_or, refl, sym, ap, subst, ◌∙◌, arith, Bool, true, false, cond, not, ◌&&◌}
 use Rattle.std.specs.FinMap.{get}
-use Rattle.std.proofs.lemmas.Bool.{eqb-true, eqb-false}
+use Rattle.std.proofs.lemmas.Bool.{eqb-true, eqb-false, and_parts}
 use Rattle.std.specs.Prelude.{nat_le, ◌==◌, filter, ◌||◌}
 use Rattle.std.proofs.lemmas.List.{take-append-drop, take_more, take_all}
 use Rattle.std.proofs.lemmas.List.Folds.{list_any-append}
 use Rattle.m3_model.specs.Contents.{Contents}
 use Rattle.m3_model.specs.Members.{IsIn}
 use Rattle.m3_model.proofs.MemberLemmas.{IsIn-append_cases}
+use Rattle.m3_model.proofs.Lists.{IsIn-get_or, IsIn-filter, IsIn-filter_passes, filter-IsIn}
 use Rattle.m3_model.specs.declared.point.Point.{Point}
 use Rattle.m3_outside.specs.Causes.{CountsFaults}
 use Rattle.m3_outside.specs.DiskState.{DiskState, EachImage, Elapses}
@@ -23,7 +24,6 @@ use Rattle.shard_files.specs.Parts.{kind_of, part_name, KnownVolume}
 use Rattle.shard_files.specs.Steps.{OthersStay, is_part}
 use Rattle.shard_files.specs.FilesHold.{volume_points}
 use Rattle.shard_files.specs.Keeps.{Keeps}
-use Rattle.shard_files.proofs.CountedLemmas.{both, IsIn-filter, chosen, filter-IsIn}
 use Rattle.shard_files.proofs.KeepLemmas.{keeps_then}
 use Rattle.volume_bytes.specs.declared.heads.Head.{Head}
 use Rattle.volume_steps.specs.Known.{HoldsKnown, HaveContent}
@@ -71,7 +71,7 @@ pub fewer_without : (heads : List Head) (i : ℕ) (known : List KnownVolume) (p 
 fewer_without heads i known p m =
     let k = points_of_known (without_volumes heads known) p m in
     let old = IsIn-filter (λ j. not (is_one_of heads j)) known k.0 k.1 in
-    let test : not (is_one_of heads k.0) ≡ true = chosen (λ j. not (is_one_of heads j)) known k.0 k.1 in
+    let test : not (is_one_of heads k.0) ≡ true = IsIn-filter_passes (λ j. not (is_one_of heads j)) known k.0 k.1 in
     let split : not (is_one_of (take i heads) k.0 || is_one_of (drop i heads) k.0) ≡ true =
     ap not (sym (list_any-append (λ (g : Head). is_volume_at g.ns g.start g.number k.0) (take i heads) (drop i heads))) ∙ ap (λ (l : List Head). not (is_one_of l k.0)) (take-append-drop i heads) ∙ test in
     known_of_points (without_volumes (take i heads) known) k.0 p (filter-IsIn (λ j. not (is_one_of (take i heads) j)) known k.0 old (left_of (is_one_of (take i heads) k.0) (is_one_of (drop i heads) k.0) split)) k.2
@@ -98,11 +98,6 @@ module _ (F : Type 0) (a b : DiskState) (leaves : LeavesFiles F a b) where
 
 -- ---- the first i of the volumes are taken away
 
-in_at : {X : Type 0} (xs : List X) (k : ℕ) (d : X) → k < length xs → IsIn xs (get_or xs k d)
-in_at [] k d lt = absurd (omega (arith, lt))
-in_at (x ∷ xs) zero d lt = inl refl
-in_at (x ∷ xs) (suc k) d lt = inr (in_at xs k d (omega (arith, lt)))
-
 -- no file of another volume comes where one is taken away
 none_back : (ns start number : ℕ) (x y : Files) → ((part : Part) → IsAbsent (part_name part ns start number) y) → OthersStay (λ name. (is_part ns start name ≡ true) × (name.number ≡ number)) x y
     → (part : Part) (m s n : ℕ) → IsAbsent (part_name part m s n) x → IsAbsent (part_name part m s n) y
@@ -112,8 +107,8 @@ none_back ns start number x y own others part m s n absent = by (is_part ns star
     by false e b f = others (part_name part m s n) (λ is. let never : false ≡ true = sym e ∙ is.0 in cc) ∙ absent
     by true e false f = others (part_name part m s n) (λ is. eqb-false n number f is.1) ∙ absent
     by true e true f =
-        let offset = both (nat_le 1 (kind_of part) && nat_le (kind_of part) 7) ((m == ns) && (s == start)) e in
-        let two = both (m == ns) (s == start) offset.1 in
+        let offset = and_parts (nat_le 1 (kind_of part) && nat_le (kind_of part) 7) ((m == ns) && (s == start)) e in
+        let two = and_parts (m == ns) (s == start) offset.1 in
         let same_ns = eqb-true m ns two.0 in
         let same_start = eqb-true s start two.1 in
         let same_number = eqb-true n number f in
@@ -162,7 +157,7 @@ module _ (heads : List Head) (i : ℕ) (d : Head) (lt : i < length heads) (a b c
       (subst (λ ks. HaveContent memory ks kept) (sym (next_without heads i d lt known)) (have_fewer memory heads (i + 1) known kept have)) (so_far.tells ∙ tells))
 
   pub next_others : ((q : FileName) → ((is_part h.ns h.start q ≡ true) × (q.number ≡ h.number) → ⊥) → get c.files q ≡ get b.files q) → a.tells ≡ true → OthersStay (IsOfOne heads) a.files c.files
-  next_others stay tells q apart = stay q (λ own. apart (h, in_at heads i d lt, own.0, own.1)) ∙ so_far.others tells q apart
+  next_others stay tells q apart = stay q (λ own. apart (h, IsIn-get_or heads i d lt, own.0, own.1)) ∙ so_far.others tells q apart
 
   -- there is room for it
   pub next_room : 7 ≤ b.spare

@@ -2,6 +2,7 @@
 use Rattle.std.proofs.Common.{◌≡◌, ◌⊎◌, inl, inr, ℕ, ◌+◌, ◌-◌, ◌*◌, ◌/◌, ◌<◌, ◌≤◌, Bool, true, false, cond, ◌&&◌, List, [], ◌∷◌, ◌++◌, drop, get_or, refl, sym, ap, subst, ◌∙◌, arith, IsUtf8}
 use Rattle.std.proofs.lemmas.Bool.{cases_lt, and_parts}
 use Rattle.std.proofs.lemmas.Str.{IsUtf8-append, IsUtf8-encode}
+use Rattle.std.proofs.lemmas.Str.Ascii.{encode_ascii}
 use lib.Utf8.{scalar, scalars, encode, encodes, next, scalar_cases, low_scalar}
 use lib.Dec.{T, leb, ltb, le→leb, lt→ltb, ltb→lt}
 
@@ -16,10 +17,6 @@ passed {X} m n a b le = by_test (ltb m n) refl
     by_test : (y : Bool) → ltb m n ≡ y → cond y a b ≡ b
     by_test true e = let lt : m < n = ltb→lt m n (subst T (sym e) tt) in absurd (omega arith)
     by_test false e = refl
-
-one : (c : ℕ) → c < 128 → encode c ≡ c ∷ []
-unfolding encode
-one c h = taken (ltb c 128) _ _ (lt→ltb c 128 h)
 
 two : (c : ℕ) → 128 ≤ c → c < 2048 → encode c ≡ (192 + c / 64) ∷ next c ∷ []
 unfolding encode
@@ -55,7 +52,7 @@ gap c e = elim (scalar_cases c e) [ inl h ↦ inl h | inr h ↦ inr h.0 ]
 module _ (b : ℕ) (l : List ℕ) (c : ℕ) (cs : List ℕ) (ok : scalar c ≡ true) (rest : IsUtf8 (encodes cs)) where
   by1 : c < 128 → encode c ++ encodes cs ≡ b ∷ l → First b l
   by1 h e =
-      let whole : c ∷ encodes cs ≡ b ∷ l = ap (λ (p : List ℕ). p ++ encodes cs) (sym (one c h)) ∙ e in
+      let whole : c ∷ encodes cs ≡ b ∷ l = ap (λ (p : List ℕ). p ++ encodes cs) (sym (encode_ascii c h)) ∙ e in
       let is : c ≡ b = head_same c b (encodes cs) l whole in
       first1 (omega arith) (subst IsUtf8 (tail_same c b (encodes cs) l whole) rest)
 
@@ -111,7 +108,7 @@ with_char : (c : ℕ) (front l : List ℕ) → scalar c ≡ true → encode c �
 with_char c front l ok is u = IsUtf8-append front l (subst IsUtf8 is (IsUtf8-encode c ok)) u
 
 pub with_first1 : (b : ℕ) (l : List ℕ) → b < 128 → IsUtf8 l → IsUtf8 (b ∷ l)
-with_first1 b l h u = with_char b (b ∷ []) l (low_scalar b (omega arith)) (one b h) u
+with_first1 b l h u = with_char b (b ∷ []) l (low_scalar b (omega arith)) (encode_ascii b h) u
 
 pub with_first2 : (b x : ℕ) (l : List ℕ) → 194 ≤ b → b < 224 → 128 ≤ x → x < 192 → IsUtf8 l → IsUtf8 (b ∷ x ∷ l)
 with_first2 b x l low h a d u =

@@ -1,7 +1,7 @@
 -- The bytes of numbers: their parts, and which numbers begin with which bytes.
 use Rattle.std.proofs.Common.{◌≡◌, ◌⊎◌, inl, inr, ℕ, zero, suc, ◌+◌, ◌-◌, ◌*◌, ◌/◌, ◌%◌, ◌^◌, ◌<◌, ◌≤◌, List, [], ◌∷◌, ◌++◌, length, take, drop, get_or, refl, sym, ap, subst, ◌∙◌, arith, length-append, length-drop}
 use Rattle.std.proofs.Math.Nat.{div-div-eq-div-mul, div-one, mod-eq_of_lt, one-le-pow, pow-suc, div-lt_iff_lt-mul, le-div_iff_mul-le, mul-div_cancel, mul-le-mul_right, div-mul-le_self, mul_assoc, mul_comm, mul-add-mod_self_right, mul-add-div_right, pow-le-pow_right}
-use Rattle.std.proofs.lemmas.List.{take_at, take-append-drop, take_all, drop-drop, take_more}
+use Rattle.std.proofs.lemmas.List.{take_at, take-append-drop, take_all, drop-drop, take_more, nil_from_length}
 use Rattle.std.proofs.lemmas.Bool.{cases_eq}
 use Rattle.std.proofs.lemmas.Nat.{pow-add, div-mul-add}
 use Rattle.std.specs.Int.{byte_at}
@@ -53,11 +53,7 @@ pub number_ends : (w low high : ℕ) → EndsItself (ANumber w low high)
 number_ends w low high a r f g =
     let e : length (a ++ r) ≡ w = ap length g.spelled ∙ length_number w g.n in
     let d : length a ≡ w = ap length f.spelled ∙ length_number w f.n in
-    nil r (omega (arith, length-append a r))
-  where
-    nil : (r : List ℕ) → length r ≡ 0 → r ≡ []
-    nil [] e = refl
-    nil (x ∷ r) e = absurd (omega arith)
+    nil_from_length r (omega (arith, length-append a r))
 
 -- some number from low to high has these upper bytes
 begun : (i k low high n : ℕ) → low ≤ high → low / 256 ^ k ≤ n → n ≤ high / 256 ^ k → (m : ℕ) × (low ≤ m) × (m ≤ high) × (m / 256 ^ k ≡ n)

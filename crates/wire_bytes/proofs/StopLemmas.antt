@@ -4,6 +4,7 @@ use Rattle.std.specs.Prelude.{nat_lt}
 use Rattle.std.proofs.lemmas.Bool.{ltb-true, ltb-false}
 use Rattle.std.proofs.lemmas.List.{take_at, take-take, append_cancel_left}
 use Rattle.m3_model.specs.Members.{IsIn}
+use Rattle.m3_model.proofs.Lists.{take_whole}
 use Rattle.wire_bytes.specs.Fields.{Begins, StopsAt}
 use Rattle.wire_bytes.specs.ByteLaws.{OneSpellingStops, StopsAtOne}
 use Rattle.wire_bytes.proofs.FieldLemmas.{begins_take}
@@ -26,9 +27,6 @@ pub stops_at_one : StopsAtOne
 stops_at_one form bytes at other a b = stops_one (IsIn form) bytes at other a b
 
 -- ---- one spelling
-
-take_whole : (l : List ℕ) → take (length l) l ≡ l
-take_whole l = ap (take (length l)) (sym (append-nil l)) ∙ take_at l [] (length l) refl
 
 -- the front with one byte more
 take_next : (front : List ℕ) (x : ℕ) (rest : List ℕ) → take (suc (length front)) (front ++ x ∷ rest) ≡ front ++ x ∷ []

@@ -1,14 +1,15 @@
 use Rattle.std.proofs.Common.{◌||◌, ◌∙◌, ◌∷◌, [], ap, sym, take, get_or}
 use Rattle.std.proofs.lemmas.List.{take_more}
+use Rattle.std.proofs.Math.Bool.{or-false}
 use Rattle.tag_links.specs.Links.{is_link_of, is_linked_in}
-use Rattle.tag_links.proofs.LinkLemmas.{none_taken, or_false, is_link_of-append, linked_more}
+use Rattle.tag_links.proofs.LinkLemmas.{none_taken, is_link_of-append, linked_more}
 use Rattle.tag_links.proofs.link.Goals as goal
 
 pub returns-in_err-link_one-clause-kept : goal.returns-in_err-link_one-clause-kept
 returns-in_err-link_one-clause-kept c q none =
     c.in_err-link_one.ensures.err q
     ∙ c.loop-tag.invariant q
-    ∙ ap (λ b. is_linked_in c.args.links.now q || b) (none_taken c.args.tags.now c.loop-tag.tag-index c.args.ordinal q none) ∙ or_false _
+    ∙ ap (λ b. is_linked_in c.args.links.now q || b) (none_taken c.args.tags.now c.loop-tag.tag-index c.args.ordinal q none) ∙ or-false _
 
 pub loop-tag-preserved : goal.loop-tag-preserved
 loop-tag-preserved c q =

@@ -3,9 +3,9 @@ use Rattle.std.specs.Prelude.{nat_eq, string_bytes}
 use Rattle.std.specs.HashMap.{get_by_text}
 use Rattle.std.specs.Str.{bytes_eq}
 use Rattle.std.proofs.lemmas.Map.Text.{hash_map_updates_text}
+use Rattle.std.proofs.Math.Bool.{or-false}
 use Rattle.tag_links.specs.Links.{is_in, value_at, link_of, is_same, is_linked_in}
 use Rattle.tag_links.proofs.KeyLemmas.{IsPut, more_there, same_there, put_same, none_at_all, at_error}
-use Rattle.tag_links.proofs.LinkLemmas.{or_false}
 use Rattle.tag_links.proofs.link_one.Goals as goal
 
 pub returns-in_err-link_value-in-Some-clause-err : goal.returns-in_err-link_value-in-Some-clause-err
@@ -28,7 +28,7 @@ returns-in_ok-link_value-in-Some-clause-ok c q =
     more_there key (λ x. is_in (value_at x q.value) q.ordinal) old new (Some c.link_value.new.values) more put
     (c.in_ok-link_value-in-Some.ensures.ok q.value q.ordinal ∙ ap (λ x. is_in (value_at x q.value) q.ordinal || more) c.in-Some.ensures.value) q.name
     ∙ (λ i. is_linked_in c.args.links.now q || (bytes_eq (c.as_str-name.ensures i) q.name && (bytes_eq (c.as_str-value.ensures i) q.value && nat_eq c.args.ordinal q.ordinal)))
-    ∙ ap (λ b. is_linked_in c.args.links.now q || b) (sym (or_false (is_same (link_of c.args.ordinal c.args.tag.now) q)))
+    ∙ ap (λ b. is_linked_in c.args.links.now q || b) (sym (or-false (is_same (link_of c.args.ordinal c.args.tag.now) q)))
 
 pub returns-in_ok-insert-in-None-clause-ok : goal.returns-in_ok-insert-in-None-clause-ok
 returns-in_ok-insert-in-None-clause-ok c q =
@@ -45,4 +45,4 @@ returns-in_ok-insert-in-None-clause-ok c q =
     ∙ ap (λ x. is_in x q.ordinal || more) (none_at_all c.new-values.result c.new-values.ensures.len q.value)
     ∙ ap (λ x. is_in (value_at x q.value) q.ordinal || more) c.in-None.ensures.value) q.name
     ∙ (λ i. is_linked_in c.args.links.now q || (bytes_eq (c.as_str-name.ensures i) q.name && (bytes_eq (c.as_str-value.ensures i) q.value && nat_eq c.args.ordinal q.ordinal)))
-    ∙ ap (λ b. is_linked_in c.args.links.now q || b) (sym (or_false (is_same (link_of c.args.ordinal c.args.tag.now) q)))
+    ∙ ap (λ b. is_linked_in c.args.links.now q || b) (sym (or-false (is_same (link_of c.args.ordinal c.args.tag.now) q)))

@@ -3,9 +3,9 @@ use Rattle.std.specs.Prelude.{nat_eq}
 use Rattle.std.specs.HashMap.{get_by_text}
 use Rattle.std.specs.Str.{bytes_eq}
 use Rattle.std.proofs.lemmas.Map.Text.{hash_map_updates_text}
+use Rattle.std.proofs.Math.Bool.{or-false}
 use Rattle.tag_links.specs.Links.{is_in, value_at, link_of, is_same, is_linked_in}
 use Rattle.tag_links.proofs.KeyLemmas.{IsPut, less_there, put_twice, none_at_all}
-use Rattle.tag_links.proofs.LinkLemmas.{or_false}
 use Rattle.tag_links.proofs.unlink_one.Goals as goal
 
 pub returns-then-is_empty : goal.returns-then-is_empty
@@ -22,7 +22,7 @@ returns-then-is_empty c q =
     ∙ c.unlink_value.ensures q.value q.ordinal
     ∙ ap (λ x. is_in (value_at x q.value) q.ordinal && not less) c.in-Some.ensures.value) q.name
     ∙ (λ i. is_linked_in c.args.links.now q && not (bytes_eq (c.as_str-name.ensures i) q.name && (bytes_eq (c.as_str-value.ensures i) q.value && nat_eq c.args.ordinal q.ordinal)))
-    ∙ ap (λ b. is_linked_in c.args.links.now q && not b) (sym (or_false (is_same (link_of c.args.ordinal c.args.tag.now) q)))
+    ∙ ap (λ b. is_linked_in c.args.links.now q && not b) (sym (or-false (is_same (link_of c.args.ordinal c.args.tag.now) q)))
 
 pub returns-else-is_empty : goal.returns-else-is_empty
 returns-else-is_empty c q =
@@ -34,4 +34,4 @@ returns-else-is_empty c q =
     less_there key (λ x. is_in (value_at x q.value) q.ordinal) old new (Some c.unlink_value.new.values) less put
     (c.unlink_value.ensures q.value q.ordinal ∙ ap (λ x. is_in (value_at x q.value) q.ordinal && not less) c.in-Some.ensures.value) q.name
     ∙ (λ i. is_linked_in c.args.links.now q && not (bytes_eq (c.as_str-name.ensures i) q.name && (bytes_eq (c.as_str-value.ensures i) q.value && nat_eq c.args.ordinal q.ordinal)))
-    ∙ ap (λ b. is_linked_in c.args.links.now q && not b) (sym (or_false (is_same (link_of c.args.ordinal c.args.tag.now) q)))
+    ∙ ap (λ b. is_linked_in c.args.links.now q && not b) (sym (or-false (is_same (link_of c.args.ordinal c.args.tag.now) q)))

@@ -2,7 +2,7 @@ use Rattle.std.proofs.Common.{◌≡◌, ◌+◌, ◌<◌, List, [], ◌∷◌, 
 use Rattle.std.specs.List.{flat_map}
 use Rattle.std.proofs.lemmas.List.{take_all}
 use Rattle.m3_model.specs.declared.answer.StatusLine.{StatusLine}
-use Rattle.placement_core.proofs.ListLemmas.{IsIn-from_index}
+use Rattle.m3_model.proofs.Lists.{IsIn-get_or}
 use Rattle.session_net.proofs.ReadyLemmas.{there_after}
 use Rattle.session_net.specs.Runs.{Ran}
 use Rattle.session_net.proofs.RunLemmas.{ran_nothing}
@@ -22,7 +22,7 @@ pub report_one-report-requires-clause-there : goal.report_one-report-requires-cl
 report_one-report-requires-clause-there g c κs within =
     let was = c.loop-row.invariant in
     let r : Row = get_or c.args.rows.now c.loop-row.row-index _ in
-    there_after g.D.Disk.state c.args.replicas.now c.loop-row.replicas (flat_map told_at c.loop-row.lines.items) r.slot was.ran (c.requires.there r (IsIn-from_index c.args.rows.now c.loop-row.row-index _ c.loop-row-test.true))
+    there_after g.D.Disk.state c.args.replicas.now c.loop-row.replicas (flat_map told_at c.loop-row.lines.items) r.slot was.ran (c.requires.there r (IsIn-get_or c.args.rows.now c.loop-row.row-index _ c.loop-row-test.true))
 
 pub report_one-report-requires-clause-room : goal.report_one-report-requires-clause-room
 report_one-report-requires-clause-room g c κs within =

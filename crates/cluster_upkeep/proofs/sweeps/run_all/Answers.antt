@@ -1,8 +1,8 @@
 use Rattle.std.proofs.Common.{◌≡◌, ◌+◌, ◌<◌, suc, [], ◌∷◌, ◌++◌, length, map, take, get_or, refl, sym, ap, ◌∙◌, subst, arith}
 use Rattle.std.specs.List.{flat_map}
 use Rattle.std.proofs.lemmas.List.{take_all}
+use Rattle.m3_model.proofs.Lists.{IsIn-get_or}
 use Rattle.cluster_core.specs.Earlier.{IsClock}
-use Rattle.placement_core.proofs.ListLemmas.{IsIn-from_index}
 use Rattle.session_net.proofs.ReadyLemmas.{any_after, there_after}
 use Rattle.session_net.proofs.RunLemmas.{ran_nothing}
 use Rattle.cluster_upkeep.specs.Findings.{entry_at}
@@ -32,7 +32,7 @@ pub run_one-said-requires-clause-there : goal.run_one-said-requires-clause-there
 run_one-said-requires-clause-there g c κs within =
     let was = c.loop-row.invariant in
     let r : Row = get_or c.args.rows.now c.loop-row.row-index _ in
-    there_after g.D.Disk.state c.args.replicas.now c.loop-row.replicas (flat_map (asked_at (call_by c.args.job c.args.rules.now)) was.entries) r.slot was.ran (c.requires.there r (IsIn-from_index c.args.rows.now c.loop-row.row-index _ c.loop-row-test.true))
+    there_after g.D.Disk.state c.args.replicas.now c.loop-row.replicas (flat_map (asked_at (call_by c.args.job c.args.rules.now)) was.entries) r.slot was.ran (c.requires.there r (IsIn-get_or c.args.rows.now c.loop-row.row-index _ c.loop-row-test.true))
 
 pub run_one-said-requires-clause-room : goal.run_one-said-requires-clause-room
 run_one-said-requires-clause-room g c κs within =

@@ -1,9 +1,10 @@
 use Rattle.std.proofs.Common.{◌≡◌, ℕ, List, length, take, drop, sym, ap, subst, ◌∙◌, arith}
+use Rattle.std.proofs.lemmas.Result.{on_ok_weaker}
 use Rattle.shard_files.specs.Damage.{BreaksDigest}
 use Rattle.shard_files.proofs.SegmentStops.{passed_on}
 use Rattle.fileset_check.specs.PartFiles.{Keeps, AreSealed, part_in, file_of}
 use Rattle.fileset_check.specs.Told.{LookTells, FirstTells, Says, at_gates, at_five, at_digests}
-use Rattle.fileset_check.proofs.FirstLemmas.{first_front, says_as, err_as, ok_as}
+use Rattle.fileset_check.proofs.FirstLemmas.{first_front, says_as, err_as}
 use Rattle.fileset_check.proofs.DigestLemmas.{five_in}
 use Rattle.fileset_check.proofs.FiveLemmas.{one_broken, two_broken, three_broken, four_broken, five_broken}
 use Rattle.fileset_check.proofs.digests.check_digests.Goals as goal
@@ -82,5 +83,5 @@ returns-clause-ok c =
     let k2 : Keeps (take 32 (drop 32 a.five)) (part_in parts 2) = subst (λ (l : List ℕ). Keeps l (part_in parts 2)) (c.digest_at-2.ensures ∙ ap (λ (l : List ℕ). take 32 (drop 32 l)) five) c.in_ok-check_digest-2.ensures.ok in
     let k3 : Keeps (take 32 (drop 64 a.five)) (part_in parts 3) = subst (λ (l : List ℕ). Keeps l (part_in parts 3)) (c.digest_at-3.ensures ∙ ap (λ (l : List ℕ). take 32 (drop 64 l)) five) c.in_ok-check_digest-3.ensures.ok in
     let k4 : Keeps (take 32 (drop 96 a.five)) (part_in parts 4) = subst (λ (l : List ℕ). Keeps l (part_in parts 4)) (c.digest_at-4.ensures ∙ ap (λ (l : List ℕ). take 32 (drop 96 l)) five) c.in_ok-check_digest-4.ensures.ok in
-    ok_as c.check_digest-5.result (Keeps c.digest_at-5.result (part_in parts 5)) (AreSealed parts)
+    on_ok_weaker c.check_digest-5.result
     (λ k. record { digests = a; info = k1; summaries = k2; index = k3; body = k4; bloom = subst (λ (l : List ℕ). Keeps l (part_in parts 5)) (c.digest_at-5.ensures ∙ ap (λ (l : List ℕ). take 32 (drop 128 l)) five) k }) c.check_digest-5.ensures.ok

@@ -1,11 +1,12 @@
 use Rattle.std.proofs.Common.{◌≡◌, List, ℕ, [], ◌∷◌, sym, ap, subst, ◌∙◌}
+use Rattle.std.proofs.lemmas.Result.{on_ok_weaker}
 use Rattle.wire_bytes.specs.Volumes.{Info, Summaries, Index, Bloom, part_bytes}
 use Rattle.shard_files.specs.Damage.{Damage, AtForm, BreaksForm}
 use Rattle.shard_files.proofs.SegmentStops.{passed_on}
 use Rattle.volume_bytes.specs.Heads.{head_of}
 use Rattle.fileset_check.specs.PartFiles.{Spells, AreDerived, bytes_in, file_of}
 use Rattle.fileset_check.specs.Told.{LookTells, FirstTells, Says, at_derived}
-use Rattle.fileset_check.proofs.FirstLemmas.{first_here, first_there, says_as, err_as, ok_as}
+use Rattle.fileset_check.proofs.FirstLemmas.{first_here, first_there, says_as, err_as}
 use Rattle.fileset_check.proofs.DerivedLemmas.{breaks_info, breaks_summaries, breaks_index, breaks_bloom, info_none, summaries_none, index_none}
 use Rattle.fileset_check.proofs.due.check_derived.Goals as goal
 
@@ -73,5 +74,5 @@ returns-clause-ok c =
     let v = head_of c.args.head.now in
     let rows = c.args.body.now.rows in
     let b = c.requires.body in
-    ok_as c.check_bloom.result (bytes_in parts 5 ≡ part_bytes Bloom v rows) (AreDerived v rows parts)
+    on_ok_weaker c.check_bloom.result
     (λ bloom. record { info = c.in_ok-check_info.ensures.ok; summaries = c.in_ok-check_due.ensures.ok ∙ c.as_slice.ensures ∙ b.tables.summaries; index = c.in_ok-check_due-2.ensures.ok ∙ c.as_slice-2.ensures ∙ b.tables.index; bloom = bloom }) c.check_bloom.ensures.ok

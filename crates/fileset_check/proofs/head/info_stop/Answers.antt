@@ -1,10 +1,11 @@
 use Rattle.std.proofs.Common.{◌≡◌, List, ℕ, sym, subst}
+use Rattle.std.proofs.lemmas.Option.{IfSome_then}
 use Rattle.wire_bytes.specs.Fields.{StopsAt}
 use Rattle.shard_files.specs.Damage.{IsSomeInfo}
 use Rattle.fileset_check.specs.Numbers.{AreFields, AreNumbers, info_fields}
 use Rattle.fileset_check.specs.declared.numbers.Field.{Field}
 use Rattle.fileset_check.proofs.HeadLemmas.{info_fit, info_from, info_stops}
-use Rattle.fileset_check.proofs.OptionLemmas.{none_as, some_as}
+use Rattle.fileset_check.proofs.OptionLemmas.{none_as}
 use Rattle.fileset_check.proofs.head.info_stop.Goals as goal
 
 pub number_stop-requires : goal.number_stop-requires
@@ -19,5 +20,5 @@ returns-clause-none c =
 pub returns-clause-some : goal.returns-clause-some
 returns-clause-some c =
     let of = c.args.of in
-    some_as c.number_stop.result (StopsAt (AreNumbers c.info_fields.result) c.args.bytes.now) (StopsAt (IsSomeInfo of.ns of.block of.number) c.args.bytes.now)
-    (λ at s. info_stops of.ns of.block of.number c.args.bytes.now at c.requires (subst (λ (l : List Field). StopsAt (AreNumbers l) c.args.bytes.now at) c.info_fields.ensures s)) c.number_stop.ensures.some
+    IfSome_then c.number_stop.result c.number_stop.ensures.some
+    (λ at s. info_stops of.ns of.block of.number c.args.bytes.now at c.requires (subst (λ (l : List Field). StopsAt (AreNumbers l) c.args.bytes.now at) c.info_fields.ensures s))

@@ -1,11 +1,12 @@
 use Rattle.std.proofs.Common.{◌≡◌, ℕ, refl, sym, ap, ◌∙◌, arith, rules, get_or, length, Result, Option, Err}
 use Rattle.std.specs.Prelude.{IsErr, is_some, option_map}
 use Rattle.std.specs.FinMap.{get}
+use Rattle.std.proofs.lemmas.Grind.{drop_more_same}
 use Rattle.m3_outside.specs.declared.failed.Failed.{Failed}
 use Rattle.m3_outside.specs.declared.file_name.FileName.{FileName}
 use Rattle.m3_outside.specs.Files.{Files}
 use Rattle.commit_log.proofs.Leaves.{leaves_none, leaves_as, leaves_then}
-use Rattle.fileset_write.proofs.FindLemmas.{sized, kept_more, rest_more, rest_next}
+use Rattle.fileset_write.proofs.FindLemmas.{sized, kept_more, rest_more}
 use Rattle.fileset_write.proofs.removal.find_there.Goals as goal
 
 err_is : (r : Result (Option ℕ) Failed) (e : Failed) → r ≡ Err e → IsErr r
@@ -27,7 +28,7 @@ loop-i-preserved g c =
           let found = c.is_some-is_there.ensures ∙ ap is_some (c.in_ok-size.ensures.size (inv.leaves.proceeds.tells ∙ t) ∙ ap (λ (f : Files). option_map length (get f name)) (inv.leaves.files t)) ∙ sized (get (g.D.Disk.state c.args.disk.now).files name) in
           kept_more c.loop-i.names c.args.names.now c.keep-count.new.names c.loop-i.i c.loop-i.count c.keep-count.result name none (g.D.Disk.state c.args.disk.now).files c.is_some-is_there.result
           (omega (arith, c.loop-i-test.true, inv.long)) inv.few inv.rest refl (sym found) (inv.kept t) c.keep-count.ensures.kept;
-      rest = rest_more c.keep-count.new.names c.loop-i.names c.loop-i.count c.loop-i.i inv.few c.keep-count.ensures.rest ∙ rest_next c.loop-i.names c.args.names.now c.loop-i.i inv.rest;
+      rest = rest_more c.keep-count.new.names c.loop-i.names c.loop-i.count c.loop-i.i inv.few c.keep-count.ensures.rest ∙ drop_more_same c.loop-i.names c.args.names.now c.loop-i.i inv.rest;
     }
 
 pub returns-in_err-size-clause-leaves : goal.returns-in_err-size-clause-leaves

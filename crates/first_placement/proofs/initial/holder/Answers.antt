@@ -1,7 +1,8 @@
 use Rattle.std.proofs.Common.{◌≢◌, ◌<◌, ◌+◌, ℕ, subst, sym, arith, length, slice_index}
 use Rattle.m3_model.specs.declared.placement.Assignment.{Assignment}
+use Rattle.m3_model.proofs.Lists.{All-from_each}
 use Rattle.placement_core.proofs.StepLemmas.{no_true}
-use Rattle.placement_core.proofs.ListLemmas.{each-from_All, All-from_each}
+use Rattle.placement_core.proofs.ListLemmas.{each-from_All}
 use Rattle.isolation_groups.specs.Groups.{group_of}
 use Rattle.placement_plan.specs.Choices.{taking_cmp}
 use Rattle.placement_plan.specs.First.{MayHold}

@@ -1,11 +1,12 @@
 use Rattle.std.proofs.Common.{[], sym, ◌∙◌, ap, refl, subst, append-nil}
 use Rattle.std.specs.Prelude.{Err}
+use Rattle.std.proofs.lemmas.Result.{on_ok_weaker}
 use Rattle.m3_model.specs.declared.answer.Answer.TheVariants as answer
 use Rattle.m3_model.specs.declared.turn.Reply.TheVariants as reply
 use Rattle.m3_json.specs.Requests.{LineMeans}
 use Rattle.m3_program.specs.Exchanges.{reply_line}
 use Rattle.m3_program.specs.Streams.{Stage, stage}
-use Rattle.m3_program.proofs.WrittenLemmas.{on_err_just, on_ok_map}
+use Rattle.m3_program.proofs.WrittenLemmas.{on_err_just}
 use Rattle.m3_program.proofs.ExchangeLemmas.{passes, refuses, answers, drops_served, drops_unserved}
 use Rattle.m3_program.proofs.exchange.answer_line.Goals as goal
 
@@ -18,7 +19,7 @@ pub returns-in-Ok-clause-ok : goal.returns-in-Ok-clause-ok
 returns-in-Ok-clause-ok g c =
     let old : Stage g.row.X-D.Denot g.X.D.Disk = stage c.args.cluster.now (g.X.Disks.held c.args.disks.now) (g.X.Disks.counted c.args.disks.now) (g.X.Disks.all_faults c.args.disks.now) in
     let new : Stage g.row.X-D.Denot g.X.D.Disk = stage c.serve-reply.new.self (g.X.Disks.held c.serve-reply.new.disks) (g.X.Disks.counted c.serve-reply.new.disks) (g.X.Disks.all_faults c.serve-reply.new.disks) in
-    on_ok_map c.put_reply.result
+    on_ok_weaker c.put_reply.result
     (λ e. (
       _,
       e,
@@ -35,7 +36,7 @@ returns-in-Ok-clause-err g c =
 pub returns-in-Err-Form-clause-ok : goal.returns-in-Err-Form-clause-ok
 returns-in-Err-Form-clause-ok g c =
     let now : Stage g.row.X-D.Denot g.X.D.Disk = stage c.args.cluster.now (g.X.Disks.held c.args.disks.now) (g.X.Disks.counted c.args.disks.now) (g.X.Disks.all_faults c.args.disks.now) in
-    on_ok_map c.put_reply-in-Err-Form.result
+    on_ok_weaker c.put_reply-in-Err-Form.result
     (λ e. (
       _,
       e,
@@ -51,7 +52,7 @@ returns-in-Err-Form-clause-err g c =
 pub returns-in-Err-Later-clause-ok : goal.returns-in-Err-Later-clause-ok
 returns-in-Err-Later-clause-ok g c =
     let now : Stage g.row.X-D.Denot g.X.D.Disk = stage c.args.cluster.now (g.X.Disks.held c.args.disks.now) (g.X.Disks.counted c.args.disks.now) (g.X.Disks.all_faults c.args.disks.now) in
-    on_ok_map c.put_reply-in-Err-Later.result
+    on_ok_weaker c.put_reply-in-Err-Later.result
     (λ e. (
       _,
       e,

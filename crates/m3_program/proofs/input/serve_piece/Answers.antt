@@ -1,8 +1,8 @@
 use Rattle.std.proofs.Common.{[], ◌++◌, subst, append-nil}
-use Rattle.std.proofs.lemmas.Result.{IfErr-weaker}
+use Rattle.std.proofs.lemmas.Result.{IfErr-weaker, on_ok_weaker}
 use Rattle.m3_program.specs.Streams.{Cuts, Stage, stage}
 use Rattle.m3_program.specs.Writing.{WritesUntil}
-use Rattle.m3_program.proofs.WrittenLemmas.{on_ok_map, if_err_both}
+use Rattle.m3_program.proofs.WrittenLemmas.{if_err_both}
 use Rattle.m3_program.proofs.GatherLemmas.{writes_held, writes_front}
 use Rattle.m3_program.proofs.StreamLemmas.{cuts_behind}
 use Rattle.m3_program.proofs.CauseLemmas.{ends_earlier}
@@ -11,7 +11,7 @@ use Rattle.m3_program.proofs.input.serve_piece.Goals as goal
 pub returns-in-Ok-clause-ok : goal.returns-in-Ok-clause-ok
 returns-in-Ok-clause-ok g c =
     let w = c.in-Ok.ensures.ok in
-    on_ok_map c.write_all.result
+    on_ok_weaker c.write_all.result
     (λ wrote. (
       w.0,
       writes_held (g.K.Sink.written c.args.out.now) (g.K.Sink.written c.serve_lines.new.out) (g.K.Sink.written c.write_all.new.out) c.new-replies.result.items w.0 c.serve_lines.new.replies.items c.as_slice.result.now c.new-replies.ensures.items w.1 c.as_slice.ensures.value wrote,

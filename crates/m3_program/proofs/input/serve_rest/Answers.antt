@@ -1,7 +1,8 @@
 use Rattle.std.proofs.Common.{[], ◌∷◌, ◌++◌, ◌≡◌, sym, ap, ◌∙◌}
 use Rattle.std.proofs.lemmas.Bool.{eqb-true}
+use Rattle.std.proofs.lemmas.List.{nil_from_length}
+use Rattle.std.proofs.lemmas.Result.{on_err_weaker, on_ok_weaker}
 use Rattle.m3_program.specs.Streams.{Stage, stage}
-use Rattle.m3_program.proofs.WrittenLemmas.{on_ok_map, on_err_map, empty_of}
 use Rattle.m3_program.proofs.StreamLemmas.{takes_line, drops_line, cuts_silently}
 use Rattle.m3_program.proofs.input.serve_rest.Goals as goal
 
@@ -9,8 +10,8 @@ pub returns-then-is_empty-clause-ok : goal.returns-then-is_empty-clause-ok
 returns-then-is_empty-clause-ok g c =
     let old : Stage g.row.X-D.Denot g.X.D.Disk = stage c.args.cluster.now (g.X.Disks.held c.args.disks.now) (g.X.Disks.counted c.args.disks.now) (g.X.Disks.all_faults c.args.disks.now) in
     let new : Stage g.row.X-D.Denot g.X.D.Disk = stage c.answer_line.new.cluster (g.X.Disks.held c.answer_line.new.disks) (g.X.Disks.counted c.answer_line.new.disks) (g.X.Disks.all_faults c.answer_line.new.disks) in
-    let empty : c.args.line.now.items ≡ [] = sym c.as_slice.ensures.value ∙ empty_of c.as_slice.result.now (eqb-true _ _ (sym c.is_empty.ensures ∙ c.if-is_empty.true)) in
-    on_ok_map c.answer_line.result (λ w. (
+    let empty : c.args.line.now.items ≡ [] = sym c.as_slice.ensures.value ∙ nil_from_length c.as_slice.result.now (eqb-true _ _ (sym c.is_empty.ensures ∙ c.if-is_empty.true)) in
+    on_ok_weaker c.answer_line.result (λ w. (
       w.0,
       w.1,
       takes_line g.X.D.Disk.state old new c.args.line.now.items c.args.rest.now w.0 c.args.rest.now c.args.line.now.items c.requires.whole (ap (λ l. l ++ c.args.rest.now) (sym empty)) empty w.2,
@@ -20,8 +21,8 @@ pub returns-then-is_empty-clause-err : goal.returns-then-is_empty-clause-err
 returns-then-is_empty-clause-err g c =
     let old : Stage g.row.X-D.Denot g.X.D.Disk = stage c.args.cluster.now (g.X.Disks.held c.args.disks.now) (g.X.Disks.counted c.args.disks.now) (g.X.Disks.all_faults c.args.disks.now) in
     let new : Stage g.row.X-D.Denot g.X.D.Disk = stage c.answer_line.new.cluster (g.X.Disks.held c.answer_line.new.disks) (g.X.Disks.counted c.answer_line.new.disks) (g.X.Disks.all_faults c.answer_line.new.disks) in
-    let empty : c.args.line.now.items ≡ [] = sym c.as_slice.ensures.value ∙ empty_of c.as_slice.result.now (eqb-true _ _ (sym c.is_empty.ensures ∙ c.if-is_empty.true)) in
-    on_err_map c.answer_line.result (λ w. drops_line g.X.D.Disk.state old new c.args.line.now.items c.args.rest.now c.args.rest.now c.requires.whole (ap (λ l. l ++ c.args.rest.now) (sym empty)) w) c.answer_line.ensures.err
+    let empty : c.args.line.now.items ≡ [] = sym c.as_slice.ensures.value ∙ nil_from_length c.as_slice.result.now (eqb-true _ _ (sym c.is_empty.ensures ∙ c.if-is_empty.true)) in
+    on_err_weaker c.answer_line.result (λ w. drops_line g.X.D.Disk.state old new c.args.line.now.items c.args.rest.now c.args.rest.now c.requires.whole (ap (λ l. l ++ c.args.rest.now) (sym empty)) w) c.answer_line.ensures.err
 
 pub returns-in-Err-clause-err : goal.returns-in-Err-clause-err
 returns-in-Err-clause-err g c =

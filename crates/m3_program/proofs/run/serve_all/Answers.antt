@@ -98,7 +98,7 @@ returns-in-Ok-eq0-clause-cause g c =
     let was = c.loop-taken.invariant in
     let later = c.in-Ok-eq0.ensures.later in
     elim c.match-serve_last.branch [
-      | in-Ok-serve_last v ↦ rw v.result-is refl
+      | in-Ok-serve_last v ↦ rw v.result-is tt
       | in-Err-serve_last v ↦
           rw v.result-is (step_ends_run v.in-Err-serve_last.status _ (g.S.Source.faulted c.serve_read.new.source) _ _ (g.K.Sink.faulted c.serve_read.new.out) _ _ (g.K.Sink.stalled c.serve_read.new.out) _
           (let a = was.reads in let h = later.0 in omega arith) (let a = was.faults in let h = later.1 in omega arith) (let a = was.stalls in let h = later.2 in omega arith)

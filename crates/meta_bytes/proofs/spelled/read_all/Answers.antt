@@ -1,6 +1,7 @@
+use Rattle.std.proofs.lemmas.Result.{IfErr-weaker}
 use Rattle.wire_bytes.proofs.PointLemmas.{exit_err}
 use Rattle.meta_bytes.specs.Forms.{Counted, Has, Times, MayFault}
-use Rattle.meta_bytes.proofs.FormLemmas.{err_as, may_count, may_items}
+use Rattle.meta_bytes.proofs.FormLemmas.{may_count, may_items}
 use Rattle.meta_bytes.proofs.spelled.read_all.Goals as goal
 
 pub returns-in_err-count-clause-err : goal.returns-in_err-count-clause-err
@@ -14,6 +15,6 @@ returns-clause-err g c =
     let form = g.T.Spelled.form in
     let n = c.in_ok-count.count in
     let from = c.in_ok-count.from in
-    err_as c.read_items.result (MayFault (Times n (Has form)) c.args.bytes.now from) (MayFault (Has (Counted c.args.low c.args.high form)) c.args.bytes.now c.args.at)
+    IfErr-weaker c.read_items.result (MayFault (Times n (Has form)) c.args.bytes.now from) (MayFault (Has (Counted c.args.low c.args.high form)) c.args.bytes.now c.args.at)
     (λ e a. may_items c.args.low c.args.high form c.requires.small n c.args.bytes.now c.args.at from e c.in_ok-count.ensures.within.0 c.in_ok-count.ensures.within.1 c.in_ok-count.ensures.ok.stands a)
     c.read_items.ensures.err

@@ -3,7 +3,7 @@ use Rattle.std.specs.List.{flat_map}
 use Rattle.std.specs.Prelude.{nat_eq}
 use Rattle.std.proofs.lemmas.Bool.{eq-eqb, ne_eqb}
 use Rattle.std.proofs.lemmas.List.{take_all}
-use Rattle.placement_core.proofs.ListLemmas.{IsIn-from_index}
+use Rattle.m3_model.proofs.Lists.{IsIn-get_or}
 use Rattle.replica_exchange.specs.declared.slot.Slot.{Slot}
 use Rattle.session_net.specs.Runs.{Ran}
 use Rattle.session_net.proofs.ReadyLemmas.{there_after}
@@ -23,7 +23,7 @@ loop-slot-init g c = ran_nothing g.D.Disk.state c.args.replicas.now
 pub restart_one-requires-clause-there : goal.restart_one-requires-clause-there
 restart_one-requires-clause-there g c κs within =
     let i = c.loop-slot.slot-index in
-    there_after g.D.Disk.state c.args.replicas.now c.loop-slot.replicas (flat_map restart_at (slots_of_node c.args.node (take i c.args.slots.now))) _ c.loop-slot.invariant (c.requires.manned _ (IsIn-from_index c.args.slots.now i _ c.loop-slot-test.true))
+    there_after g.D.Disk.state c.args.replicas.now c.loop-slot.replicas (flat_map restart_at (slots_of_node c.args.node (take i c.args.slots.now))) _ c.loop-slot.invariant (c.requires.manned _ (IsIn-get_or c.args.slots.now i _ c.loop-slot-test.true))
 
 pub restart_one-requires-clause-room : goal.restart_one-requires-clause-room
 restart_one-requires-clause-room g c κs within =

@@ -1,10 +1,10 @@
 use Rattle.std.proofs.Common.{◌≡◌, ◌+◌, ◌/◌, ◌∙◌, ℕ, List, None, ap, sym, subst, length, get_or, not, arith}
 use Rattle.std.proofs.lemmas.Bool.{not-true, ltb-true}
+use Rattle.std.proofs.lemmas.Option.{slice_get-get_or}
 use Rattle.m3_model.specs.declared.placement.Assignment.{Assignment}
 use Rattle.m3_model.specs.declared.placement.ShardState.TheVariants.{Initializing}
 use Rattle.placement_core.proofs.StepLemmas.{no_true}
 use Rattle.past_events.specs.Joining.{IsNewPeer}
-use Rattle.placement_core.proofs.AscendLemmas.{at_read}
 use Rattle.past_events.proofs.PeerLemmas.{ArePeers, next_peer, no_next_peer, joined_decided}
 use Rattle.past_events.proofs.joins.has_joined.Goals as goal
 use Rattle.past_events.proofs.joins.has_joined.Goals.{then-branch+in_ok-push, else-branch, then-many, else-many}
@@ -20,7 +20,7 @@ loop-former-preserved c =
     let i = c.loop-former.former-index in
     let peers = c.loop-former.peers.items in
     let a = get_or shard i blank in
-    let at = at_read shard i blank c.loop-former-test.true in
+    let at = slice_get-get_or shard i blank c.loop-former-test.true in
     let told = c.in_ok-is_new_peer.ensures in
     let Goal : List ℕ → Type 0 = λ ps. ArePeers past shard c.args.shard c.args.node c.args.tenure (i + 1) ps in
     let peers_are = c.deref.ensures.value in

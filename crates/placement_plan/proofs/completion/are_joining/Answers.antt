@@ -1,6 +1,7 @@
 use Rattle.std.proofs.Common.{◌↔◌, IsTrue, List, subst}
+use Rattle.m3_model.proofs.Lists.{All-from_each}
 use Rattle.placement_core.specs.Shards.{Shard}
-use Rattle.placement_core.proofs.ListLemmas.{each-from_All, All-from_each}
+use Rattle.placement_core.proofs.ListLemmas.{each-from_All}
 use Rattle.placement_plan.specs.Plans.{IsJoiningPair, AreJoining}
 use Rattle.placement_plan.proofs.completion.are_joining.Goals as goal
 

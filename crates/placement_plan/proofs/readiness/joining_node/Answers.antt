@@ -1,14 +1,15 @@
 use Rattle.std.proofs.Common.{◌≡◌, get_or, refl, sym, ◌∙◌, arith, inl, inr, ◌⊎◌}
+use Rattle.std.proofs.lemmas.Option.{slice_get-get_or}
 use Rattle.m3_model.specs.declared.placement.Assignment.{Assignment}
 use Rattle.m3_model.specs.declared.placement.ShardState.{ShardState}
 use Rattle.m3_model.specs.declared.placement.ShardState.TheVariants.{Initializing, Available, Leaving}
-use Rattle.placement_core.proofs.ListLemmas.{IsIn-from_index}
-use Rattle.placement_plan.proofs.PlaceLemmas.{none_all, none_more, item_at, blank}
+use Rattle.m3_model.proofs.Lists.{IsIn-get_or}
+use Rattle.placement_plan.proofs.PlaceLemmas.{none_all, none_more, blank}
 use Rattle.placement_plan.proofs.readiness.joining_node.Goals as goal
 
 pub returns-in-Initializing : goal.returns-in-Initializing
 returns-in-Initializing c = record {
-  found = (get_or c.args.shard.now c.loop-a.a-index blank, IsIn-from_index c.args.shard.now c.loop-a.a-index blank c.loop-a-test.true, refl, c.in-Initializing.is);
+  found = (get_or c.args.shard.now c.loop-a.a-index blank, IsIn-get_or c.args.shard.now c.loop-a.a-index blank c.loop-a-test.true, refl, c.in-Initializing.is);
   none = tt;
 }
 
@@ -18,7 +19,7 @@ not_joining st other is = elim other as (λ _. ⊥) [ inl e ↦ let clash : Avai
 pub loop-a-preserved : goal.loop-a-preserved
 loop-a-preserved c =
     let a = get_or c.args.shard.now c.loop-a.a-index blank in
-    none_more (λ (x : Assignment). x.state ≡ Initializing) c.args.shard.now c.loop-a.a-index a (item_at c.args.shard.now c.loop-a.a-index blank c.loop-a-test.true) (not_joining a.state c.in-Available.is) c.loop-a.invariant
+    none_more (λ (x : Assignment). x.state ≡ Initializing) c.args.shard.now c.loop-a.a-index a (slice_get-get_or c.args.shard.now c.loop-a.a-index blank c.loop-a-test.true) (not_joining a.state c.in-Available.is) c.loop-a.invariant
 
 pub returns-clause-none : goal.returns-clause-none
 returns-clause-none c = none_all (λ (x : Assignment). x.state ≡ Initializing) c.args.shard.now c.loop-a.a-index (omega arith) c.loop-a.invariant

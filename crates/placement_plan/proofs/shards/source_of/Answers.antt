@@ -1,8 +1,9 @@
 use Rattle.std.proofs.Common.{◌≡◌, ℕ, get_or, arith}
+use Rattle.std.proofs.lemmas.Option.{slice_get-get_or}
 use Rattle.m3_model.specs.declared.placement.Assignment.{Assignment}
+use Rattle.m3_model.proofs.Lists.{IsIn-get_or}
 use Rattle.placement_core.specs.Lawful.{IsJoiningFrom}
-use Rattle.placement_core.proofs.ListLemmas.{IsIn-from_index}
-use Rattle.placement_plan.proofs.PlaceLemmas.{none_all, none_more, item_at, blank}
+use Rattle.placement_plan.proofs.PlaceLemmas.{none_all, none_more, blank}
 use Rattle.placement_plan.proofs.shards.source_of.Goals as goal
 
 abbrev Joins : ℕ → Assignment → Type 0
@@ -11,11 +12,11 @@ Joins node a = (a.node ≡ node) × ((from : ℕ) × IsJoiningFrom from a)
 pub returns-in-Some-clause-found : goal.returns-in-Some-clause-found
 returns-in-Some-clause-found c =
     let h = c.in-Some.ensures.found in
-    (get_or c.args.shard.now c.loop-a.a-index blank, IsIn-from_index c.args.shard.now c.loop-a.a-index blank c.loop-a-test.true, h.0, h.1)
+    (get_or c.args.shard.now c.loop-a.a-index blank, IsIn-get_or c.args.shard.now c.loop-a.a-index blank c.loop-a-test.true, h.0, h.1)
 
 pub loop-a-preserved : goal.loop-a-preserved
 loop-a-preserved c =
-    none_more (Joins c.args.node) c.args.shard.now c.loop-a.a-index (get_or c.args.shard.now c.loop-a.a-index blank) (item_at c.args.shard.now c.loop-a.a-index blank c.loop-a-test.true)
+    none_more (Joins c.args.node) c.args.shard.now c.loop-a.a-index (get_or c.args.shard.now c.loop-a.a-index blank) (slice_get-get_or c.args.shard.now c.loop-a.a-index blank c.loop-a-test.true)
     (λ h. c.in-None.ensures.none h.1.0 h.0 h.1.1) c.loop-a.invariant
 
 pub returns-clause-none : goal.returns-clause-none

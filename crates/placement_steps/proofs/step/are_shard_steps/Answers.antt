@@ -1,13 +1,14 @@
 use Rattle.std.proofs.Common.{◌≡◌, ◌⊎◌, ◌+◌, ◌∙◌, ap, sym, subst, inl, inr, refl, true, false, arith, length, is_some, Some}
+use Rattle.std.proofs.lemmas.Option.{slice_get_within}
 use Rattle.placement_core.specs.Steps.{IsShardStep}
 use Rattle.placement_core.proofs.DoneLemmas.{cursor_moves}
-use Rattle.placement_core.proofs.ListLemmas.{at_within, at_index}
+use Rattle.placement_core.proofs.ListLemmas.{at_index}
 use Rattle.placement_core.proofs.StepLemmas.{steps_more, no_true}
 use Rattle.placement_steps.proofs.step.are_shard_steps.Goals as goal
 use Rattle.placement_steps.proofs.step.are_shard_steps.Goals.{then-is_some, else-is_some}
 
 pub returns : goal.returns
-returns c = (λ t s a b at_old at_next. c.loop-number.invariant.1 s a b (omega (arith, at_within c.args.old.now s a at_old, c.loop-number-test.false)) at_old at_next, λ all. refl)
+returns c = (λ t s a b at_old at_next. c.loop-number.invariant.1 s a b (omega (arith, slice_get_within c.args.old.now s a at_old, c.loop-number-test.false)) at_old at_next, λ all. refl)
 
 pub loop-number-preserved : goal.loop-number-preserved
 loop-number-preserved c =

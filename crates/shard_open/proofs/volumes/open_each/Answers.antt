@@ -1,9 +1,9 @@
 use Rattle.std.proofs.Common.{List, [], map, ◌++◌, sym, ap, subst, ◌∙◌, append-nil, get_or}
+use Rattle.m3_model.proofs.Lists.{IsIn-get_or}
 use Rattle.m3_outside.specs.Files.{Files}
 use Rattle.commit_log.proofs.Leaves.{leaves_none, leaves_as, leaves_then}
 use Rattle.commit_log.proofs.ReadLemmas.{passed_err}
 use Rattle.volume_bytes.specs.Heads.{head_of}
-use Rattle.tag_query.proofs.Members.{IsIn-get_or}
 use Rattle.shard_files.specs.FilesHold.{volume_points}
 use Rattle.shard_files.specs.declared.load_err.LoadErr.TheVariants as failures
 use Rattle.fileset_read.specs.Volumes.{IsThere}

@@ -1,9 +1,10 @@
 use Rattle.std.proofs.Common.{List, subst, ◌∙◌}
+use Rattle.std.proofs.lemmas.Result.{IfOk-weaker}
 use Rattle.m3_outside.specs.Files.{Files}
 use Rattle.commit_log.proofs.Leaves.{leaves_then}
 use Rattle.fileset_check.specs.declared.volume.Volume.{Volume}
 use Rattle.shard_open.specs.Loads.{AreOpen, AreOpened}
-use Rattle.shard_open.proofs.OpenLemmas.{volumes_opened, if_ok_as}
+use Rattle.shard_open.proofs.OpenLemmas.{volumes_opened}
 use Rattle.shard_open.proofs.volumes.open_volumes.Goals as goal
 
 pub returns-clause-leaves : goal.returns-clause-leaves
@@ -14,7 +15,7 @@ returns-clause-ok g c = λ t.
     let leaves = c.volumes.ensures.leaves in
     let files = (g.D.Disk.state c.args.disk.now).files in
     let now = (g.D.Disk.state c.volumes.new.disk).files in
-    if_ok_as c.open_each.result (AreOpen now c.as_slice.result.now) (λ found. AreOpened found files)
+    IfOk-weaker c.open_each.result (AreOpen now c.as_slice.result.now) (λ found. AreOpened found files)
     (λ found open_.
     let own = subst (λ (l : List Volume). AreOpen now l found) c.as_slice.ensures open_ in
     volumes_opened files c.in-Ok.listed found (c.in-Ok.ensures.ok t) (subst (λ (m : Files). AreOpen m c.in-Ok.listed found) (leaves.files t) own))

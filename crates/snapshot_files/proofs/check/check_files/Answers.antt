@@ -1,3 +1,4 @@
+use Rattle.std.proofs.lemmas.Result.{IfOk-weaker}
 use Rattle.shard_files.specs.Parts.{snapshot_checkpoint, snapshot_data}
 use Rattle.shard_files.specs.Damage.{BreaksDigest, BreaksForm, IsGate}
 use Rattle.shard_files.proofs.SegmentStops.{passed_on}
@@ -6,7 +7,7 @@ use Rattle.fileset_check.specs.Told.{MayTell}
 use Rattle.fileset_check.specs.declared.check_err.CheckErr.TheVariants as failures
 use Rattle.fileset_check.proofs.FirstLemmas.{tells_as}
 use Rattle.snapshot_files.specs.Told.{IsUnfit, SnapshotTells}
-use Rattle.snapshot_files.proofs.CheckLemmas.{gate_told, kept_told, body_told, is_there, each_ok, each_err}
+use Rattle.snapshot_files.proofs.CheckLemmas.{gate_told, kept_told, body_told, is_there, each_err}
 use Rattle.snapshot_files.proofs.check.check_files.Goals as goal
 
 pub returns-in_err-kept-clause-calm : goal.returns-in_err-kept-clause-calm
@@ -33,7 +34,7 @@ returns-in_err-check_digest-clause-err c = λ files a.
 pub returns-clause-ok : goal.returns-clause-ok
 returns-clause-ok c = λ files a.
     let number = c.args.number in
-    each_ok c.body_in.result _ _ (λ s r. is_there number files c.args.gate.now c.args.body.now a c.in_ok-kept.kept c.in_ok-kept.ensures.long c.in_ok-kept.ensures.ok c.in_ok-check_digest.ensures.ok c.bytes_in.result.now c.bytes_in.ensures s r) c.body_in.ensures.ok
+    IfOk-weaker c.body_in.result _ _ (λ s r. is_there number files c.args.gate.now c.args.body.now a c.in_ok-kept.kept c.in_ok-kept.ensures.long c.in_ok-kept.ensures.ok c.in_ok-check_digest.ensures.ok c.bytes_in.result.now c.bytes_in.ensures s r) c.body_in.ensures.ok
 
 pub returns-clause-err : goal.returns-clause-err
 returns-clause-err c = λ files a.

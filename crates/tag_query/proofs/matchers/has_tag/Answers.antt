@@ -1,7 +1,8 @@
 use Rattle.std.proofs.Common.{subst, sym, ◌∙◌, inl, inr, refl, true≢false}
 use Rattle.std.specs.Prelude.{IsTrue}
 use Rattle.m3_model.specs.Members.{IsIn}
-use Rattle.tag_query.proofs.Members.{at_or_later, IsIn-get_or}
+use Rattle.m3_model.proofs.Lists.{IsIn-get_or}
+use Rattle.tag_query.proofs.Members.{at_or_later}
 use Rattle.tag_query.proofs.matchers.has_tag.Goals as goal
 
 pub returns-then-is_tag : goal.returns-then-is_tag

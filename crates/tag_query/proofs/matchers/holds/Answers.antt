@@ -2,7 +2,7 @@ use Rattle.std.proofs.Common.{◌≡◌, subst, sym, ◌∙◌, ap, true≢false
 use Rattle.std.specs.Prelude.{IsTrue}
 use Rattle.m3_model.specs.Members.{IsIn}
 use Rattle.m3_model.specs.Tags.{MatcherHolds}
-use Rattle.tag_query.proofs.Members.{IsIn-get_or}
+use Rattle.m3_model.proofs.Lists.{IsIn-get_or}
 use Rattle.tag_query.proofs.matchers.holds.Goals as goal
 
 pub returns-then-not-meets : goal.returns-then-not-meets

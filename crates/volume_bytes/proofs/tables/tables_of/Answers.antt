@@ -1,16 +1,17 @@
 use Rattle.std.proofs.Common.{◌≡◌, ◌≤◌, ◌+◌, ℕ, List, length, sym, ap, subst, ◌∙◌, arith, length-append}
 use Rattle.m3_model.specs.declared.limits.TheConstants.{MOST_ID_BYTES}
+use Rattle.m3_model.proofs.Lists.{IsIn-read}
 use Rattle.wire_bytes.specs.Volumes.{row_bytes, index_entry}
-use Rattle.volume_bytes.proofs.RowLemmas.{left_at, item_in, body_more, index_more, count_more, summaries_more, length_entry}
+use Rattle.volume_bytes.proofs.RowLemmas.{left_at, body_more, index_more, count_more, summaries_more, length_entry}
 use Rattle.volume_bytes.proofs.tables.tables_of.Goals as goal
 
 pub push_summary-requires : goal.push_summary-requires
 push_summary-requires c =
-    let fits = c.requires.fits c.row-item.result (item_in c.args.rows.now c.loop-row.row-index c.row-item.result c.loop-row-test.true c.row-item.is) in
+    let fits = c.requires.fits c.row-item.result (IsIn-read c.args.rows.now c.loop-row.row-index c.row-item.result c.loop-row-test.true c.row-item.is) in
     record { long = subst (λ (l : List ℕ). length l ≤ MOST_ID_BYTES) (sym c.as_str.ensures) fits.id }
 
 pub push_series-requires : goal.push_series-requires
-push_series-requires c = c.requires.fits c.row-item.result (item_in c.args.rows.now c.loop-row.row-index c.row-item.result c.loop-row-test.true c.row-item.is)
+push_series-requires c = c.requires.fits c.row-item.result (IsIn-read c.args.rows.now c.loop-row.row-index c.row-item.result c.loop-row-test.true c.row-item.is)
 
 pub loop-row-preserved : goal.loop-row-preserved
 loop-row-preserved c =

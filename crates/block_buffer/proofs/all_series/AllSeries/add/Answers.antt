@@ -4,16 +4,17 @@ use Rattle.std.specs.FinMap as finite
 use Rattle.series_slots.specs.declared.series_key.SeriesKey.{SeriesKey}
 use Rattle.series_slots.specs.Points.{slot_at}
 use Rattle.series_slots.specs.SeriesEntries.{SeriesEntries, slots_of}
-use Rattle.block_buffer.specs.AllSeries.{TimesFit, SpacesBelow}
+use Rattle.block_buffer.specs.AllSeries.{TimesFit, SpacesBelow, AreNoted}
 use Rattle.block_buffer.proofs.PlaceLemmas.{last_at}
 use Rattle.block_buffer.proofs.SetLemmas.{came}
 use Rattle.block_buffer.proofs.EntryLemmas.{times_added, spaces_added}
+use Rattle.block_buffer.proofs.SpotLemmas.{noted_added}
 use Rattle.block_buffer.proofs.all_series.AllSeries.add.Goals as goal
 
 pub invariant_of-self : goal.invariant_of-self
 invariant_of-self c =
     let same = sym c.in_err-position.ensures.err in
-    (subst TimesFit same c.self.invariant.0, subst (SpacesBelow c.self.inside.spaces) same c.self.invariant.1, c.self.invariant.2)
+    (subst TimesFit same c.self.invariant.0, subst (SpacesBelow c.self.inside.spaces) same c.self.invariant.1, c.self.invariant.2, subst (AreNoted c.self.inside.firsts.spaces.items) same c.self.invariant.3)
 
 pub invariant_of-self-2 : goal.invariant_of-self-2
 invariant_of-self-2 c =
@@ -27,6 +28,7 @@ invariant_of-self-2 c =
       subst TimesFit (sym done.placed) (times_added es s c.self.invariant.0),
       subst (SpacesBelow next) (sym done.placed) (spaces_added c.self.inside.spaces next es s finite.empty c.higher_of-self-inside.ensures.first (omega (arith, low)) c.self.invariant.1),
       elim c.higher_of-self-inside.ensures.one as (λ _. next ≤ 256) [ inl is ↦ omega (arith, is, limit) | inr is ↦ omega (arith, is, fits) ],
+      subst (AreNoted c.self.inside.firsts.spaces.items) (sym done.placed) (noted_added c.self.inside.firsts.spaces.items es s c.self.invariant.3),
     )
 
 pub returns-clause-at : goal.returns-clause-at

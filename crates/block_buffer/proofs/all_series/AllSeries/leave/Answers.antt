@@ -6,9 +6,11 @@ use Rattle.series_slots.specs.SeriesKeys.{key_at}
 use Rattle.series_slots.specs.Slots.{Slots}
 use Rattle.series_slots.specs.Points.{slot_at}
 use Rattle.series_slots.specs.SeriesEntries.{SeriesEntries, slots_of}
-use Rattle.block_buffer.specs.AllSeries.{TimesFit, SpacesBelow, HasNoSlots, HasSlots}
+use Rattle.block_buffer.specs.AllSeries.{TimesFit, SpacesBelow, AreNoted, HasNoSlots, HasSlots}
 use Rattle.block_buffer.proofs.SetLemmas.{slot_found, some_slot, left_same, left_empty}
 use Rattle.block_buffer.proofs.EntryLemmas.{times_left, spaces_left}
+use Rattle.std.proofs.lemmas.Option.{slice_get_within}
+use Rattle.block_buffer.proofs.SpotLemmas.{noted_left}
 use Rattle.block_buffer.proofs.all_series.AllSeries.leave.Goals as goal
 
 off_on : (b : Bool) → b ≡ false → b ≡ true → ⊥
@@ -27,6 +29,14 @@ returns-then-not-is_vacant-clause-left c s at =
           (subst IsSome (sym (slot_found (slots_of es) s at.slots t.0 (c.is_vacant.ensures.found s at.slots there))) t.1);
     }
 
+pub note_last-requires : goal.note_last-requires
+note_last-requires c =
+    let es : SeriesEntries = c.self.inside.placed in
+    let s : SeriesKey = c.requires.0 in
+    let v : Slots = c.requires.1.slots in
+    let there : slice_get es c.args.position ≡ Some (s, v) = subst (λ (ps : SeriesEntries). slice_get ps c.args.position ≡ Some (s, v)) (sym c.self.view_is) c.requires.1.entry in
+    slice_get_within es c.args.position (s, v) there
+
 pub invariant_of-self : goal.invariant_of-self
 invariant_of-self c =
     let es : SeriesEntries = c.self.inside.placed in
@@ -37,6 +47,8 @@ invariant_of-self c =
       subst TimesFit (sym done.placed) (times_left es c.args.position s v there c.self.invariant.0),
       subst (SpacesBelow c.self.inside.spaces) (sym done.placed) (spaces_left c.self.inside.spaces es c.args.position s v there c.self.invariant.1),
       c.self.invariant.2,
+      subst (AreNoted c.note_last.new.firsts.spaces.items) (sym done.placed)
+          (noted_left c.self.inside.firsts.spaces.items c.note_last.new.firsts.spaces.items es c.args.position (s, v) there c.note_last.ensures.lower c.note_last.ensures.noted c.self.invariant.0 c.self.invariant.3),
     )
 
 pub returns-clause-kept : goal.returns-clause-kept

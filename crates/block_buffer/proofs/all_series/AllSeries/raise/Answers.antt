@@ -9,9 +9,10 @@ use Rattle.series_slots.specs.SeriesKeys.{key_at}
 use Rattle.series_slots.specs.Slots.{Slots, settled, value_at}
 use Rattle.series_slots.specs.Points.{slot_at, value_of}
 use Rattle.series_slots.specs.SeriesEntries.{SeriesEntries, slots_of}
-use Rattle.block_buffer.specs.AllSeries.{TimesFit, SpacesBelow}
+use Rattle.block_buffer.specs.AllSeries.{TimesFit, SpacesBelow, AreNoted}
 use Rattle.block_buffer.proofs.SetLemmas.{put_slot, slot_found}
 use Rattle.block_buffer.proofs.EntryLemmas.{times_inserted, spaces_set}
+use Rattle.block_buffer.proofs.SpotLemmas.{noted_raised}
 use Rattle.block_buffer.proofs.all_series.AllSeries.raise.Goals as goal
 
 pub invariant_of-self : goal.invariant_of-self
@@ -25,6 +26,7 @@ invariant_of-self c =
       subst TimesFit (sym done.placed) (times_inserted es c.args.position s v c.args.t _ there short c.self.invariant.0),
       subst (SpacesBelow c.self.inside.spaces) (sym done.placed) (spaces_set c.self.inside.spaces es c.args.position s v _ there c.self.invariant.1),
       c.self.invariant.2,
+      subst (AreNoted c.self.inside.firsts.spaces.items) (sym done.placed) (noted_raised c.self.inside.firsts.spaces.items es c.args.position s v c.args.t _ there c.requires.1.slot c.self.invariant.3),
     )
 
 pub returns-clause-raised : goal.returns-clause-raised

@@ -5,9 +5,10 @@ use Rattle.series_slots.specs.declared.series_key.SeriesKey.{SeriesKey}
 use Rattle.series_slots.specs.SeriesKeys.{key_at}
 use Rattle.series_slots.specs.Slots.{Slots}
 use Rattle.series_slots.specs.SeriesEntries.{SeriesEntries}
-use Rattle.block_buffer.specs.AllSeries.{TimesFit, SpacesBelow, IsSlotSet}
+use Rattle.block_buffer.specs.AllSeries.{TimesFit, SpacesBelow, AreNoted, IsSlotSet}
 use Rattle.block_buffer.proofs.SetLemmas.{take_slot}
 use Rattle.block_buffer.proofs.EntryLemmas.{times_removed, spaces_set, set_here}
+use Rattle.block_buffer.proofs.SpotLemmas.{noted_removed}
 use Rattle.block_buffer.proofs.all_series.AllSeries.take_slot.Goals as goal
 
 pub invariant_of-self : goal.invariant_of-self
@@ -20,6 +21,7 @@ invariant_of-self c =
       subst TimesFit (sym done.placed) (times_removed es c.args.position s v c.args.t there c.self.invariant.0),
       subst (SpacesBelow c.self.inside.spaces) (sym done.placed) (spaces_set c.self.inside.spaces es c.args.position s v _ there c.self.invariant.1),
       c.self.invariant.2,
+      subst (AreNoted c.self.inside.firsts.spaces.items) (sym done.placed) (noted_removed c.self.inside.firsts.spaces.items es c.args.position s v c.args.t there c.self.invariant.3),
     )
 
 pub returns-clause-taken : goal.returns-clause-taken

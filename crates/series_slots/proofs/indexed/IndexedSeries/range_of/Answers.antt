@@ -17,7 +17,7 @@ returns-in_ok-push_range-in-Some c =
     let there : finite.get (slots_of c.self.inside.map.entries) key ≡ Some c.in-Some.buffer.now =
     ap (finite.get (slots_of c.self.inside.map.entries)) (sym same) ∙ placed_at c.self.inside.map.entries _ ∙ sym c.in-Some.ensures.value in
     let found : c.from_vec.result ≡ some_series c.args.id.now (pairs_of c.args.from c.args.to c.in-Some.buffer.now) =
-    c.from_vec.ensures ∙ c.in_ok-push_range-in-Some.ensures ∙ ap (λ (xs : List Series). xs ++ some_series c.args.id.now (pairs_of c.args.from c.args.to c.in-Some.buffer.now)) c.new-found.ensures.items in
+    c.from_vec.ensures ∙ c.in_ok-push_range-in-Some.ensures.ok ∙ ap (λ (xs : List Series). xs ++ some_series c.args.id.now (pairs_of c.args.from c.args.to c.in-Some.buffer.now)) c.new-found.ensures.items in
     subst (IsRangeOf (points_of (slots_of c.args.self.now)) (pick.One c.args.ns c.args.id.now) c.args.from c.args.to) (sym found)
     (subst (λ (es : SeriesEntries). IsRangeOf (points_of (slots_of es)) (pick.One c.args.ns c.args.id.now) c.args.from c.args.to (some_series c.args.id.now (pairs_of c.args.from c.args.to c.in-Some.buffer.now))) c.self.view_is
     (one_range (slots_of c.self.inside.map.entries) c.args.ns c.args.id.now c.args.from c.args.to c.in-Some.buffer.now there))

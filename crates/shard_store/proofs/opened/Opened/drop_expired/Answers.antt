@@ -1,4 +1,4 @@
-use Rattle.std.proofs.Common.{List, ap, sym, subst}
+use Rattle.std.proofs.Common.{List, ap, refl, sym, subst}
 use Rattle.std.specs.Prelude.{IsErrOf}
 use Rattle.m3_outside.specs.DiskState.{EachImage}
 use Rattle.m3_outside.specs.declared.disk_err.DiskErr.TheVariants.{Failed as DiskFailed}
@@ -12,6 +12,7 @@ use Rattle.shard_store.specs.StoreParts.{content_of_opened}
 use Rattle.shard_store.proofs.CountedLemmas.{counted_removed}
 use Rattle.shard_store.proofs.LossLemmas.{live_known, live_left, live_there, only_fault}
 use Rattle.shard_store.proofs.StillLemmas.{fault_said}
+use Rattle.shard_store.proofs.CacheLemmas.{cached_live, cached_still}
 use Rattle.shard_store.proofs.opened.Opened.drop_expired.Goals as goal
 
 pub returns-in_err-remove_volumes-clause-err : goal.returns-in_err-remove_volumes-clause-err
@@ -73,3 +74,13 @@ returns-in_err-remove_volumes-clause-counted g c = counted_removed c.args.self.n
 
 pub returns-clause-counted : goal.returns-clause-counted
 returns-clause-counted g c = counted_removed c.args.self.now c.args.goes.now (g.D.Disk.state c.args.disk.now) (g.D.Disk.state c.remove_volumes.new.disk) c.remove_volumes.ensures.tells c.remove_volumes.ensures.segments c.remove_volumes.ensures.others
+
+pub returns-in_err-remove_volumes-clause-cached : goal.returns-in_err-remove_volumes-clause-cached
+returns-in_err-remove_volumes-clause-cached g c =
+    let s = c.args.self.now in
+    cached_still (known_in s.volumes.items) (known_in s.volumes.items) s.cache s.cache (g.D.Disk.state c.args.disk.now) (g.D.Disk.state c.remove_volumes.new.disk) c.remove_volumes.ensures.tells refl refl
+
+pub returns-clause-cached : goal.returns-clause-cached
+returns-clause-cached g c =
+    let s = c.args.self.now in
+    cached_live (known_in s.volumes.items) (known_in c.forget.new.listed.items) s.cache c.forget_all.new.self (g.D.Disk.state c.args.disk.now) (g.D.Disk.state c.remove_volumes.new.disk) c.remove_volumes.ensures.tells c.args.rules.now c.args.goes.now c.requires.goes c.forget.ensures c.forget_all.ensures

@@ -13,6 +13,7 @@ use Rattle.listed_volumes.proofs.ReadLemmas.{not_fault}
 use Rattle.listed_volumes.specs.declared.volume.ListedVolume.{ListedVolume}
 use Rattle.listed_volumes.specs.Listed.{AreHeld, known_in}
 use Rattle.shard_store.specs.StoreParts.{content_of_opened}
+use Rattle.shard_store.proofs.CacheLemmas.{cached_fetched}
 use Rattle.shard_store.proofs.KnownReads.{held_known}
 use Rattle.shard_store.proofs.opened.Opened.fetch.Goals as goal
 
@@ -20,11 +21,30 @@ pub returns-in_err-here-clause-leaves : goal.returns-in_err-here-clause-leaves
 returns-in_err-here-clause-leaves g c =
     leaves_none _ (g.D.Disk.state c.args.disk.now) (λ f. not_fault c.fetch_held.result c.fetch_held.ensures.err (passed_err c.from_residual.result c.fetch_held.result c.in_err-here.field-0.0 failures.Disk c.in_err-here.was c.from_residual.ensures.1 f))
 
-pub fetch-requires-after_bounds : goal.fetch-requires-after_bounds
-fetch-requires-after_bounds g c κs within = λ tells.
+pub fetch-requires-clause-there : goal.fetch-requires-clause-there
+fetch-requires-clause-there g c κs within = λ tells.
     let s = c.args.self.now in
     let held = held_known s.held.points (known_in s.volumes.items) s.tenure s.fence (g.D.Disk.state c.args.disk.now) ((g.met.D.Disk g.world.𝓛 g.world.𝓜 g.world.𝓡 ((λ s x. x), (λ x. x), (λ x. x), (λ x. x))).lawful c.args.disk.now) c.requires.kept.exact tells in
     subst (λ (vs : List ListedVolume). AreHeld (known_in vs) (g.D.Disk.state c.args.disk.now).files) (sym c.deref.ensures.value) held
+
+pub returns-in_err-here-clause-cached : goal.returns-in_err-here-clause-cached
+returns-in_err-here-clause-cached g c = c.requires.cached
+
+pub returns-in_err-there-clause-cached : goal.returns-in_err-there-clause-cached
+returns-in_err-there-clause-cached g c =
+    let s = c.args.self.now in
+    let a = g.D.Disk.state c.args.disk.now in
+    let lawful = (g.met.D.Disk g.world.𝓛 g.world.𝓜 g.world.𝓡 ((λ s x. x), (λ x. x), (λ x. x), (λ x. x))).lawful c.args.disk.now in
+    cached_fetched s.volumes.items c.deref.result.now c.deref.ensures.value s.cache c.fetch.new.kept a (g.D.Disk.state c.fetch.new.disk) c.fetch.ensures.leaves.proceeds.tells
+    (held_known s.held.points (known_in s.volumes.items) s.tenure s.fence a lawful c.requires.kept.exact) c.fetch.ensures.kept c.fetch.ensures.right c.requires.cached
+
+pub returns-clause-cached : goal.returns-clause-cached
+returns-clause-cached g c =
+    let s = c.args.self.now in
+    let a = g.D.Disk.state c.args.disk.now in
+    let lawful = (g.met.D.Disk g.world.𝓛 g.world.𝓜 g.world.𝓡 ((λ s x. x), (λ x. x), (λ x. x), (λ x. x))).lawful c.args.disk.now in
+    cached_fetched s.volumes.items c.deref.result.now c.deref.ensures.value s.cache c.fetch.new.kept a (g.D.Disk.state c.fetch.new.disk) c.fetch.ensures.leaves.proceeds.tells
+    (held_known s.held.points (known_in s.volumes.items) s.tenure s.fence a lawful c.requires.kept.exact) c.fetch.ensures.kept c.fetch.ensures.right c.requires.cached
 
 pub returns-clause-answer : goal.returns-clause-answer
 returns-clause-answer g c = λ tells.

@@ -3,7 +3,7 @@ use Rattle.std.specs.Prelude.{IsErrOf, slice_get}
 use Rattle.std.proofs.lemmas.List.{get_or_default}
 use Rattle.m3_model.specs.Answers.{HasPoint}
 use Rattle.m3_model.specs.Contents.{Contents}
-use Rattle.block_buffer.specs.Blocks.{IsBlocksOf}
+use Rattle.block_buffer.specs.Blocks.{IsClosedBlocksOf}
 use Rattle.commit_log.proofs.Leaves.{leaves_none}
 use Rattle.commit_log.proofs.ReadLemmas.{passed_err}
 use Rattle.fileset_read.specs.declared.file_err.FileErr.TheVariants as failures
@@ -11,8 +11,8 @@ use Rattle.listed_volumes.proofs.ReadLemmas.{not_fault}
 use Rattle.shard_store.specs.Flushes.{is_in_one}
 use Rattle.listed_volumes.specs.Listed.{known_in}
 use Rattle.shard_store.specs.StoreParts.{content_of_opened}
-use Rattle.shard_store.proofs.FlushLoop.{flushed_all, flushed_few, flushed_of, flushing_ended, flushing_none, flushing_still, next_fresh}
-use Rattle.shard_store.proofs.FlushedLemmas.{blocks_aligned, not_ended}
+use Rattle.shard_store.proofs.FlushLoop.{closed_aligned, flushed_all, flushed_few, flushed_of, flushing_ended, flushing_none, flushing_still, next_fresh}
+use Rattle.shard_store.proofs.FlushedLemmas.{not_ended}
 use Rattle.shard_store.proofs.PointLemmas.{has_fewer}
 use Rattle.shard_store.proofs.RearrangeLemmas.{rearranges_left, rearranges_then, rearranges_for}
 use Rattle.shard_store.proofs.VolumeLists.{item_in}
@@ -49,10 +49,10 @@ loop-block-preserved g c =
     let lt = c.loop-block-test.true in
     let b = get_or items i (0, 0) in
     let is = get_or_default items i (0, 0) b lt in
-    let of = subst (IsBlocksOf rules first.held.points) (sym c.as_slice-block-items.ensures) c.in_ok-blocks.ensures.blocks in
+    let of = subst (IsClosedBlocksOf rules first.held.points) (sym c.as_slice-block-items.ensures) c.in_ok-blocks.ensures.blocks in
     flushing_ended rules items i b lt is c.loop-block.written first c.loop-block.self (g.D.Disk.state c.args.disk.now) (g.D.Disk.state c.loop-block.disk) c.loop-block.invariant
-    c.flush_block.new.self (g.D.Disk.state c.flush_block.new.disk) (next_fresh rules items i b lt is of.ascend) (blocks_aligned rules first.held.points items c.requires.sizes of) (item_in items i b lt is)
-    c.in-Some.size (sym c.flushable.ensures.size ∙ c.in-Some.is) c.in_ok-flush_block.ensures.kept_ok c.flush_block.ensures.counted c.flush_block.ensures.numbers c.in_ok-flush_block.ensures.ok c.flush_block.ensures.content c.in_ok-flush_block.ensures.one c.in_ok-flush_block.ensures.others
+    c.flush_block.new.self (g.D.Disk.state c.flush_block.new.disk) (next_fresh rules items i b lt is of.ascend) (closed_aligned rules first.held.points items c.requires.sizes of) (item_in items i b lt is)
+    c.in-Some.size (sym c.flushable.ensures.size ∙ c.in-Some.is) c.in_ok-flush_block.ensures.kept_ok c.flush_block.ensures.counted c.flush_block.ensures.cached c.flush_block.ensures.numbers c.in_ok-flush_block.ensures.ok c.flush_block.ensures.content c.in_ok-flush_block.ensures.one c.in_ok-flush_block.ensures.others
     (rearranges_for (content_of_opened c.loop-block.self) (IsErrOf c.flush_block.result failures.Disk) ⊥ (g.D.Disk.state c.loop-block.disk) (g.D.Disk.state c.flush_block.new.disk) (λ none. absurd none) c.flush_block.ensures.disk)
 
 pub overflow_add-written : goal.overflow_add-written
@@ -94,7 +94,7 @@ pub returns-clause-ok : goal.returns-clause-ok
 returns-clause-ok g c =
     let rules = c.args.rules.now in
     let items = c.as_slice-block-items.result.now in
-    let of = subst (IsBlocksOf rules c.args.self.now.held.points) (sym c.as_slice-block-items.ensures) c.in_ok-blocks.ensures.blocks in (
+    let of = subst (IsClosedBlocksOf rules c.args.self.now.held.points) (sym c.as_slice-block-items.ensures) c.in_ok-blocks.ensures.blocks in (
       flushed_of rules items c.loop-block.block-index,
       flushed_all rules c.args.self.now.held.points items c.loop-block.block-index c.loop-block-test.false of,
       c.loop-block.invariant.count,
@@ -126,3 +126,14 @@ returns-in_err-flush_block-clause-counted g c = λ has. c.flush_block.ensures.co
 
 pub returns-clause-counted : goal.returns-clause-counted
 returns-clause-counted g c = c.loop-block.invariant.counted
+
+-- ---- what is kept of volumes
+
+pub returns-in_err-blocks-clause-cached : goal.returns-in_err-blocks-clause-cached
+returns-in_err-blocks-clause-cached g c = λ has. has
+
+pub returns-in_err-flush_block-clause-cached : goal.returns-in_err-flush_block-clause-cached
+returns-in_err-flush_block-clause-cached g c = λ has. c.flush_block.ensures.cached (c.loop-block.invariant.cached has)
+
+pub returns-clause-cached : goal.returns-clause-cached
+returns-clause-cached g c = c.loop-block.invariant.cached

@@ -17,6 +17,7 @@ use Rattle.shard_store.proofs.CountedLemmas.{counted_left}
 use Rattle.shard_store.proofs.RearrangeLemmas.{rearranges_left, rearranges_then, rearranges_for}
 use Rattle.shard_store.proofs.StillLemmas.{fault_said, memory_said, opened_left, undamaged_said}
 use Rattle.shard_store.proofs.VolumeLists.{some_heads}
+use Rattle.shard_store.proofs.CacheLemmas.{cached_still}
 use Rattle.shard_store.proofs.opened.Opened.flush_block.Goals as goal
 
 -- ---- the rows weren't read
@@ -115,3 +116,21 @@ returns-in_err-replace_block-clause-counted g c = λ has. c.replace_block.ensure
 
 pub returns-clause-counted : goal.returns-clause-counted
 returns-clause-counted g c = λ has. c.replace_block.ensures.counted (counted_left c.args.self.now _ (g.D.Disk.state c.args.disk.now) (g.D.Disk.state c.rows_of.new.disk) c.rows_of.ensures.leaves has)
+
+-- ---- what is kept of volumes
+
+pub returns-in_err-rows-clause-cached : goal.returns-in_err-rows-clause-cached
+returns-in_err-rows-clause-cached g c = let s = c.args.self.now in cached_still (known_in s.volumes.items) (known_in s.volumes.items) s.cache s.cache (g.D.Disk.state c.args.disk.now) (g.D.Disk.state c.rows_of.new.disk) c.rows_of.ensures.leaves.proceeds.tells refl refl
+
+pub returns-in_err-olds-clause-cached : goal.returns-in_err-olds-clause-cached
+returns-in_err-olds-clause-cached g c = let s = c.args.self.now in cached_still (known_in s.volumes.items) (known_in s.volumes.items) s.cache s.cache (g.D.Disk.state c.args.disk.now) (g.D.Disk.state c.rows_of.new.disk) c.rows_of.ensures.leaves.proceeds.tells refl refl
+
+pub returns-in_err-replace_block-clause-cached : goal.returns-in_err-replace_block-clause-cached
+returns-in_err-replace_block-clause-cached g c = λ has.
+    let s = c.args.self.now in
+    c.replace_block.ensures.cached (cached_still (known_in s.volumes.items) (known_in s.volumes.items) s.cache s.cache (g.D.Disk.state c.args.disk.now) (g.D.Disk.state c.rows_of.new.disk) c.rows_of.ensures.leaves.proceeds.tells refl refl has)
+
+pub returns-clause-cached : goal.returns-clause-cached
+returns-clause-cached g c = λ has.
+    let s = c.args.self.now in
+    c.replace_block.ensures.cached (cached_still (known_in s.volumes.items) (known_in s.volumes.items) s.cache s.cache (g.D.Disk.state c.args.disk.now) (g.D.Disk.state c.rows_of.new.disk) c.rows_of.ensures.leaves.proceeds.tells refl refl has)

@@ -1,4 +1,4 @@
-use Rattle.std.proofs.Common.{List, sym, subst}
+use Rattle.std.proofs.Common.{List, refl, sym, subst}
 use Rattle.std.specs.Prelude.{IsErrOf}
 use Rattle.m3_outside.specs.DiskState.{EachImage}
 use Rattle.m3_outside.specs.declared.disk_err.DiskErr.TheVariants.{Failed as DiskFailed}
@@ -12,6 +12,7 @@ use Rattle.shard_store.proofs.CountedLemmas.{counted_removed}
 use Rattle.shard_store.proofs.LogStepLemmas.{err_is, memory_else}
 use Rattle.shard_store.proofs.RearrangeLemmas.{becomes_each}
 use Rattle.shard_store.proofs.ReplaceLemmas.{content_removed}
+use Rattle.shard_store.proofs.CacheLemmas.{cached_still, cached_without}
 use Rattle.shard_store.proofs.opened.Opened.remove_older.Goals as goal
 
 pub returns-in_err-remove_volumes-clause-kept : goal.returns-in_err-remove_volumes-clause-kept
@@ -61,3 +62,13 @@ returns-in_err-remove_volumes-clause-counted g c = counted_removed c.args.self.n
 
 pub returns-clause-counted : goal.returns-clause-counted
 returns-clause-counted g c = counted_removed c.args.self.now c.args.olds.now (g.D.Disk.state c.args.disk.now) (g.D.Disk.state c.remove_volumes.new.disk) c.remove_volumes.ensures.tells c.remove_volumes.ensures.segments c.remove_volumes.ensures.others
+
+pub returns-in_err-remove_volumes-clause-cached : goal.returns-in_err-remove_volumes-clause-cached
+returns-in_err-remove_volumes-clause-cached g c =
+    let s = c.args.self.now in
+    cached_still (known_in s.volumes.items) (known_in s.volumes.items) s.cache s.cache (g.D.Disk.state c.args.disk.now) (g.D.Disk.state c.remove_volumes.new.disk) c.remove_volumes.ensures.tells refl refl
+
+pub returns-clause-cached : goal.returns-clause-cached
+returns-clause-cached g c =
+    let s = c.args.self.now in
+    cached_without (known_in s.volumes.items) (known_in c.take_off.new.listed.items) s.cache c.forget_all.new.self (g.D.Disk.state c.args.disk.now) (g.D.Disk.state c.remove_volumes.new.disk) c.remove_volumes.ensures.tells c.args.olds.now c.take_off.ensures c.forget_all.ensures

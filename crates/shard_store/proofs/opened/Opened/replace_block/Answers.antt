@@ -114,3 +114,12 @@ returns-in_err-remove_older-clause-counted g c = λ has. c.remove_older.ensures.
 
 pub returns-clause-counted : goal.returns-clause-counted
 returns-clause-counted g c = λ has. c.remove_older.ensures.counted (c.write_block.ensures.counted has)
+
+pub returns-in_err-write_block-clause-cached : goal.returns-in_err-write_block-clause-cached
+returns-in_err-write_block-clause-cached g c = c.write_block.ensures.cached
+
+pub returns-in_err-remove_older-clause-cached : goal.returns-in_err-remove_older-clause-cached
+returns-in_err-remove_older-clause-cached g c = λ has. c.remove_older.ensures.cached (c.write_block.ensures.cached has)
+
+pub returns-clause-cached : goal.returns-clause-cached
+returns-clause-cached g c = λ has. c.remove_older.ensures.cached (c.write_block.ensures.cached has)

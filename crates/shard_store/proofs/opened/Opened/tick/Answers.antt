@@ -14,6 +14,7 @@ use Rattle.shard_store.proofs.CountedLemmas.{counted_left}
 use Rattle.shard_store.proofs.LossLemmas.{live_kept, never_memory}
 use Rattle.shard_store.proofs.RearrangeLemmas.{rearranges_for, rearranges_then}
 use Rattle.shard_store.proofs.StillLemmas.{opened_left}
+use Rattle.shard_store.proofs.CacheLemmas.{cached_still}
 use Rattle.shard_store.proofs.opened.Opened.tick.Goals as goal
 
 -- ---- nothing was done
@@ -94,3 +95,18 @@ returns-in_err-drop_expired-clause-counted g c = λ has. c.drop_expired.ensures.
 
 pub returns-clause-counted : goal.returns-clause-counted
 returns-clause-counted g c = λ has. c.drop_expired.ensures.counted (counted_left c.args.self.now _ (g.D.Disk.state c.args.disk.now) (g.D.Disk.state c.ready_tick.new.disk) c.ready_tick.ensures.leaves has)
+
+-- ---- what is kept of volumes
+
+pub returns-in_err-ready-clause-cached : goal.returns-in_err-ready-clause-cached
+returns-in_err-ready-clause-cached g c = let s = c.args.self.now in cached_still (known_in s.volumes.items) (known_in s.volumes.items) s.cache s.cache (g.D.Disk.state c.args.disk.now) (g.D.Disk.state c.ready_tick.new.disk) c.ready_tick.ensures.leaves.proceeds.tells refl refl
+
+pub returns-in_err-drop_expired-clause-cached : goal.returns-in_err-drop_expired-clause-cached
+returns-in_err-drop_expired-clause-cached g c = λ has.
+    let s = c.args.self.now in
+    c.drop_expired.ensures.cached (cached_still (known_in s.volumes.items) (known_in s.volumes.items) s.cache s.cache (g.D.Disk.state c.args.disk.now) (g.D.Disk.state c.ready_tick.new.disk) c.ready_tick.ensures.leaves.proceeds.tells refl refl has)
+
+pub returns-clause-cached : goal.returns-clause-cached
+returns-clause-cached g c = λ has.
+    let s = c.args.self.now in
+    c.drop_expired.ensures.cached (cached_still (known_in s.volumes.items) (known_in s.volumes.items) s.cache s.cache (g.D.Disk.state c.args.disk.now) (g.D.Disk.state c.ready_tick.new.disk) c.ready_tick.ensures.leaves.proceeds.tells refl refl has)

@@ -1,4 +1,4 @@
-use Rattle.std.proofs.Common.{◌≡◌, List, ap, sym, subst, ◌∙◌}
+use Rattle.std.proofs.Common.{◌≡◌, List, ap, refl, sym, subst, ◌∙◌}
 use Rattle.std.specs.Prelude.{⊤, IsErrOf, Result}
 use Rattle.m3_outside.specs.DiskState.{EachImage}
 use Rattle.m3_outside.specs.declared.disk_err.DiskErr.{DiskErr}
@@ -22,6 +22,8 @@ use Rattle.shard_store.proofs.BlockLemmas.{content_written, have_rows, other_num
 use Rattle.shard_store.proofs.VolumeLists.{numbered}
 use Rattle.shard_store.proofs.LogStepLemmas.{err_is, not_failed, want_else}
 use Rattle.shard_store.proofs.RearrangeLemmas.{rearranges_left}
+use Rattle.listed_volumes.specs.Cached.{cache_key}
+use Rattle.shard_store.proofs.CacheLemmas.{cached_added, cached_still}
 use Rattle.shard_store.proofs.opened.Opened.write_block.Goals as goal
 
 pub returns-in_err-reserve-clause-disk : goal.returns-in_err-reserve-clause-disk
@@ -122,3 +124,27 @@ pub returns-clause-counted : goal.returns-clause-counted
 returns-clause-counted g c =
     let h = c.args.head.now in
     counted_wrote c.args.self.now h.ns h.start (g.D.Disk.state c.args.disk.now) (g.D.Disk.state c.write_volume.new.disk) c.write_volume.ensures.tells c.write_volume.ensures.segments c.write_volume.ensures.others
+
+pub returns-in_err-reserve-clause-cached : goal.returns-in_err-reserve-clause-cached
+returns-in_err-reserve-clause-cached g c =
+    let s = c.args.self.now in
+    cached_still (known_in s.volumes.items) (known_in c.reserve.new.self.items) s.cache s.cache (g.D.Disk.state c.args.disk.now) (g.D.Disk.state c.args.disk.now) refl (ap known_in c.reserve.ensures.items) refl
+
+pub returns-in_err-volume-clause-cached : goal.returns-in_err-volume-clause-cached
+returns-in_err-volume-clause-cached g c =
+    let s = c.args.self.now in
+    cached_still (known_in s.volumes.items) (known_in c.reserve.new.self.items) s.cache s.cache (g.D.Disk.state c.args.disk.now) (g.D.Disk.state c.args.disk.now) refl (ap known_in c.reserve.ensures.items) refl
+
+pub returns-in_err-number-clause-cached : goal.returns-in_err-number-clause-cached
+returns-in_err-number-clause-cached g c =
+    let s = c.args.self.now in
+    cached_still (known_in s.volumes.items) (known_in c.reserve.new.self.items) s.cache s.cache (g.D.Disk.state c.args.disk.now) (g.D.Disk.state c.write_volume.new.disk) c.write_volume.ensures.tells (ap known_in c.reserve.ensures.items) refl
+
+pub returns-clause-cached : goal.returns-clause-cached
+returns-clause-cached g c =
+    let s = c.args.self.now in
+    let h = c.args.head.now in
+    let k = volume_of h.ns h.start h.size c.in_ok-number.number c.args.rows.now in
+    let one = numbered (known_as c.in_ok-volume.volume) h.ns h.start h.size h.number c.in_ok-number.number c.args.rows.now c.in_ok-volume.ensures.known in
+    let listed : known_in c.add.new.listed.items ≡ with_volume k (known_in s.volumes.items) = c.add.ensures ∙ (λ i. with_volume (one i) (known_in (c.reserve.ensures.items i))) in
+    cached_added (known_in s.volumes.items) (known_in c.add.new.listed.items) s.cache c.forget.new.self (g.D.Disk.state c.args.disk.now) (g.D.Disk.state c.write_volume.new.disk) c.write_volume.ensures.tells _ k (ap (λ (j : KnownVolume). cache_key j.head) one) listed c.forget.ensures

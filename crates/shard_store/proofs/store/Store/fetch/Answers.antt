@@ -1,7 +1,8 @@
 use Rattle.std.proofs.Common.{◌≡◌, Option, Some, ap, sym, subst, ◌∙◌}
-use Rattle.std.specs.Option.{option_copied}
-use Rattle.shard_store.specs.StoreParts.{IsKept}
+use Rattle.std.specs.Option.{option_copied_mut}
+use Rattle.shard_store.specs.StoreParts.{IsCountedIn, IsKept, IsOpenOn, state_of}
 use Rattle.shard_store.specs.declared.opened.Opened.{Opened}
+use Rattle.shard_store.proofs.CacheLemmas.{fetched_memory, fetched_ok}
 use Rattle.shard_store.proofs.CountedLemmas.{counted_left}
 use Rattle.shard_store.proofs.StillLemmas.{opened_left, still_or_closed}
 use Rattle.shard_store.proofs.store.Store.fetch.Goals as goal
@@ -9,16 +10,40 @@ use Rattle.shard_store.proofs.store.Store.fetch.Goals as goal
 pub invariant_of-self : goal.invariant_of-self
 invariant_of-self g c =
     let opened = c.unwrap-opened.result.now in
-    let some : c.self.inside.opened ≡ Some opened = sym c.as_ref.ensures.value ∙ ap option_copied c.unwrap-opened.ensures in
+    let later = c.fetch-said.new.self in
+    let some : c.self.inside.opened ≡ Some opened = sym c.as_mut.ensures.value ∙ ap option_copied_mut c.unwrap-opened.ensures in
     let kept = subst (λ (o : Option Opened). IsKept o (g.D.Disk.state c.self.inside.disk)) some c.self.invariant in
     let a = g.D.Disk.state c.self.inside.disk in
     let b = g.D.Disk.state c.fetch-said.new.disk in
     let leaves = c.fetch-said.ensures.leaves in
-    let after : IsKept (Some opened) b = (opened_left opened _ a b leaves kept.0, counted_left opened _ a b leaves kept.1) in
-    still_or_closed c.fetch-said.result c.self.inside.opened c.close_unless.new.opened (g.D.Disk.state c.fetch-said.new.disk) c.close_unless.ensures.closed c.close_unless.ensures.ok c.close_unless.ensures.memory
-    (subst (λ (o : Option Opened). IsKept o (g.D.Disk.state c.fetch-said.new.disk)) (sym some) after)
+    let same = sym c.fetch-said.ensures.same in
+    let after : IsKept (Some later) b = (
+      subst (λ (o : Opened). IsOpenOn o b) same (opened_left opened _ a b leaves kept.0),
+      subst (λ (o : Opened). IsCountedIn o b) same (counted_left opened _ a b leaves kept.1),
+      c.fetch-said.ensures.cached,
+    ) in
+    still_or_closed c.fetch-said.result (Some later) c.close_unless.new.opened b c.close_unless.ensures.closed c.close_unless.ensures.ok c.close_unless.ensures.memory after
 
 pub fetch-said-requires-clause-kept : goal.fetch-said-requires-clause-kept
 fetch-said-requires-clause-kept g c κs within =
-    let some : c.self.inside.opened ≡ Some c.unwrap-opened.result.now = sym c.as_ref.ensures.value ∙ ap option_copied c.unwrap-opened.ensures in
+    let some : c.self.inside.opened ≡ Some c.unwrap-opened.result.now = sym c.as_mut.ensures.value ∙ ap option_copied_mut c.unwrap-opened.ensures in
     (subst (λ (o : Option Opened). IsKept o (g.D.Disk.state c.self.inside.disk)) some c.self.invariant).0
+
+pub fetch-said-requires-clause-cached : goal.fetch-said-requires-clause-cached
+fetch-said-requires-clause-cached g c κs within =
+    let some : c.self.inside.opened ≡ Some c.unwrap-opened.result.now = sym c.as_mut.ensures.value ∙ ap option_copied_mut c.unwrap-opened.ensures in
+    (subst (λ (o : Option Opened). IsKept o (g.D.Disk.state c.self.inside.disk)) some c.self.invariant).2
+
+pub returns-clause-ok : goal.returns-clause-ok
+returns-clause-ok g c =
+    let opened = c.unwrap-opened.result.now in
+    let some : c.self.inside.opened ≡ Some opened = sym c.as_mut.ensures.value ∙ ap option_copied_mut c.unwrap-opened.ensures in
+    let shown = ap (λ (o : Option Opened). state_of c.self.inside.disk o) (sym some) ∙ c.self.view_is in
+    fetched_ok c.self.inside.disk c.fetch-said.new.disk opened c.fetch-said.new.self c.fetch-said.ensures.same c.args.self.now shown c.close_unless.new.opened c.fetch-said.result c.close_unless.result c.close_unless.ensures.said c.close_unless.ensures.ok
+
+pub returns-clause-memory : goal.returns-clause-memory
+returns-clause-memory g c =
+    let opened = c.unwrap-opened.result.now in
+    let some : c.self.inside.opened ≡ Some opened = sym c.as_mut.ensures.value ∙ ap option_copied_mut c.unwrap-opened.ensures in
+    let shown = ap (λ (o : Option Opened). state_of c.self.inside.disk o) (sym some) ∙ c.self.view_is in
+    fetched_memory c.self.inside.disk c.fetch-said.new.disk opened c.fetch-said.new.self c.fetch-said.ensures.same c.args.self.now shown c.close_unless.new.opened c.fetch-said.result c.close_unless.result c.close_unless.ensures.said c.close_unless.ensures.memory

@@ -11,7 +11,9 @@ use Rattle.shard_files.specs.Parts.{IsNewestNumber, KnownVolume}
 use Rattle.shard_files.specs.FilesHold.{volume_points}
 use Rattle.shard_open.specs.Loads.{known_of}
 use Rattle.volume_steps.specs.Known.{HoldsKnown}
+use Rattle.listed_volumes.specs.Cached.{AreOfVolumes, AreRight}
 use Rattle.listed_volumes.specs.Listed.{known_in}
+use Rattle.listed_volumes.specs.declared.row_cache.RowCache.{RowCache}
 use Rattle.shard_store.specs.StoreParts.{IsKept, content_in}
 use Rattle.shard_store.specs.Stores.{joined_with}
 use Rattle.snapshot_steps.proofs.LogCounts.{few_segments}
@@ -49,6 +51,7 @@ invariant_of-self-2 g c =
           let few = few_segments loaded.next_segment (g.D.Disk.state c.args.self.now.disk).files (c.requires.fresh tells) in
           let count = c.requires.segments tells in
           (omega (arith, few, count, c.saturating_sub.ensures), c.requires.snapshot tells))),
+      (subst (λ (x : RowCache). AreOfVolumes known x) (sym c.new.ensures) (λ key some. absurd (let bad = some in cc)), (λ tells. subst (λ (x : RowCache). AreRight known x) (sym c.new.ensures) (λ k m. tt))),
     )
 
 pub returns-clause-content : goal.returns-clause-content

@@ -1,7 +1,9 @@
 use Rattle.std.proofs.Common.{◌≡◌, Option, Some, ap, sym, subst, ◌∙◌}
 use Rattle.std.specs.Option.{option_copied_mut}
+use Rattle.listed_volumes.specs.Listed.{known_in}
 use Rattle.shard_store.specs.StoreParts.{IsKept}
 use Rattle.shard_store.specs.declared.opened.Opened.{Opened}
+use Rattle.shard_store.proofs.CacheLemmas.{cached_still}
 use Rattle.shard_store.proofs.CountedLemmas.{open_or_closed}
 use Rattle.shard_store.proofs.store.Store.put.Goals as goal
 
@@ -15,3 +17,5 @@ invariant_of-self g c =
     let some : c.self.inside.opened ≡ Some c.unwrap-opened.result.now = sym c.as_mut.ensures.value ∙ ap option_copied_mut c.unwrap-opened.ensures in
     let kept = subst (λ (o : Option Opened). IsKept o (g.D.Disk.state c.self.inside.disk)) some c.self.invariant in
     open_or_closed c.put-said.result c.put-said.new.self c.close_after.new.opened (g.D.Disk.state c.put-said.new.disk) c.close_after.ensures.closed c.close_after.ensures.stays c.put-said.ensures.kept (λ fine. c.put-said.ensures.counted fine kept.1)
+    (cached_still (known_in c.unwrap-opened.result.now.volumes.items) (known_in c.put-said.new.self.volumes.items) c.unwrap-opened.result.now.cache c.put-said.new.self.cache (g.D.Disk.state c.self.inside.disk) (g.D.Disk.state c.put-said.new.disk) c.put-said.ensures.disk.tells
+    (λ i. known_in (c.put-said.ensures.volumes i).items) c.put-said.ensures.cache kept.2)

@@ -10,7 +10,7 @@ pub invariant_of-self : goal.invariant_of-self
 invariant_of-self g c =
     let some : c.self.inside.opened ≡ Some c.unwrap-opened.result.now = sym c.as_mut.ensures.value ∙ ap option_copied_mut c.unwrap-opened.ensures in
     let kept = subst (λ (o : Option Opened). IsKept o (g.D.Disk.state c.self.inside.disk)) some c.self.invariant in
-    kept_or_closed c.tick-said.result c.tick-said.new.self c.close_unless.new.opened (g.D.Disk.state c.tick-said.new.disk) c.close_unless.ensures.closed c.close_unless.ensures.ok c.close_unless.ensures.memory c.tick-said.ensures.kept c.tick-said.ensures.kept_still (c.tick-said.ensures.counted kept.1)
+    kept_or_closed c.tick-said.result c.tick-said.new.self c.close_unless.new.opened (g.D.Disk.state c.tick-said.new.disk) c.close_unless.ensures.closed c.close_unless.ensures.ok c.close_unless.ensures.memory c.tick-said.ensures.kept c.tick-said.ensures.kept_still (c.tick-said.ensures.counted kept.1) (c.tick-said.ensures.cached kept.2)
 
 pub tick-said-requires-clause-kept : goal.tick-said-requires-clause-kept
 tick-said-requires-clause-kept g c κs within =

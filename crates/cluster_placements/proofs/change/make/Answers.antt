@@ -1,0 +1,40 @@
+use Rattle.std.proofs.Common.{ap, refl, subst, ◌∙◌}
+use Rattle.std.specs.List.{flat_map}
+use Rattle.m3_model.specs.declared.placement.Placement.{Placement}
+use Rattle.m3_model.specs.declared.rules.MetaState.{MetaState}
+use Rattle.session_net.specs.Runs.{Ran}
+use Rattle.session_net.proofs.ReadyLemmas.{there_after}
+use Rattle.session_net.proofs.RunLemmas.{ran_then}
+use Rattle.cluster_placements.specs.Steps.{end_at, place_events, step_events}
+use Rattle.cluster_placements.proofs.ChangeLemmas.{left_there, room_first}
+use Rattle.cluster_placements.proofs.PlacedLemmas.{next_place, ready_placed}
+use Rattle.cluster_placements.proofs.change.make.Goals as goal
+
+pub place-requires-clause-next : goal.place-requires-clause-next
+place-requires-clause-next g c κs lives = let net = (c.args.members.now).net in next_place net.state net.replicas net.bag c.args.change.next c.requires.ready c.requires.step
+
+pub place-requires-clause-room : goal.place-requires-clause-room
+place-requires-clause-room g c κs lives = room_first ((c.args.members.now).net).replicas c.args.change.left.items c.requires.room
+
+pub end_all-requires-clause-there : goal.end_all-requires-clause-there
+end_all-requires-clause-there g c κs lives s i =
+    let net = (c.args.members.now).net in
+    there_after g.D.Disk.state net.replicas c.place.new.replicas (place_events c.args.change.next) s c.place.ensures (left_there net.state net.replicas net.bag c.args.change.next c.as_slice.result.now c.requires.ready (c.as_slice.ensures.value ∙ c.requires.left_are) s i)
+
+pub returns : goal.returns
+returns g c =
+    let net = (c.args.members.now).net in
+    let was : MetaState = net.state in
+    let later : MetaState = record was { place = c.replace.new.dest } in
+    let is = ap (λ (p : Placement). record was { place = p }) c.replace.ensures.after in
+    record {
+      answer_is = refl;
+      ready = ready_placed g.D.Disk.state was later net.replicas c.place.new.replicas c.end_all.new.replicas net.bag c.args.change.next c.as_slice.result.now c.requires.ready c.requires.lawful c.requires.there c.place.ensures c.end_all.ensures is;
+      ran = subst (λ left. Ran g.D.Disk.state net.replicas (step_events c.args.change.next left) c.end_all.new.replicas) c.as_slice.ensures.value
+          (ran_then g.D.Disk.state (place_events c.args.change.next) (flat_map end_at c.as_slice.result.now) net.replicas c.place.new.replicas c.end_all.new.replicas c.place.ensures c.end_all.ensures);
+      state_is = is;
+      fates = refl;
+      bag = refl;
+      slots = ap (λ v. v.items) c.replace-2.ensures.after;
+      stopped = ap (λ v. v.items) c.replace-3.ensures.after;
+    }

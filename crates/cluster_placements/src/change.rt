@@ -1,0 +1,106 @@
+//! Lines that make a placement.
+ghost use Rattle.std.specs.Prelude.{◌≡◌, ◌≤◌, ◌<◌, ◌+◌, ◌*◌, suc, true, length};
+ghost use Rattle.m3_model.specs.Limits.{MeetsLimits};
+ghost use Rattle.placement_acts.specs.Acts.{is_step_act};
+ghost use Rattle.replica_exchange.specs.MachineCalls.{HasRoom};
+ghost use Rattle.first_cluster.specs.Depots.{depot_by};
+ghost use Rattle.first_cluster.specs.First.{IsDiskAnswer};
+ghost use Rattle.cluster_placements.specs.Steps.{IsChanged, IsMade, MayBeMade, MayChange, kept_from};
+
+use crate::events::{end_all, place};
+use crate::lending::gain;
+use crate::plan::{Change, planned};
+use crate::untaken::Untaken;
+use cluster_members::Members;
+use m3_model::{Act, Answer, Duplicate, Placement};
+use m3_outside::{Disk, Disks};
+use replica_exchange::Slot;
+use std::alloc::Global;
+use std::mem::replace;
+
+// That the disk of the slot couldn't be taken.
+fn untaken(alloc: Global, place: &Placement, slot: Slot) -> Answer
+    requires { slot.node < length place.now.instances }
+    ensures { IsDiskAnswer place.now slot result }
+{
+    let instance = &place.instances.as_slice()[slot.node as usize];
+    match instance.name.copy(alloc) {
+        Ok(node) => Answer::Disk {
+            node,
+            shard: slot.shard,
+        },
+        Err(_) => Answer::Memory,
+    }
+}
+
+// The cluster with the placement, whose new replicas stand: the list has it, and the tenures end that it takes away. Takes no memory.
+fn make<D: Disk>(members: &mut Members<D>, change: Change) -> Answer
+    requires { MayBeMade members.old change }
+    ensures { IsMade D.state members.old change result members.new }
+{
+    let Change {
+        next,
+        printed,
+        left,
+        slots,
+        stopped,
+        ..
+    } = change;
+    place(&mut members.net.replicas, &next);
+    end_all(&mut members.net.replicas, left.as_slice());
+    drop(replace(&mut members.net.state.place, next));
+    drop(replace(&mut members.slots, slots));
+    drop(replace(&mut members.stopped, stopped));
+    let version = printed.version;
+    Answer::Placed {
+        placement: printed,
+        version,
+    }
+}
+
+/// Serves the line of an `add`, `drain`, `cancel`, `remove` or `replace`: the placement that the planning rules lead to stands
+/// then, with a replica at Boot over the disk of each slot that had none, the tenures of replicas that it takes away are ended, and it is
+/// answered with its version. Nodes that are stopped stay so, also one that is named again. The run opened with the oldest version, or made
+/// it first; from it on all versions are kept.
+///
+/// Refused: as the planning rules say; `Full` where the list has no room for the placement and the ends of tenures; `Disk` with the node
+/// and the shard whose disk couldn't be taken; or want of memory. The cluster is then as it was, and each disk that was taken for the line
+/// is given back as it was.
+///
+/// See M3DB's page "Placement".
+pub fn change_placement<D: Disk, X: Disks<D = D>>(
+    members: &mut Members<D>,
+    alloc: Global,
+    disks: &mut X,
+    oldest: u64,
+    act: &Act,
+) -> Answer
+    requires step { is_step_act act.now ≡ true }
+    requires limits { MeetsLimits act.now }
+    requires oldest { oldest ≤ suc members.old.net.state.place.version }
+    requires may { MayChange members.old (X.held disks.old) }
+    ensures may { MayChange members.new (X.held disks.new) }
+    ensures changed { IsChanged D.state (kept_from oldest members.old.net.state.place) act.now (depot_by X.held X.counted X.all_faults disks.old) members.old result (depot_by X.held X.counted X.all_faults disks.new) members.new }
+{
+    let change = match planned(alloc, members, oldest, act) {
+        Ok(change) => change,
+        Err(refused) => return refused,
+    };
+    if !members
+        .net
+        .replicas
+        .has_room(2 + 2 * change.left.len() as u64)
+    {
+        return Answer::Full;
+    }
+    match gain(
+        alloc,
+        disks,
+        change.new.as_slice(),
+        &mut members.net.replicas,
+    ) {
+        Ok(()) => make(members, change),
+        Err(Untaken::Disk(slot)) => untaken(alloc, &change.next, slot),
+        Err(Untaken::Memory) => Answer::Memory,
+    }
+}

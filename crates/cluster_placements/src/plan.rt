@@ -1,0 +1,82 @@
+//! What a line is to make, before it takes any disk.
+ghost use Rattle.std.specs.Prelude.{◌≡◌, ◌≤◌, suc, true, IfOk, IfErr, Some, length};
+ghost use Rattle.std.specs.FinMap as finite;
+ghost use Rattle.m3_model.specs.Limits.{MeetsLimits};
+ghost use Rattle.placement_acts.specs.Acts.{LeadsNowhere, is_step_act};
+ghost use Rattle.placement_core.specs.Lawful.{IsLawful};
+ghost use Rattle.placement_core.specs.Steps.{KeepsNames};
+ghost use Rattle.cluster_placements.specs.Slots.{new_slots, left_slots};
+ghost use Rattle.cluster_placements.specs.Steps.{IsChange, IsFitted, kept_from};
+
+use crate::flags::with_nodes;
+use crate::slots::{left_out, slots_of, together, unmanned};
+use cluster_members::Members;
+use m3_model::{Act, Answer, Duplicate, Memory, Placement};
+use m3_outside::Disk;
+use placement_lines::next_placement;
+use replica_exchange::Slot;
+use std::alloc::Global;
+
+// What a line is to make.
+#[derive(Drop)]
+pub(crate) struct Change {
+    pub(crate) next: Placement,
+    // A copy of it, for the answer.
+    pub(crate) printed: Placement,
+    // The slots that get a replica.
+    pub(crate) new: Vec<Slot>,
+    // Those whose tenures end.
+    pub(crate) left: Vec<Slot>,
+    // All slots that have a replica then.
+    pub(crate) slots: Vec<Slot>,
+    pub(crate) stopped: Vec<bool>,
+}
+
+// All that the cluster needs where this placement comes next.
+fn fitted<D: Disk>(alloc: Global, members: &Members<D>, next: Placement) -> Result<Change, Memory>
+    requires lawful { IsLawful next }
+    requires known { IsLawful members.now.net.state.place }
+    requires names { KeepsNames members.now.net.state.place.instances next.instances }
+    ensures next { IfOk result (λ change. change.next ≡ next) }
+    ensures fitted { IfOk result (IsFitted members.now) }
+{
+    let place = &members.net.state.place;
+    let wanted = slots_of(alloc, &next)?;
+    let new = unmanned(alloc, &members.net.replicas, wanted.as_slice())?;
+    let had = slots_of(alloc, place)?;
+    let left = left_out(alloc, &next, had.as_slice())?;
+    let slots = together(alloc, members.slots.as_slice(), new.as_slice())?;
+    let stopped = with_nodes(alloc, members.stopped.as_slice(), next.instances.len())?;
+    let printed = next.copy(alloc)?;
+    Ok(Change {
+        next,
+        printed,
+        new,
+        left,
+        slots,
+        stopped,
+    })
+}
+
+// What the line of this act is to make, or the answer that refuses it.
+pub(crate) fn planned<D: Disk>(
+    alloc: Global,
+    members: &Members<D>,
+    oldest: u64,
+    act: &Act,
+) -> Result<Change, Answer>
+    requires lawful { IsLawful members.now.net.state.place }
+    requires step { is_step_act act.now ≡ true }
+    requires limits { MeetsLimits act.now }
+    requires oldest { oldest ≤ suc members.now.net.state.place.version }
+    ensures change { IfOk result (IsChange members.now (kept_from oldest members.now.net.state.place) act.now) }
+    ensures refused { IfErr result (LeadsNowhere (Some members.now.net.state.place) (kept_from oldest members.now.net.state.place) act.now) }
+{
+    let place = &members.net.state.place;
+    let kept = (place.version + 1 - oldest) as usize;
+    let next = next_placement(alloc, place, kept, act)?;
+    match fitted(alloc, members, next) {
+        Ok(change) => Ok(change),
+        Err(Memory) => Err(Answer::Memory),
+    }
+}

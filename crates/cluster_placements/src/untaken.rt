@@ -1,0 +1,10 @@
+use replica_exchange::Slot;
+
+/// Why no replica could be made over the disk of a slot.
+#[derive(Clone, Copy)]
+pub(crate) enum Untaken {
+    /// The disk of the slot couldn't be taken, by a fault of the disks' own.
+    Disk(Slot),
+    /// Want of memory.
+    Memory,
+}

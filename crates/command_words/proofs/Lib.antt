@@ -1,0 +1,4 @@
+pub mod Steps
+pub mod NumberLemmas
+pub mod TaskLemmas
+pub mod TakenLemmas

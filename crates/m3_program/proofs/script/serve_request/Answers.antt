@@ -1,0 +1,15 @@
+use Rattle.std.proofs.lemmas.Bool.{both_ways}
+use Rattle.m3_program.specs.Streams.{Stage, stage}
+use Rattle.m3_program.proofs.ScriptLemmas.{defers, serves}
+use Rattle.m3_program.proofs.script.serve_request.Goals as goal
+
+pub returns-then-not-is_served-clause-continues : goal.returns-then-not-is_served-clause-continues
+returns-then-not-is_served-clause-continues g c =
+    let now : Stage g.row.X-D.Denot g.X.D.Disk = stage c.args.cluster.now (g.X.Disks.held c.args.disks.now) (g.X.Disks.counted c.args.disks.now) (g.X.Disks.all_faults c.args.disks.now) in
+    defers g.X.D.Disk.state now c.args.request (λ served. both_ways c.is_served.result c.if-not-is_served.true (c.is_served.ensures.1 served))
+
+pub returns-clause-continues : goal.returns-clause-continues
+returns-clause-continues g c =
+    let old : Stage g.row.X-D.Denot g.X.D.Disk = stage c.args.cluster.now (g.X.Disks.held c.args.disks.now) (g.X.Disks.counted c.args.disks.now) (g.X.Disks.all_faults c.args.disks.now) in
+    let new : Stage g.row.X-D.Denot g.X.D.Disk = stage c.serve.new.self (g.X.Disks.held c.serve.new.disks) (g.X.Disks.counted c.serve.new.disks) (g.X.Disks.all_faults c.serve.new.disks) in
+    serves g.X.D.Disk.state old new c.args.request c.serve.result c.serve.ensures.answered c.serve.ensures.tracks

@@ -1,0 +1,76 @@
+-- What a run of a script promises.
+use Rattle.std.specs.Prelude.{◌≡◌, List, [], ◌∷◌, ◌++◌, map, ℕ, Option, None, Bool, true}
+use Rattle.std.specs.List.{All, flat_map}
+use Rattle.m3_model.specs.declared.answer.Answer.TheVariants as answer
+use Rattle.m3_model.specs.declared.rules.MetaState.{MetaState}
+use Rattle.m3_model.specs.declared.turn.Reply.{Reply}
+use Rattle.m3_model.specs.declared.turn.Reply.TheVariants as reply
+use Rattle.m3_model.specs.declared.turn.Request.{Request}
+use Rattle.m3_model.specs.declared.turn.Turn.{Turn}
+use Rattle.served_acts.specs.NotYet.{IsServed}
+use Rattle.transcripts.specs.Kept.{Kept}
+use Rattle.transcripts.specs.Record.{IsAnsweredBy, Life, Record}
+use Rattle.m3_outside.specs.DiskState.{DiskState}
+use Rattle.m3_outside.specs.Depots.{Depot}
+use Rattle.load_gen.specs.Script.{script}
+use Rattle.load_gen.specs.Summaries.{summary_line}
+use Rattle.m3_program.specs.Faults.{AreEmpty, Counts, counts_of}
+use Rattle.m3_program.specs.Runs.{HasCauses}
+use Rattle.m3_program.specs.declared.status.Status.{Status}
+use Rattle.m3_program.specs.declared.status.Status.TheVariants as status
+
+-- What came of a request of a script: no part of the program serves it yet, or it made a turn.
+pub data Part : Type 0 where
+  Deferred : (request : Request) → Part
+  Served : (turn : Turn) → Part
+
+abbrev pub request_of : Part → Request
+request_of (Deferred request) = request
+request_of (Served turn) = turn.request
+
+abbrev pub reply_of : Part → Reply
+reply_of (Deferred request) = reply.One answer.Later
+reply_of (Served turn) = turn.reply
+
+abbrev pub turns_of_part : Part → List Turn
+turns_of_part (Deferred request) = []
+turns_of_part (Served turn) = turn ∷ []
+
+-- the turns of these requests
+abbrev pub turns_of_parts : List Part → List Turn
+turns_of_parts parts = flat_map turns_of_part parts
+
+-- a request is put off only where no part of the program serves it, and a served one is answered in its own shape
+abbrev pub IsPart : Part → Type 0
+IsPart (Deferred request) = ¬ IsServed request
+IsPart (Served turn) = IsAnsweredBy turn.request turn.reply
+
+-- The course of a run of a number's script: what came of its requests in their order, as far as it got.
+pub record Play (number : ℕ) : Type 0 where
+  pub parts : List Part
+  pub later : List Request
+  pub of_script : script number ≡ map request_of parts ++ later
+  pub each : All IsPart parts
+
+-- how far a run got that ended so: to the end of the script, and then its summary is written, or a front of that; or memory was wanted before
+abbrev pub PlayedTo : Status → List Part → List Request → List ℕ → Type 0
+PlayedTo status.Done parts later written = (later ≡ []) × (written ≡ summary_line (map reply_of parts))
+PlayedTo status.WriteFault parts later written = (later ≡ []) × (lost : List ℕ) × (summary_line (map reply_of parts) ≡ written ++ lost)
+PlayedTo status.Memory parts later written = written ≡ []
+PlayedTo _ parts later written = ⊥
+
+-- the record of the run
+abbrev pub record_of_parts : Option MetaState → List Part → Record
+record_of_parts start parts = record { start = start; turns = turns_of_parts parts; unanswered = None }
+
+-- the life that the run and the earlier ones on the same disks make
+abbrev pub life_of_parts : List Record → Option MetaState → List Part → Life
+life_of_parts past start parts = record { past = past; present = record_of_parts start parts }
+
+-- What a run of a number's script did that ended so and wrote this, over disks that were so when it began and whose faults are counted so now: the answers have their
+-- causes, of which more is said where the disks tell what they hold and were empty; and there the reads keep what they must.
+pub record HasGenerated {D : Type 0} (state : D → DiskState) (first : Depot D) (now : Counts) (past : List Record) (start : Option MetaState) (number : ℕ) (ended : Status) (written : List ℕ) : Type 0 where
+  pub course : Play number
+  pub played_to : PlayedTo ended course.parts course.later written
+  pub kept : AreEmpty state first.held → Kept (life_of_parts past start course.parts)
+  pub causes : (tells : Bool) → (tells ≡ true → AreEmpty state first.held) → HasCauses tells (counts_of first) now (life_of_parts past start course.parts)

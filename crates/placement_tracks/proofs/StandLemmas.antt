@@ -1,0 +1,148 @@
+-- A cluster that stands is one from which a line may make a placement; and it stands still where a line is to make one and doesn't.
+use Rattle.std.proofs.Common.{◌≡◌, ◌<◌, ◌∙◌, ℕ, List, [], ◌∷◌, ◌++◌, length, refl, sym, ap, subst, inl, inr, arith, true}
+use Rattle.std.specs.Prelude.{◌⊎◌, Option, Some, None, slice_get}
+use Rattle.std.specs.FinMap.{get}
+use Rattle.m3_model.specs.Members.{IsIn}
+use Rattle.m3_model.specs.declared.act.Act.{Act}
+use Rattle.m3_model.specs.declared.answer.Answer.{Answer}
+use Rattle.m3_model.specs.declared.answer.Answer.TheVariants as answer
+use Rattle.m3_model.specs.declared.placement.Assignment.{Assignment}
+use Rattle.m3_model.specs.declared.placement.Instance.{Instance}
+use Rattle.m3_model.specs.declared.placement.Placement.{Placement}
+use Rattle.m3_model.specs.declared.rules.MetaState.{MetaState}
+use Rattle.m3_model.specs.declared.turn.Turn.{Turn}
+use Rattle.m3_outside.specs.Depots.{Depot}
+use Rattle.m3_outside.specs.DiskState.{DiskState}
+use Rattle.m3_outside.specs.declared.disk.Disk.{Ghosts}
+use Rattle.placement_core.proofs.ListLemmas.{Any-from_IsIn}
+use Rattle.placement_acts.specs.Acts.{is_step_act}
+use Rattle.cluster_core.specs.Earlier.{GivesTenure, HasTenure, last_place}
+use Rattle.cluster_core.specs.Lists.{At}
+use Rattle.cluster_core.specs.declared.event.Event.{Event}
+use Rattle.cluster_core.specs.declared.event.Event.TheVariants as event
+use Rattle.cluster_core.proofs.ListLemmas.{at_any}
+use Rattle.replica_exchange.specs.declared.slot.Slot.{Slot}
+use Rattle.replica_calls.specs.Calls.{Tracked}
+use Rattle.session_net.specs.Ready.{IsReady}
+use Rattle.session_net.specs.Runs.{slot_at}
+use Rattle.told_by.specs.Hears.{HasReplica, IsNamedBy}
+use Rattle.told_by.specs.Steps.{IsUnmoved}
+use Rattle.told_by.specs.Told.{ToldBy}
+use Rattle.told_by.proofs.JoinedLemmas.{placed}
+use Rattle.told_causes.proofs.WaitLemmas.{member_at}
+use Rattle.told_runs.proofs.StepLemmas.{nowhere_unmoved}
+use Rattle.transcripts.specs.Caused.{kept_after, versions_after}
+use Rattle.transcripts.specs.Placements.{HadReplica, has_replica}
+use Rattle.transcripts.specs.Record.{inner_turns, line_of}
+use Rattle.transcripts.specs.Refusals.{kept_versions}
+use Rattle.call_lines.specs.Left.{AreSlots, AreStoppedBy, FareAsSet, HoldsBack}
+use Rattle.cluster_members.specs.declared.members.Members.{Members}
+use Rattle.act_lines.specs.Quiet.{DeliversNone, SetsNone}
+use Rattle.act_lines.specs.Stands.{ClusterStands}
+use Rattle.act_lines.proofs.StandLemmas.{stands_unchanged}
+use Rattle.cluster_placements.specs.Steps.{IsAsItWas, IsChanged, MakesNext, kept_from}
+use Rattle.placement_tracks.specs.Stands.{ComesNext, StandsOrMade}
+
+-- ---- what a line needs
+
+opened : (events : List Event) (place : Placement) → last_place events ≡ Some place → 0 < length events
+opened [] place e = let bad : None ≡ Some place = e in cc
+opened (x ∷ events) place e = omega arith
+
+module _ {D : Type 0} {G : Ghosts D} (start : Option MetaState) (turns : List Turn) (m : Members D G) (told : ToldBy start turns m.net.replicas.events) (stands : ClusterStands start turns m) where
+  abbrev events : List Event
+  events = m.net.replicas.events
+
+  -- a Place gave the slot a tenure
+  given : (place : Placement) (i : ℕ) (done : List (ℕ × ℕ)) (n s : ℕ) → At events i (event.Place place done) → has_replica (Some place) s n ≡ true → (tenure : ℕ) × HasTenure events n s tenure
+  given place i done n s there member =
+      let a = member_at place s n member in
+      let tenure = (a.assigned).tenure in
+      (tenure, at_any (GivesTenure n s tenure) events i (event.Place place done) there (a.shard, a.there, Any-from_IsIn (λ (x : Assignment). (x.node ≡ n) × (x.tenure ≡ tenure)) a.shard a.assigned a.among (a.of_node, refl)))
+
+  pub had_none : (s : Slot) → get m.net.replicas.members s ≡ None → ¬ HadReplica start (inner_turns turns) s.shard s.node
+  had_none s none had =
+      let p = placed start turns events told had.place had.known in
+      let has = given had.place p.0 p.1 s.node s.shard p.2 had.member in
+      stands.slots.are.there s (stands.slots.all s.node s.shard (inl has)) none
+
+  pub kept_here : (oldest : ℕ) (rest : List ℕ) → versions_after start (inner_turns turns) ≡ oldest ∷ rest → kept_from oldest m.net.state.place ≡ kept_after start (inner_turns turns) m.net.state.place
+  kept_here oldest rest first = sym (ap (kept_versions (Some m.net.state.place)) first)
+
+pub comes_next : {D : Type 0} {G : Ghosts D} (m : Members D G) → ComesNext m
+comes_next m start turns told stands oldest rest first = record {
+  opened = opened m.net.replicas.events m.net.state.place stands.ready.place;
+  left = stands.left.place;
+  lawful = stands.ready.lawful;
+  kept_is = kept_here start turns m told stands oldest rest first;
+  had_none = had_none start turns m told stands;
+}
+
+-- ---- a line that makes none
+
+sets_none : (b : Answer) → IsUnmoved b → SetsNone b
+sets_none answer.Order h = tt
+sets_none (answer.Unknown name) h = tt
+sets_none (answer.Limit limit) h = tt
+sets_none (answer.Busy name shard) h = tt
+sets_none (answer.Group shard) h = tt
+sets_none (answer.Disk name shard) h = tt
+sets_none answer.Memory h = tt
+sets_none answer.Full h = tt
+sets_none _ h = absurd h
+
+delivers_none : (b : Answer) → IsUnmoved b → DeliversNone b
+delivers_none answer.Order h = tt
+delivers_none (answer.Unknown name) h = tt
+delivers_none (answer.Limit limit) h = tt
+delivers_none (answer.Busy name shard) h = tt
+delivers_none (answer.Group shard) h = tt
+delivers_none (answer.Disk name shard) h = tt
+delivers_none answer.Memory h = tt
+delivers_none answer.Full h = tt
+delivers_none _ h = absurd h
+
+-- a cluster that is as it was stands as it did
+same_stands : {D : Type 0} {G : Ghosts D} (start : Option MetaState) (turns : List Turn) (old new : Members D G) → IsAsItWas old new → ClusterStands start turns old → ClusterStands start turns new
+same_stands {D} start turns old new same stands =
+    let state_is = sym same.state_is in
+    let replicas = sym same.replicas in
+    record {
+      left = record {
+        rules = stands.left.rules ∙ ap (λ (state : MetaState). state.rules) state_is;
+        place = stands.left.place ∙ ap (λ (state : MetaState). Some state.place) state_is;
+        seed = stands.left.seed ∙ ap (λ (state : MetaState). state.seed) state_is;
+        fates = subst (λ (state : MetaState). FareAsSet turns state.place new.net.fates) state_is (subst (λ fates. FareAsSet turns old.net.state.place fates) (sym same.fates) stands.left.fates);
+        late = subst (λ bag. HoldsBack start turns bag) (sym same.bag) stands.left.late;
+      };
+      ready = subst (λ (state : MetaState). IsReady state new.net.replicas new.net.bag) state_is (subst (λ (t : Tracked D). IsReady old.net.state t new.net.bag) replicas (subst (λ bag. IsReady old.net.state old.net.replicas bag) (sym same.bag) stands.ready));
+      slots = record {
+        are = subst (λ slots. AreSlots slots new.net.replicas) (sym same.slots) (subst (λ (t : Tracked D). AreSlots old.slots.items t) replicas stands.slots.are);
+        given = λ s i. let given = stands.slots.given s (was_in s i) in (given.0, subst (λ (t : Tracked D). HasTenure t.events s.node s.shard given.0) replicas given.1);
+        all = λ n s has. subst (λ slots. IsIn slots (slot_at n s)) (sym same.slots) (stands.slots.all n s (subst (λ (t : Tracked D). HasReplica t.events n s) same.replicas has));
+        placed = λ s i. subst (λ (state : MetaState). s.node < length state.place.instances) state_is (stands.slots.placed s (was_in s i));
+      };
+      named = subst (λ (state : MetaState). (n : ℕ) (own : Instance) → slice_get state.place.instances n ≡ Some own → IsNamedBy new.net.replicas.events n own.name) state_is
+          (subst (λ (t : Tracked D). (n : ℕ) (own : Instance) → slice_get old.net.state.place.instances n ≡ Some own → IsNamedBy t.events n own.name) replicas stands.named);
+      stopped = subst (λ (state : MetaState). AreStoppedBy turns state.place new.stopped.items) state_is (subst (λ flags. AreStoppedBy turns old.net.state.place flags) (sym same.stopped) stands.stopped);
+    }
+  where
+    was_in : (s : Slot) → IsIn new.slots.items s → IsIn old.slots.items s
+    was_in s i = subst (λ slots. IsIn slots s) same.slots i
+
+module _ {D : Type 0} {G : Ghosts D} (state : D → DiskState) (old : Members D G) (start : Option MetaState) (turns : List Turn) (kept : ℕ) (a : Act) (depot : Depot D) (answered : Answer) (after : Depot D) (new : Members D G) (stands : ClusterStands start turns old) (step : is_step_act a ≡ true) where
+  abbrev Stands : Type 0
+  Stands = ClusterStands start (turns ++ line_of a answered ∷ []) new
+
+  unmoved_stands : IsAsItWas old new → IsUnmoved answered → Stands
+  unmoved_stands same unmoved = same_stands start (turns ++ line_of a answered ∷ []) old new same (stands_unchanged old start turns a answered stands (sets_none answered unmoved) (delivers_none answered unmoved))
+
+  made_or_stands : IsChanged state kept a depot old answered after new → MakesNext state kept a depot old answered after new ⊎ Stands
+  made_or_stands (inl made) = inl made
+  made_or_stands (inr (inl none)) = inr (unmoved_stands none.same (nowhere_unmoved old.net.state.place kept a answered step none.nowhere))
+  made_or_stands (inr (inr (inl disk))) = inr (unmoved_stands disk.same (subst IsUnmoved (sym disk.answer_is) tt))
+  made_or_stands (inr (inr (inr (inl room)))) = inr (unmoved_stands room.same (subst IsUnmoved (sym room.answer_is) tt))
+  made_or_stands (inr (inr (inr (inr memory)))) = inr (unmoved_stands memory.same (subst IsUnmoved (sym memory.answer_is) tt))
+
+pub stands_or_made : {D : Type 0} {G : Ghosts D} (state : D → DiskState) (old : Members D G) → StandsOrMade state old
+stands_or_made state old start turns kept a depot answered after new stands step changed = made_or_stands state old start turns kept a depot answered after new stands step changed

@@ -1,0 +1,7 @@
+//! Lines that make a placement, of a cluster that stands: the list of events tells of each, and serves it; and where one makes none, the
+//! cluster stands still.
+#![tactic(auto)]
+
+pub mod lines;
+
+pub use lines::{changes_serve, changes_stand};

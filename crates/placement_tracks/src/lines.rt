@@ -1,0 +1,20 @@
+//! What lines that make a placement leave of the list, and of a cluster that stands.
+ghost use Rattle.placement_tracks.specs.Serves.{ChangesServe};
+ghost use Rattle.placement_tracks.specs.Stands.{ComesNext, StandsOrMade};
+
+use cluster_members::Members;
+use m3_outside::Disk;
+
+/// A run that is told and served stays so by the line of an act that asks for a step, whatever it is answered: the next placement, a
+/// refusal, a disk that couldn't be taken, or want of room or of memory. The count of all faults rose by as much as disks couldn't be
+/// taken.
+pub fn changes_serve<D: Disk>(members: &Members<D>)
+    ensures { ChangesServe D.state members.now }
+{}
+
+/// A cluster that stands has what such a line needs: the placement that the turns left, all versions from the first one on, and for no
+/// slot without a replica a placement that had one there. Where the line makes no placement, the cluster stands after it as before.
+pub fn changes_stand<D: Disk>(members: &Members<D>)
+    ensures next { ComesNext members.now }
+    ensures still { StandsOrMade D.state members.now }
+{}

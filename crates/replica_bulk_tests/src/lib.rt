@@ -1,0 +1,5 @@
+//! Tests of a replica with thousands of points that it flushes, ticks, restarts over and reads, on a disk in memory.
+#![tactic(auto)]
+
+#[cfg(test)]
+mod bulk;
