@@ -3,7 +3,8 @@ ghost use Rattle.std.specs.Prelude.{◌≤◌};
 
 use m3_model::{Memory, Point, Text};
 use mem_disk::MemDisk;
-use replica_stories::{Replica, wide_rules};
+use replica_stories::{Replica, steps, wide_rules};
+use std::alloc::Global;
 use std::test::Fail;
 
 // Puts a point of each of the times. Says how many were taken.
@@ -42,21 +43,41 @@ fn read_each(replica: &mut Replica<MemDisk>, from: u64, to: u64) -> (u64, bool) 
     (next.saturating_sub(from), true)
 }
 
+// A point at each of 10,000 times is put, and those of 50 blocks are flushed: what was taken, flushed and read.
+fn first_day(replica: &mut Replica<MemDisk>) -> Result<String, Memory> {
+    let _ = replica.boot(1);
+    let taken = put_each(replica, 10_000)?;
+    replica.set_moment(10_300);
+    let flushed = replica.flush().unwrap_or(0);
+    let (read, in_order) = read_each(replica, 5_301, 10_000);
+    let order = if in_order { 1 } else { 0 };
+    Ok(format!(in replica.alloc; "{taken} {flushed} {read} {order} ")?)
+}
+
+// What is read at the end, behind what was said before.
+fn last_day(mut replica: Replica<MemDisk>, said: String) -> Result<String, Memory> {
+    let alloc = replica.alloc;
+    let (read, in_order) = read_each(&mut replica, 5_301, 10_000);
+    drop(replica);
+    let order = if in_order { 1 } else { 0 };
+    Ok(format!(in alloc; "{said} {read} {order}")?)
+}
+
+// What the replica says of these days: between them it ticks, takes a snapshot and starts again.
+fn days(alloc: Global) -> Result<String, Memory> {
+    let disk = MemDisk::new(alloc, &[], None)?;
+    let rules = wide_rules(alloc)?;
+    let mut replica = Replica::new(alloc, disk, rules);
+    let mut said = first_day(&mut replica)?;
+    let (replica, _) = steps(replica, "n x n s c b1 n", &mut said)?;
+    last_day(replica, said)
+}
+
 // 10,000 points in 50 blocks. At 10,300 the first live time is 5,301, and the 26 blocks up to 5,000 have expired.
 #[test]
 fn many_points_are_flushed(rt: HostRuntime) -> Result<(), Fail> {
-    let alloc = rt.alloc();
-    let disk = MemDisk::new(alloc, &[], None)?;
-    let mut replica = Replica::new(alloc, disk, wide_rules(alloc)?);
-    let _ = replica.boot(1);
-    assert_eq!(rt; put_each(&mut replica, 10_000)?, 10_000);
-    replica.set_moment(10_300);
-    assert!(rt; matches!(replica.flush(), Ok(50)));
-    assert_eq!(rt; read_each(&mut replica, 5_301, 10_000), (4_699, true));
-    let mut said = String::new(alloc);
-    let (replica, _) = replica_stories::steps(replica, "n x n s c b1 n", &mut said)?;
-    assert_eq!(rt; said.as_str(), "50 0|5200|24 0|1| 1 1 1|1 of 4800|24 0|");
-    let mut replica = replica;
-    assert_eq!(rt; read_each(&mut replica, 5_301, 10_000), (4_699, true));
+    let said = days(rt.alloc())?;
+    let due = "10000 50 4699 1 50 0|5200|24 0|1| 1 1 1|1 of 4800|24 0| 4699 1";
+    assert_eq!(rt; said.as_str(), due);
     Ok(())
 }
