@@ -5,7 +5,7 @@ usage: tools/oracle.py [COUNT [FIRST]]    runs the scripts FIRST, FIRST + 1, .. 
        tools/oracle.py --show NUMBER      prints the script of that number
        tools/oracle.py --model < SCRIPT   prints the replies that the model answers
 
-The model (oracle_lines.py, oracle_model.py) was written from that page alone, without a look at the program or at its
+The model (oracle_lines.py, oracle_places.py, oracle_model.py) was written from that page and from docs/PLACEMENT.md alone, without a look at the program or at its
 definitions, so it shares no mistake with them but by chance: where the two differ, one of the program, the page and the model is
 wrong. oracle_scripts.py makes the scripts. Of the first few that differ the smallest part is printed that differs still, with
 both replies; the status is 1 then. Faults of disks and want of memory come in no script, and of the ends of a run only those

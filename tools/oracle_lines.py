@@ -16,7 +16,7 @@ SEED_END = 2**32
 MOST_ID_BYTES = 512
 MOST_TAGS = 32
 MOST_DEPTH = 127
-CODES = {"form": 1, "order": 3, "unknown": 4, "limit": 5, "clock": 6, "consistency": 7, "state": 12, "later": 16}
+CODES = {"form": 1, "order": 3, "unknown": 4, "limit": 5, "clock": 6, "consistency": 7, "busy": 8, "group": 9, "state": 12, "later": 16}
 
 
 class Refused(Exception):
@@ -199,7 +199,7 @@ ROWS = {
     "repair": Row({}, {}),
     "status": Row({}, {}),
 }
-LATER = ("add", "drain", "cancel", "remove", "replace", "repair")
+LATER = ("repair",)
 LATER_WHATEVER_ELSE = ("par",)
 
 
@@ -220,10 +220,7 @@ def are_different(items: list) -> bool:
 
 
 def is_later(request: Request) -> bool:
-    if request["op"] == "init":
-        nodes = request["nodes"]
-        return len(nodes) != request["rf"] or not are_different([group for _, group in nodes])
-    return request["op"] in LATER or "version" in request
+    return request["op"] in LATER
 
 
 def read_line(line: bytes) -> Request:

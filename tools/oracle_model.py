@@ -8,6 +8,7 @@ from dataclasses import dataclass, field
 from typing import Any, Iterable
 
 from oracle_lines import Refused, Request, read_line, tags_of
+from oracle_places import Place, first_place, next_place
 
 MOST_NAMESPACES = 8
 MOST_LATE_WRITES = 4096
@@ -67,9 +68,9 @@ def joined(*all_points: Points) -> Points:
 
 @dataclass
 class Replica:
-    """A node's replica of a shard: whether it serves, what it has in memory, and on its disk: volumes by namespace and start,
+    """A node's replica of a shard: how it stands, what it has in memory, and on its disk: volumes by namespace and start,
     the newest snapshot's number, and what that snapshot and the log have, of which the last segment is filled so far."""
-    is_open: bool = True
+    standing: str = "open"
     memory: Points = field(default_factory=dict)
     volumes: dict[Block, Points] = field(default_factory=dict)
     log: Points = field(default_factory=dict)
@@ -96,7 +97,7 @@ class Replica:
         kept = joined(self.log, *self.volumes.values())
         self.memory = {it: value for it, value in kept.items() if not any(that.get(it) == value for that in self.volumes.values())}
         self.begin_segment()
-        self.is_open = True
+        self.standing = "open"
 
     def flush(self, spaces: dict[str, Namespace], now: int) -> int:
         """Writes a volume for each block that has ended and has points in memory; says how many."""
@@ -118,7 +119,6 @@ class Replica:
                         if not spaces[ns].has_expired(start + spaces[ns].block, now)}
         return before - len(self.content())
 
-
     def snapshot(self, _spaces: dict[str, Namespace], _now: int) -> int:
         """Saves what is in memory, in place of the log and older snapshots; says the snapshot's number."""
         self.log = dict(self.memory)
@@ -137,9 +137,8 @@ class LateWrite:
 
 class Cluster:
     def __init__(self) -> None:
-        self.rf = 0
         self.seed = 0
-        self.nodes: list[tuple[str, str]] = []
+        self.places: list[Place] = []  # those that are kept, of versions from 1 on
         self.replicas: list[dict[str, Replica]] = []  # by shard, and then by node
         self.stopped: set[str] = set()
         self.namespaces: dict[str, Namespace] = {}
@@ -152,46 +151,56 @@ class Cluster:
 
     def serve(self, request: Request) -> Request:
         op, call = request["op"], self.calls
+        if op == "bootstrap" and self.covers_joining(request):
+            raise Refused("later")
         if op in CALLS:
             self.calls += 1
-        if (op == "init") == bool(self.rf):
+        if (op == "init") == bool(self.places):
             raise Refused("order")
         if op in CALLS:
             if request["ns"] not in self.namespaces:
                 raise Refused("unknown", name=request["ns"])
-            return CALLS[op](self, request, call)
+            return CALLS[op](self, request, self.place_at(request), call)
         return ACTS[op](self, request) or {}
 
-    def names(self) -> list[str]:
-        return sorted((node for node, _ in self.nodes), key=str.encode)
+    def place(self) -> Place:
+        """The placement that stands."""
+        return self.places[-1]
+
+    def place_at(self, request: Request) -> Place:
+        """The placement by which a call goes."""
+        version = request.get("version", self.place().version)
+        if not 1 <= version <= len(self.places):
+            raise Refused("unknown", name=str(version))
+        return self.places[version - 1]
 
     def known(self, node: str) -> str:
-        if node not in self.names():
+        if not self.place().is_listed(node):
             raise Refused("unknown", name=node)
         return node
 
     def shard_of(self, identifier: str) -> int:
         return murmur(identifier.encode(), self.seed) % len(self.replicas)
 
-    def placed(self) -> Request:
-        """The placement that stands: as many nodes as replicas, so each has all shards."""
-        shard = [[node, "available", 1] for node in self.names()]
-        instances = [[node, group, False] for node, group in sorted(self.nodes, key=lambda pair: pair[0].encode())]
-        return {"version": 1, "placement": {"instances": instances, "rf": self.rf, "shards": [shard] * len(self.replicas)}}
+    def covers_joining(self, request: Request) -> bool:
+        """Whether a bootstrap covers a replica that is joining its shard."""
+        if not self.places:
+            return False
+        shards = [request["shard"]] if "shard" in request else range(len(self.replicas))
+        return any(shard < len(self.replicas) and self.place().joining(shard) == request["node"] for shard in shards)
 
     # ---- calls
 
     def needed(self, level: str) -> int:
-        return {"one": 1, "unstrict": 1, "majority": self.majority(), "all": self.rf}[level]
+        return {"one": 1, "unstrict": 1, "majority": self.majority(), "all": self.place().rf}[level]
 
     def majority(self) -> int:
-        return self.rf // 2 + 1
+        return self.place().rf // 2 + 1
 
     def standing(self, node: str, shard: int) -> str | None:
         """Why this replica answers no call at all, if it doesn't."""
-        if node in self.stopped:
-            return "down"
-        return None if self.replicas[shard][node].is_open else "boot"
+        standing = self.replicas[shard][node].standing
+        return None if standing == "open" else standing
 
     def window(self, namespace: Namespace, at: int) -> str | None:
         if at <= self.now - namespace.past:
@@ -211,11 +220,11 @@ class Cluster:
     def is_cut(self, call: int, node: str) -> bool:
         return self.fates.get((call, node)) in ("lose", "late")
 
-    def write(self, request: Request, call: int) -> Request:
+    def write(self, request: Request, place: Place, call: int) -> Request:
         point, value = (request["ns"], request["id"], request["t"]), request["v"]
         shard = self.shard_of(point[1])
         reasons: dict[str, str | None] = {}
-        for node in self.names():
+        for node in place.members(shard):
             if self.is_cut(call, node):
                 reasons[node] = "cut"
                 if self.fates[call, node] == "late" and len(self.late) < MOST_LATE_WRITES:
@@ -223,8 +232,9 @@ class Cluster:
             else:
                 for _ in range(self.copies(call, node)):
                     reasons[node] = self.put(node, shard, point, value)
-        self.demand_level(shard, request.get("level", "majority"), reasons)
-        return {"acks": answered(reasons)}
+        counted = {node: reasons[node] for node in place.counted(shard)}
+        self.demand_level(shard, request.get("level", "majority"), counted)
+        return {"acks": answered(counted)}
 
     def demand_level(self, shard: int, level: str, reasons: dict[str, str | None]) -> None:
         got = len(answered(reasons))
@@ -232,22 +242,22 @@ class Cluster:
             listed = [[node, reason] for node, reason in reasons.items() if reason]
             raise Refused("consistency", shard=shard, got=got, needed=self.needed(level), reasons=listed)
 
-    def fetch(self, request: Request, call: int) -> Request:
-        return self.read(request, call, [self.shard_of(request["id"])], lambda it: it == request["id"])
+    def fetch(self, request: Request, place: Place, call: int) -> Request:
+        return self.read(request, place, call, [self.shard_of(request["id"])], lambda it: it == request["id"])
 
-    def match(self, request: Request, call: int) -> Request:
+    def match(self, request: Request, place: Place, call: int) -> Request:
         def picks(identifier: str) -> bool:
             tags = tags_of(identifier)
             return all((tags.get(tag) == value) == (sign == "=") for tag, sign, value in request["where"])
-        return self.read(request, call, range(len(self.replicas)), picks)
+        return self.read(request, place, call, range(len(self.replicas)), picks)
 
-    def read(self, request: Request, call: int, shards: Iterable[int], picks: Any) -> Request:
+    def read(self, request: Request, place: Place, call: int, shards: Iterable[int], picks: Any) -> Request:
         """The join of what each replica that answers has of the picked series."""
         level = request.get("level", "majority")
         found: Points = {}
         short = False
         for shard in shards:
-            reasons = {it: "cut" if self.is_cut(call, it) else self.standing(it, shard) for it in self.names()}
+            reasons = {it: "cut" if self.is_cut(call, it) else self.standing(it, shard) for it in place.counted(shard)}
             self.demand_level(shard, level, reasons)
             short |= len(answered(reasons)) < self.majority()
             for node in answered(reasons):
@@ -267,9 +277,18 @@ class Cluster:
     # ---- the other lines
 
     def init(self, request: Request) -> Request:
-        self.rf, self.seed, self.nodes = request["rf"], request["seed"], request["nodes"]
-        self.replicas = [{node: Replica() for node in self.names()} for _ in range(request["shards"])]
-        return self.placed()
+        self.places = [first_place(request["rf"], request["shards"], request["nodes"])]
+        self.seed = request["seed"]
+        self.replicas = [{node: Replica() for node in shard} for shard in self.place().shards]
+        return self.place().printed()
+
+    def change(self, request: Request) -> Request:
+        """A line that makes a placement: new replicas wait for a bootstrap."""
+        self.places.append(next_place(self.place(), request))
+        for shard, replicas in zip(self.place().shards, self.replicas):
+            for node in shard:
+                replicas.setdefault(node, Replica("boot"))
+        return self.place().printed()
 
     def namespace(self, request: Request) -> None:
         if request["name"] in self.namespaces:
@@ -293,17 +312,23 @@ class Cluster:
         late, self.late = self.late, []
         return {"outcomes": [[it.node, it.shard, self.put(it.node, it.shard, it.point, it.value) or "took"] for it in late]}
 
+    def stand(self, node: str, standing: str) -> None:
+        """All replicas of the node stand so, also those that no shard has any more."""
+        for shard in self.replicas:
+            if node in shard:
+                shard[node].standing = standing
+
     def stop(self, request: Request) -> None:
         if self.known(request["node"]) in self.stopped:
             raise Refused("state", node=request["node"])
         self.stopped.add(request["node"])
+        self.stand(request["node"], "down")
 
     def restart(self, request: Request) -> None:
         if self.known(request["node"]) not in self.stopped:
             raise Refused("state", node=request["node"])
         self.stopped.remove(request["node"])
-        for shard in self.replicas:
-            shard[request["node"]].is_open = False
+        self.stand(request["node"], "boot")
 
     def bootstrap(self, request: Request) -> Request:
         node = self.known(request["node"])
@@ -315,14 +340,14 @@ class Cluster:
         if node in self.stopped:
             raise Refused("state", node=node)
         for shard in shards:
-            if not self.replicas[shard][node].is_open:
+            if node in self.place().shards[shard] and self.replicas[shard][node].standing == "boot":
                 self.replicas[shard][node].load()
-        return {"available": [], **self.placed()}
+        return {"available": [], **self.place().printed()}
 
     # ---- upkeep
 
     def members(self) -> list[tuple[str, int]]:
-        return [(node, shard) for shard in range(len(self.replicas)) for node in self.names()]
+        return [(node, shard) for shard in range(len(self.replicas)) for node in self.place().members(shard)]
 
     def sweep(self, work: Any) -> Request:
         done, failed = [], []
@@ -350,16 +375,17 @@ class Cluster:
         if reason is None:
             fence, buffered, segments, volumes = 1, len(replica.memory), replica.segments, len(replica.volumes)
             snapshot = replica.snapshots
-        return {"node": node, "shard": shard, "state": "available", "standing": reason or "open", "fence": fence,
+        return {"node": node, "shard": shard, "state": self.place().shards[shard][node].state, "standing": reason or "open", "fence": fence,
                 "buffered": buffered, "segments": segments, "snapshot": snapshot, "volumes": volumes}
 
     def status(self, _: Request) -> Request:
-        return {"now": self.now, "replicas": [self.report(*member) for member in self.members()], "version": 1}
+        return {"now": self.now, "replicas": [self.report(*member) for member in self.members()], "version": self.place().version}
 
 
 CALLS = {"write": Cluster.write, "fetch": Cluster.fetch, "match": Cluster.match}
 ACTS = {"init": Cluster.init, "namespace": Cluster.namespace, "now": Cluster.set_now, "fates": Cluster.set_fates,
         "deliver": Cluster.deliver, "stop": Cluster.stop, "restart": Cluster.restart, "bootstrap": Cluster.bootstrap,
+        "add": Cluster.change, "drain": Cluster.change, "cancel": Cluster.change, "remove": Cluster.change, "replace": Cluster.change,
         "tick": Cluster.tick, "flush": Cluster.flush, "snapshot": Cluster.snapshot, "status": Cluster.status}
 
 

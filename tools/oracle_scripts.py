@@ -10,6 +10,7 @@ from typing import Any
 Request = dict[str, Any]
 
 NAMES = ["a", "b", "c", "d", "e", "B", "ab", "a-", "_", "-", "0", "1", "10", "node-" + "9" * 27, "Z", "a_b"]
+MORE_NAMES = ["s0", "s1", "s2"]
 NO_NAMES = ["", " ", "a b", "é", "a.b", "\"", "\\", "a\n", "\u0000", "x" * 33, "ⅷ", "٣", "~", "a ", "/"]
 GROUPS = ["g1", "g2", "g3", "g4", "g5", "G" * 32, "a"]
 SPACES = ["m", "n", "M", "long-" + "s" * 27, "m_", "0", "1", "2", "3", "4", "a"]
@@ -49,20 +50,26 @@ class Script:
     def __init__(self, number: int):
         self.dice = random.Random(number)
         self.rf = self.dice.choice([1, 2, 3, 3, 3, 4, 5])
-        self.nodes = self.dice.sample(NAMES, self.rf)
+        self.nodes = self.dice.sample(NAMES, self.dice.choice([self.rf, self.rf, self.rf + 1, self.rf + 2, 16]))
         self.shards = self.dice.choice([1, 1, 1, 2, 2, 3, 3, 4, 7, 64])
         self.spaces = self.dice.sample(SPACES, self.dice.choice([1, 2, 3]))
         self.windows: dict[str, Request] = {}
         self.now = 0
         self.ids = self.dice.sample(IDS, self.dice.choice([1, 1, 2, 3, 8]))
         self.times: list[int] = [0]
+        self.unrest = self.dice.choice([0.0, 0.0, 0.03, 0.1, 0.3])
+        self.versions = 1
 
     # ---- lines in the grammar
 
     def init(self) -> Request:
-        groups = self.dice.sample(GROUPS, self.rf)
+        more = max(len(self.nodes) - self.rf, 0)
+        groups = self.dice.sample(GROUPS, self.rf) + self.dice.choices(GROUPS, k=more)
+        if self.dice.random() < 0.05:
+            groups[0] = groups[-1]
+        self.dice.shuffle(groups)
         seed = self.dice.choice([0, 1, 7, 2**32 - 1, self.dice.randrange(2**32)])
-        nodes = [list(pair) for pair in zip(self.nodes, groups)]
+        nodes = [list(pair) for pair in zip(self.nodes[:16], groups)]
         return {"op": "init", "rf": self.rf, "shards": self.shards, "seed": seed, "nodes": nodes}
 
     def namespace(self, name: str) -> Request:
@@ -116,6 +123,8 @@ class Script:
                 line["where"] = self.dice.choices(MATCHERS, k=self.dice.choice([0, 0, 0, 1, 2, 16]))
         if self.dice.random() < 0.6:
             line["level"] = self.dice.choice(LEVELS[:3] if op == "write" else [*LEVELS, "unstrict"])
+        if self.dice.random() < (0.3 if self.unrest else 0.03):
+            line["version"] = self.dice.choice([0, 1, self.versions // 2, self.versions - 1, self.versions, self.versions + 1, 2**62 - 1])
         return line
 
     def fates(self) -> Request:
@@ -135,8 +144,22 @@ class Script:
             line["shard"] = self.dice.choice([0, 0, 0, 1, 1, 2, self.shards - 1, self.shards, 63]) % 64
         return line
 
+    def place_line(self) -> Request:
+        """A line that makes a placement, of nodes that were named before or of new ones."""
+        op = self.dice.choice(["add", "add", "drain", "drain", "cancel", "cancel", "cancel", "remove", "replace", "replace"])
+        new, group = self.dice.choice(NAMES + MORE_NAMES), self.dice.choice(GROUPS)
+        self.versions += 1
+        if op in ("add", "replace"):
+            self.nodes += [new] * (new not in self.nodes)
+        if op == "add":
+            return {"op": op, "node": new, "group": group}
+        line: Request = {"op": op, "node": self.node()}
+        return line | {"by": new, "group": group} if op == "replace" else line
+
     def request(self) -> Request:
         draw = self.dice.random()
+        if self.dice.random() < self.unrest:
+            return self.place_line()
         if draw < 0.52:
             return self.call()
         if draw < 0.62:
@@ -316,6 +339,35 @@ def upkeep_again() -> list[bytes]:
     return lines
 
 
+def many_versions() -> list[bytes]:
+    """As many versions as are kept, and calls at the edges of what is kept, with late messages to nodes that leave and that join."""
+    init = b'{"op":"init","rf":3,"shards":1,"seed":0,"nodes":[["a","g"],["b","h"],["c","i"]]}'
+    write, fetch = b'{"op":"write","ns":"m","id":"x","t":0,"v":%d,"version":%d}', b'{"op":"fetch","ns":"m","id":"x","from":0,"to":9,"version":%d}'
+    fates = json.dumps({"op": "fates", "list": [[0, at, node, "late"] for at in range(9) for node in ("a", "d")]}).encode()
+    begin, back, away = (b'{"op":"replace","node":"a","by":"d","group":"g"}', b'{"op":"cancel","node":"d"}', b'{"op":"remove","node":"d"}')
+    same, busy = b'{"op":"cancel","node":"a"}', [b'{"op":"cancel","node":"nobody"}', b'{"op":"drain","node":"b"}', b'{"op":"remove","node":"a"}']
+    lines = [init, SPACE % b"m"]
+    for version in range(2, 1030):
+        lines.append({0: begin, 1: back, 2: away}.get(version % 20, same))
+        if version % 20 == 0:
+            lines.append(fates)
+        if version % 100 < 3 or version > 1019:
+            near = (0, 1, version - 1, version, version + 1)
+            lines += [*(write % (at % 7, at) for at in near), *(fetch % at for at in near), *busy, STATUS]
+            lines += [b'{"op":"deliver"}', b'{"op":"bootstrap","node":"d"}']
+    return [*lines, begin, away, b'{"op":"add","node":"a","group":"g"}']
+
+
+def many_names() -> list[bytes]:
+    """As many names as there may be, and then names that were removed and new ones, over shards that an added node takes."""
+    lines = [b'{"op":"init","rf":2,"shards":9,"seed":0,"nodes":[["a","g1"],["b","g2"]]}']
+    for at, name in enumerate(NAMES + MORE_NAMES):
+        lines += 2 * [json.dumps({"op": "add", "node": name, "group": f"g{at % 4}"}).encode()]
+        lines += [json.dumps({"op": "replace", "node": "b", "by": name, "group": "g2"}).encode(), STATUS]
+        lines += [json.dumps({"op": op, "node": it}).encode() for op in ("drain", "cancel", "remove") for it in (name, "a", "b")][:7]
+    return lines
+
+
 BASES: list[Request] = [
     {"op": "init", "rf": 1, "shards": 1, "seed": 0, "nodes": [["a", "g"]]},
     {"op": "namespace", "name": "m", "block": 9, "past": 8, "future": 8, "retention": 9},
@@ -364,7 +416,7 @@ def raw_lines() -> list[bytes]:
 
 
 FIXED = [too_many_late, too_many_spaces, deep_lines, long_lines, partly_back, edge_lines,
-         all_ids, raw_lines, full_segments, upkeep_again, cut_logs]
+         all_ids, raw_lines, full_segments, upkeep_again, cut_logs, many_versions, many_names]
 
 
 def script(number: int) -> bytes:

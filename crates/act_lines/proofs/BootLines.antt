@@ -60,6 +60,7 @@ use Rattle.act_lines.specs.Quiet.{KeepsStops}
 use Rattle.act_lines.specs.Stands.{ClusterStands}
 use Rattle.act_lines.specs.Stays.{HaveNoPlace, IsNoPlace}
 use Rattle.act_lines.proofs.GrowLemmas.{last_before, last_still}
+use Rattle.act_lines.proofs.KnownLemmas.{known_kept}
 use Rattle.act_lines.proofs.StandLemmas.{flags_stay, stands_on}
 use Rattle.act_lines.specs.Keeps.{BeginsGiven}
 use Rattle.act_lines.specs.Nodes.{LeavesBegun}
@@ -243,7 +244,8 @@ module _ {D : Type 0} {G : Ghosts D} (state : D → DiskState) (tells : Bool) (s
   stands_so = stands_on state start turns old stands a b new (ap (λ (s : MetaState). s.place) keeps.keeps.state) more ran no_place
       (λ k s c r m. let h = here_step node asked place k s c r (each (event.Step k s c r) m) in
       stands.slots.all k s (inl (h.0, subst (λ n. HasTenure events n s h.0) (sym h.1) (given_tenure events node s h.0 (place, stands.ready.place, covered_assigned node asked place s h.0 h.3)))))
-      keeps.keeps.slots left ready_so (flags_stay turns a b old new answers.halts (ap (λ (s : MetaState). s.place) keeps.keeps.state) keeps.stopped stands.stopped)
+      keeps.keeps.slots keeps.keeps.past answers.printed_is left ready_so (flags_stay turns a b old new answers.halts (ap (λ (s : MetaState). s.place) keeps.keeps.state) keeps.stopped stands.stopped)
+      (known_kept turns a b old.net.state.place new.net.state.place old.net.fates new.net.fates (ap (λ (s : MetaState). s.place) keeps.keeps.state) keeps.keeps.fates refl answers.halts stands.known)
 
   pub leaves_begun : HearsBy start events (InStretch whole (length events) (length whole)) p a b → HearsOf start (InStretch whole (length events) (length whole)) p [] b → (b ≡ answer.Memory) ⊎ IsOfKind [] start p a b → LeavesBegun state tells start turns old a b new
   leaves_begun hears heard kind = record {

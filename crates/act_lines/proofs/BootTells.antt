@@ -50,6 +50,7 @@ use Rattle.node_calls.specs.Nodes.{IsHeldUp}
 use Rattle.node_calls.proofs.BeginLemmas.{begun_few, few_below, tenure_node}
 use Rattle.act_lines.specs.Stands.{ClusterStands}
 use Rattle.act_lines.proofs.GrowLemmas.{happens_in}
+use Rattle.act_lines.proofs.KnownLemmas.{known_on}
 use Rattle.act_lines.proofs.StandLemmas.{stands_still}
 use Rattle.act_lines.specs.Nodes.{AvailableTells, BootDamagedTells, BootFailedTells, BootWantedTells, LeavesBegun}
 use Rattle.act_lines.specs.Opens.{MayOpenSlots}
@@ -243,13 +244,16 @@ nothing_begun {D} {G} state tells start turns old name asked stands may =
         left = left_still start turns a answer.Memory old.net old.net answers.1 stands.left (record { state = refl; fates = refl }) refl;
         ready = stands.ready;
         place = refl;
+        prints = λ p is. cc;
         more = [];
         ran = ran_nothing state old.net.replicas;
         no_place = λ e m. absurd m;
         of_slots = λ n s c r m. absurd m;
         slots = refl;
+        past = refl;
         stopped = refl;
         halts = λ own x. refl;
+        known = known_on turns a answer.Memory old.net.state.place old.net.fates refl (λ own x. refl) stands.known;
       });
       begins = may;
     }

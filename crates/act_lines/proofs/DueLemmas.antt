@@ -1,9 +1,11 @@
 -- Which refusal is due, from what the turns left.
-use Rattle.std.proofs.Common.{◌≡◌, ℕ, ◌<◌, ◌≤◌, List, length, map, refl, sym, ap, ap₂, ◌∙◌, Bool, true, false, cond, not}
-use Rattle.std.specs.Prelude.{Option, Some, None, option_map, is_some, nat_le, nat_lt, decimal}
+use Rattle.std.proofs.Common.{◌≡◌, ℕ, ◌<◌, ◌≤◌, List, [], ◌∷◌, length, map, refl, sym, ap, ap₂, ◌∙◌, Bool, true, false, cond, not, inl, inr}
+use Rattle.std.specs.Prelude.{Option, Some, None, option_map, is_some, nat_eq, nat_le, nat_lt, decimal, if◌then◌else◌}
+use Rattle.std.specs.List.{list_any}
 use Rattle.std.specs.Option.{option_or}
-use Rattle.std.proofs.lemmas.Bool.{le-leb, le-ltb, lt-leb, lt-ltb}
+use Rattle.std.proofs.lemmas.Bool.{eq-eqb, le-leb, le-ltb, lt-leb, lt-ltb, ne_eqb, or_from, or_left, or_right}
 use Rattle.std.proofs.lemmas.Option.{same_Some}
+use Rattle.m3_model.specs.Members.{IsIn}
 use Rattle.m3_model.specs.Rules.{namespace_position}
 use Rattle.m3_model.specs.declared.act.Act.{Act}
 use Rattle.m3_model.specs.declared.act.Act.TheVariants as act
@@ -20,20 +22,25 @@ use Rattle.told_moves.specs.Order.{IsInitAct}
 use Rattle.transcripts.specs.Fates.{is_stopped}
 use Rattle.transcripts.specs.Placements.{placements}
 use Rattle.transcripts.specs.Record.{inner_turns}
-use Rattle.transcripts.specs.Refusals.{missing_in, missing_shard, refusal_by}
+use Rattle.transcripts.specs.Refusals.{missing_in, missing_shard, missing_version, refusal_by}
 use Rattle.transcripts.specs.Rules.{rules_after, start_rules}
 use Rattle.transcripts.proofs.RefusalLemmas.{step_refusal}
 use Rattle.cluster_members.proofs.NameLemmas.{node_found}
-use Rattle.act_lines.specs.Due.{BootstrapsAreDue, CallsAreDue, DeliveriesAreDue, FatesAreDue, FirstInitIsFree, FlagsTell, HaveLeft, InitsAreDue, IsDueNext, MomentsAreDue, NamespacesAreDue, OrderIsDue, RestartsAreDue, SpaceDue, StepsAreDue, StopsAreDue}
+use Rattle.act_lines.specs.Due.{BootstrapsAreDue, CallsAreDue, DeliveriesAreDue, FatesAreDue, FirstInitIsFree, FlagsTell, HaveLeft, InitsAreDue, IsDueNext, IsKnown, MomentsAreDue, NamespacesAreDue, OrderIsDue, RestartsAreDue, SpaceDue, StepsAreDue, StopsAreDue}
 use Rattle.act_lines.proofs.NameLemmas.{listed_where, missing_same, none_missing, unlisted_where}
 
--- what is due, by the placement, the rules and the stopped nodes
-pub refused_by : (start : Option MetaState) (turns : List Turn) (place : Option Placement) (rules : Rules) → HaveLeft start turns place rules → (a : Act) (b : Answer) (refusal : Option Answer)
-    → ((versions : List ℕ) → refusal_by place versions rules (is_stopped (inner_turns turns)) a ≡ refusal) → IsDueNext start turns a b refusal
-refused_by start turns place rules left a b refusal by =
+-- what is due, by the placement, the versions, the rules and the stopped nodes
+refused_with : (start : Option MetaState) (turns : List Turn) (place : Option Placement) (rules : Rules) → HaveLeft start turns place rules → (a : Act) (b : Answer) (refusal : Option Answer)
+    → refusal_by place (map (λ (p : Placement). p.version) (placements start (inner_turns turns))) rules (is_stopped (inner_turns turns)) a ≡ refusal → IsDueNext start turns a b refusal
+refused_with start turns place rules left a b refusal is =
     let stopped = is_stopped (inner_turns turns) in
     let versions = map (λ (p : Placement). p.version) (placements start (inner_turns turns)) in
-    ap (λ (o : Option Placement). refusal_by o versions (rules_after (start_rules start) (inner_turns turns)) stopped a) left.place_is ∙ ap (λ (r : Rules). refusal_by place versions r stopped a) left.rules_are ∙ by versions
+    ap (λ (o : Option Placement). refusal_by o versions (rules_after (start_rules start) (inner_turns turns)) stopped a) left.place_is ∙ ap (λ (r : Rules). refusal_by place versions r stopped a) left.rules_are ∙ is
+
+-- the same, whatever the versions are
+pub refused_by : (start : Option MetaState) (turns : List Turn) (place : Option Placement) (rules : Rules) → HaveLeft start turns place rules → (a : Act) (b : Answer) (refusal : Option Answer)
+    → ((versions : List ℕ) → refusal_by place versions rules (is_stopped (inner_turns turns)) a ≡ refusal) → IsDueNext start turns a b refusal
+refused_by start turns place rules left a b refusal by = refused_with start turns place rules left a b refusal (by _)
 
 -- ---- where no placement stands
 
@@ -91,22 +98,44 @@ moments_are_due start turns place rules left now b = record {
 
 -- ---- calls
 
--- what is refused of a call, by whether its namespace is there
-abbrev call_refusal : List ℕ → Bool → Option Answer
-call_refusal ns there = option_or (option_map (λ name. answer.Unknown name) (option_or (cond there None (Some ns)) None)) None
+-- the versions of all placements
+abbrev versions_in : Option MetaState → List Turn → List ℕ
+versions_in start turns = map (λ (p : Placement). p.version) (placements start (inner_turns turns))
 
-spaces_due : (start : Option MetaState) (turns : List Turn) (place : Placement) (rules : Rules) → HaveLeft start turns (Some place) rules → (ns : List ℕ) (a : Act) (b : Answer)
-    → ((versions : List ℕ) (stopped : List ℕ → Bool) → refusal_by (Some place) versions rules stopped a ≡ call_refusal ns (is_some (namespace_position ns rules.spaces))) → SpaceDue start turns rules ns a b
-spaces_due start turns place rules left ns a b is = record {
-  unknown = λ none. refused_by start turns (Some place) rules left a b (Some (answer.Unknown ns)) (λ versions. is versions _ ∙ ap (λ o. call_refusal ns (is_some o)) none);
-  free = λ k there. refused_by start turns (Some place) rules left a b None (λ versions. is versions _ ∙ ap (λ o. call_refusal ns (is_some o)) there);
+-- what is refused of a call, by whether its namespace is there and what its version lacks
+abbrev call_refusal : List ℕ → Bool → Option (List ℕ) → Option Answer
+call_refusal ns there missing = option_or (option_map (λ name. answer.Unknown name) (option_or (cond there None (Some ns)) missing)) None
+
+version_there : (places : List Placement) (v : ℕ) (p : Placement) → IsIn places p → p.version ≡ v → list_any (nat_eq v) (map (λ (q : Placement). q.version) places) ≡ true
+version_there [] v p m is = absurd m
+version_there (q ∷ places) v p (inl same) is = or_left (nat_eq v q.version) _ (eq-eqb v q.version (sym is ∙ ap (λ (r : Placement). r.version) (sym same)))
+version_there (q ∷ places) v p (inr later) is = or_right (nat_eq v q.version) _ (version_there places v p later is)
+
+no_version : (places : List Placement) (v : ℕ) → ((p : Placement) → IsIn places p → ¬ (p.version ≡ v)) → list_any (nat_eq v) (map (λ (q : Placement). q.version) places) ≡ false
+no_version [] v none = refl
+no_version (q ∷ places) v none = or_from (nat_eq v q.version) _ (ne_eqb v q.version (λ is. none q (inl refl) (sym is))) (no_version places v (λ p m. none p (inr m)))
+
+spaces_due : (start : Option MetaState) (turns : List Turn) (place : Placement) (rules : Rules) → HaveLeft start turns (Some place) rules → (ns : List ℕ) (version : Option ℕ) (a : Act) (b : Answer)
+    → ((stopped : List ℕ → Bool) → refusal_by (Some place) (versions_in start turns) rules stopped a ≡ call_refusal ns (is_some (namespace_position ns rules.spaces)) (missing_version (versions_in start turns) version)) → SpaceDue start turns rules ns version a b
+spaces_due start turns place rules left ns version a b is = record {
+  unknown = λ none. due (Some (answer.Unknown ns)) (ap (λ o. call_refusal ns (is_some o) (missing_version (versions_in start turns) version)) none);
+  unkept = λ k v there gives none. due (Some (answer.Unknown (decimal v)))
+      (ap₂ (λ o m. call_refusal ns (is_some o) m) there (ap (missing_version (versions_in start turns)) gives ∙ ap (λ t. if t then None else Some (decimal v)) (no_version (placements start (inner_turns turns)) v none)));
+  free = λ k there known. due None (ap₂ (λ o m. call_refusal ns (is_some o) m) there (nothing_missing version known));
 }
+  where
+    due : (refusal : Option Answer) → call_refusal ns (is_some (namespace_position ns rules.spaces)) (missing_version (versions_in start turns) version) ≡ refusal → IsDueNext start turns a b refusal
+    due refusal e = refused_with start turns (Some place) rules left a b refusal (is _ ∙ e)
+
+    nothing_missing : (v : Option ℕ) → IsKnown start turns v → missing_version (versions_in start turns) v ≡ None
+    nothing_missing None known = refl
+    nothing_missing (Some v) known = ap (λ t. if t then None else Some (decimal v)) (version_there (placements start (inner_turns turns)) v known.0 known.1 known.2)
 
 pub calls_are_due : CallsAreDue
 calls_are_due start turns place rules left = record {
-  write = λ ns id t v level b. spaces_due start turns place rules left ns (act.Write ns id t v level None) b (λ versions stopped. refl);
-  fetch = λ ns id from to level b. spaces_due start turns place rules left ns (act.Fetch ns id from to level None) b (λ versions stopped. refl);
-  find = λ ns wanted from to level b. spaces_due start turns place rules left ns (act.Match ns wanted from to level None) b (λ versions stopped. refl);
+  write = λ ns id t v level version b. spaces_due start turns place rules left ns version (act.Write ns id t v level version) b (λ stopped. refl);
+  fetch = λ ns id from to level version b. spaces_due start turns place rules left ns version (act.Fetch ns id from to level version) b (λ stopped. refl);
+  find = λ ns wanted from to level version b. spaces_due start turns place rules left ns version (act.Match ns wanted from to level version) b (λ stopped. refl);
 }
 
 pub deliveries_are_due : DeliveriesAreDue

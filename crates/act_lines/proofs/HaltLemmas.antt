@@ -46,7 +46,7 @@ use Rattle.told_by.proofs.LeaveLemmas.{place_there}
 use Rattle.told_by.proofs.OneLemmas.{among_back, at_back, back_at}
 use Rattle.told_runs.specs.Answers.{HearsOf, IsOfKind}
 use Rattle.transcripts.specs.Deliveries.{delivers_nothing}
-use Rattle.transcripts.specs.Fates.{is_stopped}
+use Rattle.transcripts.specs.Fates.{is_stopped, stopped_by}
 use Rattle.transcripts.specs.Record.{TurnPosition, inner_turns, line_of}
 use Rattle.call_lines.specs.Keeps.{SetsNothing}
 use Rattle.call_lines.specs.Laws.{IsCalm, LeavesLine}
@@ -54,14 +54,16 @@ use Rattle.call_lines.specs.Left.{AreStoppedBy, NetIsLeftBy}
 use Rattle.call_lines.proofs.KeepLemmas.{left_as_before}
 use Rattle.call_lines.proofs.ServeLemmas.{answered, delivered_so, serves_so}
 use Rattle.cluster_members.specs.declared.members.Members.{Members}
+use Rattle.cluster_members.proofs.NameLemmas.{node_found}
 use Rattle.node_calls.specs.Halts.{IsUnrestarted, restart_at, slots_of_node, stop_at}
 use Rattle.node_calls.specs.Nodes.{IsNode, IsUnstarted, KeepsButNodes}
 use Rattle.node_calls.proofs.ListLemmas.{filter_few, flat_long}
 use Rattle.node_calls.proofs.RunLemmas.{quiet_exchange, quiet_flat, ready_still, unrestarted_few, unrestarted_quiet}
 use Rattle.act_lines.specs.Quiet.{KeepsStops}
-use Rattle.act_lines.specs.Stands.{ClusterStands}
+use Rattle.act_lines.specs.Stands.{ClusterStands, IsUnnamed, KnowsNodes}
 use Rattle.act_lines.specs.Stays.{HaveNoPlace, IsNoPlace}
 use Rattle.act_lines.proofs.GrowLemmas.{given_before, happens_in, last_before}
+use Rattle.act_lines.proofs.KnownLemmas.{known_by, restart_stays, stop_stays}
 use Rattle.act_lines.proofs.StandLemmas.{flags_stay, stands_on}
 use Rattle.act_lines.specs.Nodes.{LeavesStanding, RestartFailedTells, RestartWantedTells, RestartedTells, StoppedTells}
 use Rattle.act_lines.proofs.NodeStands.{named_last, of_node, slot_here, stopped_set, stopped_so}
@@ -221,9 +223,10 @@ module _ {D : Type 0} {G : Ghosts D} (state : D → DiskState) (start : Option M
   ready_so quiet =
       subst (λ st. IsReady st new.net.replicas new.net.bag) (sym keeps.state) (subst (IsReady old.net.state new.net.replicas) (sym keeps.bag) (ready_still state old.net.replicas new.net.replicas more ran old.net.state old.net.bag stands.ready quiet))
 
-  pub stands_so : AreQuiet more → AreStoppedBy (turns ++ line_of a b ∷ []) new.net.state.place new.stopped.items → ClusterStands start (turns ++ line_of a b ∷ []) new
-  stands_so quiet stopped = stands_on state start turns old stands a b new (ap (λ (s : MetaState). s.place) keeps.state) more ran no_place
-      (λ k s c r m. IsIn-filter (λ (x : Slot). nat_eq x.node n.node) old.slots.items (slot_at k s) (halt_step Kind own_slots k s c r (halts (event.Step k s c r) m))) keeps.slots (left_so keeps.bag) (ready_so quiet) stopped
+  pub stands_so : AreQuiet more → AreStoppedBy (turns ++ line_of a b ∷ []) new.net.state.place new.stopped.items → ((own : List ℕ) → IsUnnamed old.net.state.place own → stopped_by own a b false ≡ false) → ClusterStands start (turns ++ line_of a b ∷ []) new
+  stands_so quiet stopped stays = stands_on state start turns old stands a b new (ap (λ (s : MetaState). s.place) keeps.state) more ran no_place
+      (λ k s c r m. IsIn-filter (λ (x : Slot). nat_eq x.node n.node) old.slots.items (slot_at k s) (halt_step Kind own_slots k s c r (halts (event.Step k s c r) m))) keeps.slots keeps.past (λ q is. let clash : None ≡ Some q = sym answers.sets.place ∙ is in cc) (left_so keeps.bag) (ready_so quiet) stopped
+      (subst (λ (s : MetaState). KnowsNodes (turns ++ line_of a b ∷ []) s.place new.net.fates) (sym keeps.state) (subst (KnowsNodes (turns ++ line_of a b ∷ []) old.net.state.place) (sym keeps.fates) (known_by turns a b old.net.state.place old.net.fates answers.sets.fates stays stands.known)))
 
 -- ---- sizes and quiet
 
@@ -283,7 +286,8 @@ stopped_tells {D} {G} state old start turns new name stands h =
           (λ i k s r le at. inl refl))
           (let long = flat_long stop_at (λ s. refl) slots in let few = few_own old n.node in omega (arith, long, few)) tt (inr tt);
       stands = stands_so state start turns old new stands name false n a answer.Done (stop_answer name) IsStop (λ c k. inl k) more h.stopped halts asks h.keeps (stops_quiet slots)
-          (stopped_set start turns old stands name false n new true a answer.Done h.stopped_now (ap (λ (s : MetaState). s.place) h.keeps.state) (λ own x. refl));
+          (stopped_set start turns old stands name false n new true a answer.Done h.stopped_now (ap (λ (s : MetaState). s.place) h.keeps.state) (λ own x. refl))
+          (let found = node_found name old.net.state.place.instances n.node n.found in stop_stays old.net.state.place name n.node found.instance_ found.stands found.name_is);
     }
 
 -- ---- a node is restarted
@@ -320,7 +324,8 @@ restarted_tells {D} {G} state old start turns new name pick stands h =
           (λ i k s r le at. inl refl))
           (let long = flat_long restart_at (λ s. refl) slots in let few = few_own old n.node in omega (arith, long, few)) tt (inr tt);
       stands = stands_so state start turns old new stands name true n a answer.Done (restart_answer name pick) IsRestart (λ c k. inr k) more h.restarted halts asks h.keeps (restarts_quiet slots)
-          (stopped_set start turns old stands name true n new false a answer.Done h.stopped_now (ap (λ (s : MetaState). s.place) h.keeps.state) (λ own x. refl));
+          (stopped_set start turns old stands name true n new false a answer.Done h.stopped_now (ap (λ (s : MetaState). s.place) h.keeps.state) (λ own x. refl))
+          (λ own away. restart_stays name pick own);
     }
 
 -- ---- one that stays stopped
@@ -381,7 +386,7 @@ module _ {D : Type 0} {G : Ghosts D} (state : D → DiskState) (start : Option M
         (line state start turns old new stands name true h.was (act.Restart name pick) b answers IsHaltCall (λ c k. k) came h.stopped each asks h.keeps hears again)
         (let long = flat_long stop_at (λ s. refl) slots in let both = length-append h.tried stops in let tried = unrestarted_few slots shard why h.tried h.refused in let few = few_own old h.was.node in omega (arith, long, both, tried, few)) heard kind;
     stands = stands_so state start turns old new stands name true h.was (act.Restart name pick) b answers IsHaltCall (λ c k. k) came h.stopped each asks h.keeps
-        (quiet_both h.tried stops (unrestarted_quiet slots shard why h.tried h.refused) (stops_quiet slots)) (flags_stay turns (act.Restart name pick) b old new halts_so (ap (λ (s : MetaState). s.place) h.keeps.state) h.stays stands.stopped);
+        (quiet_both h.tried stops (unrestarted_quiet slots shard why h.tried h.refused) (stops_quiet slots)) (flags_stay turns (act.Restart name pick) b old new halts_so (ap (λ (s : MetaState). s.place) h.keeps.state) h.stays stands.stopped) (λ own away. halts_so own false);
   }
 
   -- the refused step is heard

@@ -5,6 +5,7 @@ use Rattle.std.specs.FinMap.{get, get-empty}
 use Rattle.std.proofs.lemmas.Grind.{fold-append}
 use Rattle.std.proofs.lemmas.Option.{same_Some, slice_get_within}
 use Rattle.m3_model.specs.Members.{IsIn}
+use Rattle.m3_model.proofs.MemberLemmas.{IsIn-filter_map}
 use Rattle.m3_model.specs.declared.act.Act.{Act}
 use Rattle.m3_model.specs.declared.act.Act.TheVariants as act
 use Rattle.m3_model.specs.declared.act.Fate.TheVariants as fate
@@ -29,13 +30,14 @@ use Rattle.cluster_core.specs.declared.event.Event.{Event}
 use Rattle.cluster_core.specs.declared.event.Event.TheVariants as event
 use Rattle.cluster_core.specs.declared.event.StepCall.{StepCall}
 use Rattle.cluster_core.specs.declared.event.StepReply.{StepReply}
-use Rattle.cluster_core.proofs.ListLemmas.{any_at, at_in, at_same}
+use Rattle.cluster_core.proofs.ListLemmas.{any_at, at_in, at_same, in_at}
 use Rattle.told_by.specs.Hears.{HasReplica, IsNamedBy}
 use Rattle.replica_exchange.specs.declared.member.Member.{Member}
 use Rattle.replica_exchange.specs.declared.slot.Slot.{Slot}
 use Rattle.replica_calls.specs.Calls.{first_member}
 use Rattle.session_net.specs.Runs.{IsStepped, Step, slot_at, steps_of}
 use Rattle.session_net.proofs.ReadyLemmas.{there_after}
+use Rattle.cluster_members.specs.Kept.{IsKept}
 use Rattle.cluster_members.specs.declared.members.Members.{Members}
 use Rattle.first_cluster.specs.Begins.{begins_of}
 use Rattle.first_cluster.specs.First.{IsFirst, opening_of}
@@ -46,14 +48,17 @@ use Rattle.first_cluster.proofs.SlotLists.{in_or_out}
 use Rattle.told_by.proofs.RuleLemmas.{after_lines}
 use Rattle.told_by.proofs.TurnLemmas.{inner-append}
 use Rattle.transcripts.specs.Fates.{Numbering, calls_in, client_acts, fate_in, fates_set, numbering_after, numbering_by}
-use Rattle.transcripts.specs.Placements.{later_placement, placement_after, printed, seed_after, seed_by, start_placement}
+use Rattle.transcripts.specs.Placements.{later_placement, placement_after, placements, printed, seed_after, seed_by, start_placement}
+use Rattle.transcripts.proofs.PlacementLemmas.{stood_known}
 use Rattle.transcripts.specs.Record.{InnerTurn, inner_turns, line_of}
 use Rattle.transcripts.specs.Rules.{rules_after, start_rules}
 use Rattle.call_lines.specs.Left.{AreStoppedBy, HoldsBack, NetIsLeftBy}
 use Rattle.call_lines.proofs.KeepLemmas.{numbering_next}
-use Rattle.act_lines.specs.Stands.{HasSlots, NoneStands, ClusterStands}
+use Rattle.act_lines.specs.Stands.{AreKept, HasSlots, NoneStands, ClusterStands}
+use Rattle.act_lines.proofs.CountLemmas.{count_first}
+use Rattle.act_lines.proofs.KnownLemmas.{known_first}
 use Rattle.act_lines.proofs.QuietLemmas.{stops_next}
-use Rattle.act_lines.proofs.StandLemmas.{no_placement}
+use Rattle.act_lines.proofs.StandLemmas.{known_or_printed, no_placement}
 use Rattle.act_lines.specs.Inits.{FirstStands}
 use Rattle.act_lines.proofs.BeginEvents.{of_begin, step_among}
 
@@ -210,10 +215,37 @@ module _ {D : Type 0} {G : Ghosts D} (state : D → DiskState) (m : Members D G)
   named : (n : ℕ) (own : Instance) → slice_get place.instances n ≡ Some own → IsNamedBy events n own.name
   named n own at i p done other there is = ap (λ (x : Instance). x.name) (at_same place.instances n other own (subst (λ (q : Placement). At q.instances n other) (place_at i p done there) is) at)
 
+  -- the first placement alone is kept
+  kept_so : AreKept None longer place m.past.items
+  kept_so = record {
+    are = λ q. (
+      λ i. elim (known_or_printed None (inner_turns turns) (inner_turns (line_of a b ∷ [])) q (subst (λ (ts : List InnerTurn). IsIn (placements None ts) q) (inner-append turns (line_of a b ∷ [])) i)) as (λ _. IsKept place m.past.items q) [
+        | inl before ↦ let t = IsIn-filter_map (λ (turn : InnerTurn). printed turn.answer) (inner_turns turns) q before in absurd (let bad : None ≡ Some q = sym (none.prints t.0 t.1) ∙ t.2 in cc)
+        | inr last ↦ elim last.1 as (λ _. IsKept place m.past.items q) [
+          | inl same ↦ inl (same_place q (ap (λ (x : InnerTurn). printed x.answer) same ∙ last.2))
+          | inr nothing ↦ absurd nothing
+        ]
+      ],
+      λ k. elim k as (λ _. IsIn (placements None (inner_turns longer)) q) [
+        | inl is ↦ subst (IsIn (placements None (inner_turns longer))) (sym is) (stood_known None (inner_turns longer) place place_so)
+        | inr i ↦ absurd (subst (λ xs. IsIn xs q) first.past i)
+      ],
+    );
+    count = count_first turns a b place none.prints refl ∙ ap (λ (xs : List Placement). suc (length xs)) (sym first.past);
+    fewer = λ q i. absurd (subst (λ xs. IsIn xs q) first.past i);
+  }
+    where
+      same_place : (q : Placement) → Some place ≡ Some q → q ≡ place
+      same_place q is = cc
+
   pub stands_so : ClusterStands None longer m
   stands_so = record {
     left = left_so;
     ready = first_ready state m.net.state m.slots.items old new m.net.replicas m.net.bag first.lawful first.slots first.bag first.opened;
+    kept = kept_so;
+    serves = λ q i. absurd (subst (λ xs. IsIn xs q) first.past i);
+    placed = λ p done i. let at = in_at m.net.replicas.events (event.Place p done) i in inl (place_at at.0 p done at.1);
+    known = known_first longer place m.net.fates first.fates fates_so (λ name. stops_next turns a b name ∙ none.runs name);
     slots = has_slots;
     named = named;
     stopped = stops_so;

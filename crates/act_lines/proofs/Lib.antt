@@ -2,6 +2,8 @@ pub mod NameLemmas
 pub mod DueLemmas
 pub mod GrowLemmas
 pub mod QuietLemmas
+pub mod KnownLemmas
+pub mod CountLemmas
 pub mod StandLemmas
 pub mod NothingLemmas
 pub mod SettingLemmas
@@ -16,3 +18,4 @@ pub mod BeginEvents
 pub mod InitLemmas
 pub mod InitStands
 pub mod UntakenLemmas
+pub mod GroupLemmas

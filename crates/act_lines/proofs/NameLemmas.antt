@@ -67,7 +67,7 @@ none_missing instances (fate ∷ list) [] h = absurd h
 
 -- ---- fates by number
 
-fate_test : (client call : ℕ) (name : List ℕ) (f : ℕ × ℕ × List ℕ × Fate) → is_fate_of client call name f ≡ true → (f.0 ≡ client) × (f.1 ≡ call) × (f.2 ≡ name)
+pub fate_test : (client call : ℕ) (name : List ℕ) (f : ℕ × ℕ × List ℕ × Fate) → is_fate_of client call name f ≡ true → (f.0 ≡ client) × (f.1 ≡ call) × (f.2 ≡ name)
 fate_test client call name f e = by_parts (nat_eq f.0 client) (nat_eq f.1 call) (pointwise nat_eq f.2 name) refl refl refl e
   where
     by_parts : (a b n : Bool) → nat_eq f.0 client ≡ a → nat_eq f.1 call ≡ b → pointwise nat_eq f.2 name ≡ n → ((a && b) && n) ≡ true → (f.0 ≡ client) × (f.1 ≡ call) × (f.2 ≡ name)

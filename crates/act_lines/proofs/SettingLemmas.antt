@@ -49,9 +49,10 @@ use Rattle.cluster_members.proofs.ClockLemmas.{ready_ruled}
 use Rattle.act_lines.specs.Due.{HaveLeft, IsDueNext}
 use Rattle.act_lines.specs.Settings.{FatesTell, GoesOn, MovedTells, NamedTells}
 use Rattle.act_lines.specs.Quiet.{KeepsStops}
-use Rattle.act_lines.specs.Stands.{ClusterStands}
+use Rattle.act_lines.specs.Stands.{ClusterStands, KnowsNodes}
 use Rattle.act_lines.specs.Stays.{IsNoPlace}
 use Rattle.act_lines.proofs.DueLemmas.{fates_are_due, moments_are_due, namespaces_are_due}
+use Rattle.act_lines.proofs.KnownLemmas.{known_kept, known_set}
 use Rattle.act_lines.proofs.NameLemmas.{numbered_fate}
 use Rattle.act_lines.proofs.StandLemmas.{flags_stay, stands_grown, stands_still}
 
@@ -157,13 +158,16 @@ module _ {D : Type 0} {G : Ghosts D} (state : D → DiskState) (start : Option M
           left = ruled_left state start turns old new a rules stands.left set by seed fates;
           ready = ready_ruled state old.net.state new.net.state old.net.replicas new.net.replicas new.net.bag rules (subst (IsReady old.net.state old.net.replicas) (sym set.bag) stands.ready) set.ran set.state_is;
           place = ap (λ (s : MetaState). s.place) set.state_is;
+          prints = λ p e. cc;
           more = clock_events rules;
           ran = set.ran;
           no_place = clock_no_place rules;
           of_slots = λ n s c r i. absurd (clock_no_step rules n s c r i);
           slots = set.slots;
+          past = set.past;
           stopped = set.stopped;
           halts = keeps;
+          known = known_kept turns a answer.Done old.net.state.place new.net.state.place old.net.fates new.net.fates (ap (λ (s : MetaState). s.place) set.state_is) set.fates fates keeps stands.known;
         });
       }
 
@@ -216,7 +220,7 @@ fates_tell {D} {G} old start turns list new stands set =
         serves = serves_so start turns events a answer.Done [] (λ e m. absurd m) (omega arith) [] tt (λ x m. absurd m) (answered start turns events a answer.Done [] (λ e m. absurd m) (inr tt) due);
         delivered = delivered_so turns a answer.Done [] (λ x m. absurd m);
       };
-      stands = stands_grown start turns old stands a answer.Done new same_place [] (ap (λ (t : Tracked D). t.events) set.replicas ∙ sym (append-nil events)) (λ e m. absurd m) (λ n s c r m. absurd m) set.slots
+      stands = stands_grown start turns old stands a answer.Done new same_place [] (ap (λ (t : Tracked D). t.events) set.replicas ∙ sym (append-nil events)) (λ e m. absurd m) (λ n s c r m. absurd m) set.slots set.past (λ p e. cc)
           (subst (λ slots. AreSlots slots new.net.replicas) (sym set.slots) (subst (AreSlots old.slots.items) (sym set.replicas) stands.slots.are)) (record {
             rules = rules_next start turns a answer.Done ∙ left.rules ∙ sym (ap (λ (s : MetaState). s.rules) is);
             place = place_next start turns a answer.Done refl ∙ left.place ∙ ap Some (sym same_place);
@@ -224,5 +228,6 @@ fates_tell {D} {G} old start turns list new stands set =
             fates = subst (λ (p : Placement). FareAsSet longer p new.net.fates) (sym same_place) fare;
             late = subst (HoldsBack start longer) (sym set.bag) (holds_on start turns a answer.Done refl old.net.bag left.late);
           }) (subst (λ (s : MetaState). IsReady s new.net.replicas new.net.bag) (sym is) (subst (λ (t : Tracked D). IsReady old.net.state t new.net.bag) (sym set.replicas) (subst (IsReady old.net.state old.net.replicas) (sym set.bag) stands.ready)))
-          (flags_stay turns a answer.Done old new (λ name x. refl) same_place set.stopped stands.stopped);
+          (flags_stay turns a answer.Done old new (λ name x. refl) same_place set.stopped stands.stopped)
+          (subst (λ (p : Placement). KnowsNodes longer p new.net.fates) (sym same_place) (known_set turns list set.items old.net.state.place old.net.fates new.net.fates set.fates set.numbered stands.known));
     }

@@ -1,5 +1,6 @@
 -- Which refusal is due of an act in the next line: said of the rules, the placement and the stopped nodes that the turns left.
-use Rattle.std.specs.Prelude.{◌≡◌, ℕ, ℤ, ◌≤◌, ◌<◌, List, length, Option, Some, None, IsSome, Bool, true, false, slice_get, decimal}
+use Rattle.std.specs.Prelude.{◌≡◌, ℕ, ℤ, ◌≤◌, ◌<◌, List, length, Option, Some, None, IsSome, Bool, true, false, slice_get, decimal, ⊤}
+use Rattle.m3_model.specs.Members.{IsIn}
 use Rattle.m3_model.specs.Rules.{namespace_position}
 use Rattle.m3_model.specs.declared.act.Act.{Act}
 use Rattle.m3_model.specs.declared.act.Act.TheVariants as act
@@ -20,7 +21,7 @@ use Rattle.told_by.specs.Lines.{position_after}
 use Rattle.told_moves.specs.Order.{IsInitAct}
 use Rattle.transcripts.specs.Caused.{kept_after, refusal_after}
 use Rattle.transcripts.specs.Fates.{is_stopped}
-use Rattle.transcripts.specs.Placements.{placement_after, start_placement}
+use Rattle.transcripts.specs.Placements.{placement_after, placements, start_placement}
 use Rattle.transcripts.specs.Record.{inner_turns}
 use Rattle.transcripts.specs.Rules.{rules_after, start_rules}
 use Rattle.call_lines.specs.Left.{AreStoppedBy}
@@ -74,16 +75,22 @@ MomentsAreDue = WhereLeft (λ start turns place rules. (now : ℕ) (b : Answer) 
 
 -- ---- calls
 
--- of a call in this namespace: that it isn't there, or nothing
-pub record SpaceDue (start : Option MetaState) (turns : List Turn) (rules : Rules) (ns : List ℕ) (a : Act) (b : Answer) : Type 0 where
-  pub unknown : namespace_position ns rules.spaces ≡ None → IsDueNext start turns a b (Some (answer.Unknown ns))
-  pub free : (k : ℕ) → namespace_position ns rules.spaces ≡ Some k → IsDueNext start turns a b None
+-- a placement of the version was found or printed, where the call gives one
+abbrev pub IsKnown : Option MetaState → List Turn → Option ℕ → Type 0
+IsKnown start turns None = ⊤
+IsKnown start turns (Some version) = (place : Placement) × IsIn (placements start (inner_turns turns)) place × (place.version ≡ version)
 
--- of each call without a version
+-- of a call in this namespace that gives this version, or none: that the namespace isn't there, or no placement of the version, or nothing
+pub record SpaceDue (start : Option MetaState) (turns : List Turn) (rules : Rules) (ns : List ℕ) (version : Option ℕ) (a : Act) (b : Answer) : Type 0 where
+  pub unknown : namespace_position ns rules.spaces ≡ None → IsDueNext start turns a b (Some (answer.Unknown ns))
+  pub unkept : (k v : ℕ) → namespace_position ns rules.spaces ≡ Some k → version ≡ Some v → ((place : Placement) → IsIn (placements start (inner_turns turns)) place → ¬ (place.version ≡ v)) → IsDueNext start turns a b (Some (answer.Unknown (decimal v)))
+  pub free : (k : ℕ) → namespace_position ns rules.spaces ≡ Some k → IsKnown start turns version → IsDueNext start turns a b None
+
+-- of each call
 pub record CallDue (start : Option MetaState) (turns : List Turn) (rules : Rules) : Type 0 where
-  pub write : (ns id : List ℕ) (t : ℕ) (v : ℤ) (level : WriteLevel) (b : Answer) → SpaceDue start turns rules ns (act.Write ns id t v level None) b
-  pub fetch : (ns id : List ℕ) (from to : ℕ) (level : ReadLevel) (b : Answer) → SpaceDue start turns rules ns (act.Fetch ns id from to level None) b
-  pub find : (ns : List ℕ) (wanted : List Matcher) (from to : ℕ) (level : ReadLevel) (b : Answer) → SpaceDue start turns rules ns (act.Match ns wanted from to level None) b
+  pub write : (ns id : List ℕ) (t : ℕ) (v : ℤ) (level : WriteLevel) (version : Option ℕ) (b : Answer) → SpaceDue start turns rules ns version (act.Write ns id t v level version) b
+  pub fetch : (ns id : List ℕ) (from to : ℕ) (level : ReadLevel) (version : Option ℕ) (b : Answer) → SpaceDue start turns rules ns version (act.Fetch ns id from to level version) b
+  pub find : (ns : List ℕ) (wanted : List Matcher) (from to : ℕ) (level : ReadLevel) (version : Option ℕ) (b : Answer) → SpaceDue start turns rules ns version (act.Match ns wanted from to level version) b
 
 abbrev pub CallsAreDue : Type 0
 CallsAreDue = WhereLeft (λ start turns place rules. CallDue start turns rules)

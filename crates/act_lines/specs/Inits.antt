@@ -8,6 +8,8 @@ use Rattle.m3_model.specs.declared.turn.Turn.{Turn}
 use Rattle.m3_outside.specs.Depots.{Depot, TellAll}
 use Rattle.m3_outside.specs.DiskState.{DiskState}
 use Rattle.m3_outside.specs.declared.disk.Disk.{Ghosts}
+use Rattle.placement_plan.specs.First.{RefusesInitial}
+use Rattle.placement_plan.specs.declared.plan_err.PlaceErr.TheVariants as refused
 use Rattle.cluster_core.specs.declared.event.Event.{Event}
 use Rattle.cluster_members.specs.declared.members.Members.{Members}
 use Rattle.first_cluster.specs.Bare.{AreBare}
@@ -49,3 +51,9 @@ abbrev pub UntakenTells : Type 0 → Type 0
 UntakenTells D =
     (tells : Bool) (turns : List Turn) (rf shards seed : ℕ) (nodes : List (List ℕ × List ℕ)) (name : List ℕ) (shard : ℕ) (old new : Depot D) → NoneStands turns → (untaken : IsDiskUntaken rf shards seed nodes name shard old new)
     → LeavesAnew PlainLine tells (untaken_at turns untaken.node shard ∷ []) turns (act.Init rf shards seed nodes) (answer.Disk name shard) []
+
+-- No events tell of an `init` whose nodes are in fewer isolation groups than a shard has replicas, and serve it.
+abbrev pub LackingGroupsTell : Type 0
+LackingGroupsTell =
+    (tells : Bool) (turns : List Turn) (rf shards seed : ℕ) (nodes : List (List ℕ × List ℕ)) (shard : ℕ) → NoneStands turns → RefusesInitial rf nodes (refused.Group shard)
+    → LeavesAnew PlainLine tells [] turns (act.Init rf shards seed nodes) (answer.Group shard) []

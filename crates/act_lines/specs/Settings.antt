@@ -18,7 +18,7 @@ use Rattle.net_plan.specs.Fates.{Item, fates_of}
 use Rattle.replica_exchange.specs.MachineCalls.{HasRoom}
 use Rattle.replica_exchange.specs.declared.call_id.CallId.{CallId}
 use Rattle.session_net.specs.Deliveries.{IsUndelivered}
-use Rattle.session_net.specs.Ready.{IsReady}
+use Rattle.session_net.specs.Ready.{IsCallable}
 use Rattle.session_net.specs.Writes.{IsRefused}
 use Rattle.session_net.specs.declared.net.Net.{Net}
 use Rattle.session_net.specs.declared.session_err.SessionErr.TheVariants as err
@@ -53,7 +53,7 @@ NoRoomTells = (start : Option MetaState) (turns : List Turn) (events : List Even
 -- and for what a write adds, or a delivery
 abbrev pub FullWriteTells : {D : Type 0} {G : Ghosts D} → (D → DiskState) → Net D G → Type 0
 FullWriteTells {D} {G} state net =
-    (start : Option MetaState) (turns : List Turn) (a : Act) (id : CallId) (point : Point) (level : WriteLevel) (new : Net D G) → IsReady net.state net.replicas net.bag → IsRefused state net id point level new err.Full → LeavesNothing start turns net.replicas.events a answer.Full
+    (start : Option MetaState) (turns : List Turn) (a : Act) (id : CallId) (point : Point) (level : WriteLevel) (new : Net D G) → IsCallable net.state net.replicas net.bag → IsRefused state net id point level new err.Full → LeavesNothing start turns net.replicas.events a answer.Full
 
 abbrev pub FullDeliveryTells : {D : Type 0} {G : Ghosts D} → Net D G → Type 0
 FullDeliveryTells {D} {G} net = (start : Option MetaState) (turns : List Turn) (a : Act) (new : Net D G) → IsUndelivered net new err.Full → LeavesNothing start turns net.replicas.events a answer.Full
@@ -89,6 +89,7 @@ pub record SetsFates {D : Type 0} {G : Ghosts D} (list : List (ℕ × ℕ × Lis
   pub replicas : new.net.replicas ≡ old.net.replicas
   pub bag : new.net.bag ≡ old.net.bag
   pub slots : new.slots.items ≡ old.slots.items
+  pub past : new.past.items ≡ old.past.items
   pub stopped : new.stopped.items ≡ old.stopped.items
 
 -- fates were set

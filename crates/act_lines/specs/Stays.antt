@@ -1,8 +1,9 @@
 -- Lines after which a cluster stands still, and lines after which there is none still.
-use Rattle.std.specs.Prelude.{◌≡◌, ⊤, ℕ, List, ◌∷◌, [], ◌++◌, Option, None, false}
+use Rattle.std.specs.Prelude.{◌≡◌, ⊤, ℕ, List, ◌∷◌, [], ◌++◌, Option, Some, None, false}
 use Rattle.m3_model.specs.Members.{IsIn}
 use Rattle.m3_model.specs.declared.act.Act.{Act}
 use Rattle.m3_model.specs.declared.answer.Answer.{Answer}
+use Rattle.m3_model.specs.declared.placement.Placement.{Placement}
 use Rattle.m3_model.specs.declared.rules.MetaState.{MetaState}
 use Rattle.m3_model.specs.declared.turn.Turn.{Turn}
 use Rattle.m3_outside.specs.DiskState.{DiskState}
@@ -20,7 +21,7 @@ use Rattle.call_lines.specs.Keeps.{SetsNothing}
 use Rattle.call_lines.specs.Left.{NetIsLeftBy}
 use Rattle.cluster_members.specs.declared.members.Members.{Members}
 use Rattle.act_lines.specs.Quiet.{DeliversNone, KeepsStops, SetsNone}
-use Rattle.act_lines.specs.Stands.{NoneStands, ClusterStands}
+use Rattle.act_lines.specs.Stands.{ClusterStands, KnowsNodes, NoneStands}
 
 -- ---- before an `init`
 
@@ -50,18 +51,25 @@ IsNoPlace _ = ⊤
 abbrev pub HaveNoPlace : List Event → Type 0
 HaveNoPlace events = (e : Event) → IsIn events e → IsNoPlace e
 
+-- what the answer prints, if anything, is this placement
+abbrev pub PrintsNoOther : Placement → Answer → Type 0
+PrintsNoOther place b = (other : Placement) → printed b ≡ Some other → other ≡ place
+
 -- A turn that made no placement, steps of slots alone, and what the turns left is left with it: calls may be made, and slots and stopped nodes are as before.
 pub record StaysStanding {D : Type 0} {G : Ghosts D} (state : D → DiskState) (start : Option MetaState) (turns : List Turn) (old : Members D G) (a : Act) (b : Answer) (new : Members D G) : Type 0 where
   pub left : NetIsLeftBy start (turns ++ line_of a b ∷ []) new.net
   pub ready : IsReady new.net.state new.net.replicas new.net.bag
   pub place : new.net.state.place ≡ old.net.state.place
+  pub prints : PrintsNoOther old.net.state.place b
   pub more : List Event
   pub ran : Ran state old.net.replicas more new.net.replicas
   pub no_place : HaveNoPlace more
   pub of_slots : (n s : ℕ) (c : StepCall) (r : StepReply) → IsIn more (event.Step n s c r) → IsIn old.slots.items (slot_at n s)
   pub slots : new.slots.items ≡ old.slots.items
+  pub past : new.past.items ≡ old.past.items
   pub stopped : new.stopped.items ≡ old.stopped.items
   pub halts : KeepsStops a b
+  pub known : KnowsNodes (turns ++ line_of a b ∷ []) new.net.state.place new.net.fates
 
 -- then the cluster stands still
 abbrev pub StandsStill : {D : Type 0} {G : Ghosts D} → (D → DiskState) → Members D G → Type 0

@@ -1,5 +1,5 @@
 //! What `init` leaves of the list tells of its turn.
-ghost use Rattle.act_lines.specs.Inits.{FirstStands, FirstTells, UntakenTells};
+ghost use Rattle.act_lines.specs.Inits.{FirstStands, FirstTells, LackingGroupsTell, UntakenTells};
 
 use cluster_members::Members;
 use m3_outside::Disk;
@@ -13,4 +13,9 @@ pub fn first_tells<D: Disk>(members: &Members<D>)
 /// Where a disk couldn't be taken, nothing came to the list, and that tells of the line and serves it.
 pub fn untaken_tells<D: Disk>(_disk: &D)
     ensures { UntakenTells D }
+{}
+
+/// Where the nodes are in fewer isolation groups than a shard has replicas, nothing came to the list either.
+pub fn lacking_groups_tell()
+    ensures { LackingGroupsTell }
 {}

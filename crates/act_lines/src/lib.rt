@@ -9,7 +9,7 @@ pub mod nodes;
 pub mod settings;
 
 pub use due::{calls_are_due, first_acts_are_due, nodes_are_due, rules_are_due, steps_are_due};
-pub use inits::{first_tells, untaken_tells};
+pub use inits::{first_tells, lacking_groups_tell, untaken_tells};
 pub use nodes::{bootstraps_tell, first_begins_stay, restarts_tell, stops_tell};
 pub use settings::{
     full_calls_tell, full_tells, none_stands, refused_tells, settings_tell, stands_again,

@@ -16,7 +16,7 @@ use Rattle.series_slots.specs.Slots.{Slots, settled}
 use Rattle.series_slots.specs.Points.{slot_in, slot_at, value_of, points_of}
 use Rattle.series_slots.specs.SeriesEntries.{SeriesEntries, StandsAt, slots_of}
 use Rattle.series_slots.proofs.PointLemmas.{get-points}
-use Rattle.block_buffer.proofs.PlaceLemmas.{eq_or_not}
+use Rattle.block_buffer.proofs.PositionLemmas.{eq_or_not}
 use Rattle.block_buffer.specs.Held.{without}
 use Rattle.block_buffer.specs.Room.{OnlyRoomIsEmpty}
 use Rattle.block_buffer.specs.AllSeries.{is_bare, IsSlotSet, AreSameSlots}

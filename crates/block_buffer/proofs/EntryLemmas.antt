@@ -12,7 +12,7 @@ use Rattle.series_slots.specs.declared.series_key.SeriesKey.{SeriesKey}
 use Rattle.series_slots.specs.Slots.{Slots}
 use Rattle.series_slots.specs.SeriesEntries.{SeriesEntries}
 use Rattle.block_buffer.specs.AllSeries.{EachEntry, TimesFit, SpacesBelow}
-use Rattle.block_buffer.proofs.PlaceLemmas.{eq_or_not, last_or_other, swapped_here, swapped_there, swapped_within}
+use Rattle.block_buffer.proofs.PositionLemmas.{eq_or_not, last_or_other, swapped_here, swapped_there, swapped_within}
 
 -- ---- the slots of a series at a time
 

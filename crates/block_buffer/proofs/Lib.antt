@@ -1,4 +1,4 @@
-pub mod PlaceLemmas
+pub mod PositionLemmas
 pub mod SetLemmas
 pub mod EntryLemmas
 pub mod ContentLemmas

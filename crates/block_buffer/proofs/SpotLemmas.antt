@@ -16,7 +16,7 @@ use Rattle.series_slots.specs.SeriesEntries.{SeriesEntries}
 use Rattle.block_buffer.specs.AllSeries.{TimesFit, AreNoted}
 use Rattle.block_buffer.specs.Bounds.{bound_at, HasGroup}
 use Rattle.block_buffer.specs.Spots.{group_of, IsKeyWithin, IsValueOf, HasNoValueOf, HasNoneAt, IsClear, IsLate}
-use Rattle.block_buffer.proofs.PlaceLemmas.{eq_or_not, last_or_other, swapped_here, swapped_there, swapped_within}
+use Rattle.block_buffer.proofs.PositionLemmas.{eq_or_not, last_or_other, swapped_here, swapped_there, swapped_within}
 use Rattle.block_buffer.proofs.EntryLemmas.{some_before, still_some, set_here, set_there, same_entry}
 use Rattle.block_buffer.proofs.ContentLemmas.{value_some}
 use Rattle.block_buffer.proofs.FirstLemmas.{value_position, none_or_value}

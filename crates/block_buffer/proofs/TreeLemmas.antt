@@ -1,4 +1,4 @@
--- What stands under a node of a tree, and at the places of trees.
+-- What stands under a node of a tree, and at the positions of trees.
 use Rattle.std.proofs.Common.{◌≡◌, ℕ, zero, suc, ◌+◌, ◌*◌, ◌/◌, ◌%◌, ◌^◌, ◌<◌, ◌≤◌, List, [], ◌∷◌, ◌++◌, length, get_or, refl, sym, ap, subst, ◌∙◌, inl, inr, arith}
 use Rattle.std.proofs.lemmas.Bool.{cases_lt}
 use Rattle.std.proofs.lemmas.List.{get_or_past, get_or_default}
@@ -70,12 +70,12 @@ halves node width leaf even first = by (node / 2) (omega (arith, even))
         let same : m * (width * 2) ≡ 2 * m * width = grind arith in
         same ∙ ap (λ (n : ℕ). n * width) (sym e) ∙ first
 
--- ---- places
+-- ---- positions
 
--- the places of a span of nodes that are above a time
-pub above_next : (nodes : List ℕ) (place width high q : ℕ) → high < 2 ^ 64 → ((j : ℕ) → length nodes / 2 + place ≤ j → j < length nodes / 2 + place + width → j < length nodes → high < get_or nodes j 0)
-    → place ≤ q → q < place + width → high < bound_in nodes q
-above_next nodes place width high q short above low upto = elim (cases_lt (length nodes / 2 + q) (length nodes)) as (λ _. high < bound_in nodes q) [
+-- the positions of a span of nodes that are above a time
+pub above_next : (nodes : List ℕ) (position width high q : ℕ) → high < 2 ^ 64 → ((j : ℕ) → length nodes / 2 + position ≤ j → j < length nodes / 2 + position + width → j < length nodes → high < get_or nodes j 0)
+    → position ≤ q → q < position + width → high < bound_in nodes q
+above_next nodes position width high q short above low upto = elim (cases_lt (length nodes / 2 + q) (length nodes)) as (λ _. high < bound_in nodes q) [
   | inl inside ↦
       let node = above (length nodes / 2 + q) (omega (arith, low)) (omega (arith, upto)) inside in
       let same = get_or_default nodes (length nodes / 2 + q) 0 (2 ^ 64) inside in
@@ -85,7 +85,7 @@ above_next nodes place width high q short above low upto = elim (cases_lt (lengt
       omega (arith, short, none)
 ]
 
--- beyond the places there is none
+-- beyond the positions there is none
 pub no_place : (nodes : List ℕ) (q : ℕ) → length nodes ≡ 2 * (length nodes / 2) → length nodes / 2 ≤ q → bound_in nodes q ≡ 2 ^ 64
 no_place nodes q even past = get_or_past nodes (length nodes / 2 + q) (2 ^ 64) (omega (arith, even, past))
 

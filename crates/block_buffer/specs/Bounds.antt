@@ -9,9 +9,9 @@ IsTreeBut node nodes = (j : ℕ) → 2 ≤ j → j < length nodes → (j / 2 ≡
 abbrev pub IsTree : List ℕ → Type 0
 IsTree nodes = (j : ℕ) → 2 ≤ j → j < length nodes → get_or nodes (j / 2) 0 ≤ get_or nodes j 0
 
--- the bound at a place: the places are the second half of the nodes, and beyond them no time has 64 bits
+-- the bound at a position: the positions are the second half of the nodes, and beyond them no time has 64 bits
 abbrev pub bound_in : List ℕ → ℕ → ℕ
-bound_in nodes place = get_or nodes (length nodes / 2 + place) (2 ^ 64)
+bound_in nodes position = get_or nodes (length nodes / 2 + position) (2 ^ 64)
 
 -- the bound of a group of a namespace
 abbrev pub bound_at : List (List ℕ) → ℕ → ℕ → ℕ

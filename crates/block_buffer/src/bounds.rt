@@ -5,11 +5,11 @@ use m3_model::Memory;
 use std::alloc::Global;
 use std::marker::Model;
 
-// Times at places that count from 0, in a tree: the next place with a time up to a given one is found in few steps, and a time is
-// changed in the logarithm of the places, without memory.
+// Times at positions that count from 0, in a tree: the next position with a time up to a given one is found in few steps, and a time is
+// changed in the logarithm of the positions, without memory.
 #[derive(Drop)]
 pub(crate) struct Bounds {
-    // Under the node n stand the nodes 2n and 2n + 1. The second half of the nodes are the places.
+    // Under the node n stand the nodes 2n and 2n + 1. The second half of the nodes are the positions.
     nodes: Vec<u64>,
 }
 
@@ -74,39 +74,39 @@ fn width(nodes: &[u64], leaf: usize, high: u64) -> usize
     width
 }
 
-// The first place from this one on with a time up to the high one.
+// The first position from this one on with a time up to the high one.
 fn next_in(nodes: &[u64], from: usize, high: u64) -> Option<usize>
     requires tree { IsTree nodes.now }
     requires even { length nodes.now ≡ 2 * (length nodes.now / 2) }
     ensures none { result ≡ None → (q : ℕ) → from ≤ q → high < bound_in nodes.now q }
-    ensures small { IfSome result (λ place. place < 2 ^ 63) }
-    ensures some { IfSome result (λ place. (from ≤ place) × (bound_in nodes.now place ≤ high) × ((q : ℕ) → from ≤ q → q < place → high < bound_in nodes.now q)) }
+    ensures small { IfSome result (λ position. position < 2 ^ 63) }
+    ensures some { IfSome result (λ position. (from ≤ position) × (bound_in nodes.now position ≤ high) × ((q : ℕ) → from ≤ q → q < position → high < bound_in nodes.now q)) }
 {
-    let places = nodes.len() / 2;
-    let mut place = from;
-    while place < places {
-        if nodes[places + place] <= high {
-            return Some(place);
+    let positions = nodes.len() / 2;
+    let mut position = from;
+    while position < positions {
+        if nodes[positions + position] <= high {
+            return Some(position);
         }
-        place += width(nodes, places + place, high);
+        position += width(nodes, positions + position, high);
     }
     None
 }
 
-// Puts the times of the one at the same places of the other, which has as many at least.
+// Puts the times of the one at the same positions of the other, which has as many at least.
 fn refill(wider: &mut Bounds, from: &Bounds)
     requires { length from.now / 2 ≤ length wider.old / 2 }
     ensures len { length wider.new ≡ length wider.old }
     ensures kept { (q : ℕ) → q < length from.now / 2 → bound_in wider.new q ≡ bound_in from.now q }
     ensures others { (q : ℕ) → length from.now / 2 ≤ q → bound_in wider.new q ≡ bound_in wider.old q }
 {
-    for place in 0..from.len() {
-        wider.set(place, from.get(place));
+    for position in 0..from.len() {
+        wider.set(position, from.get(position));
     }
 }
 
 impl Bounds {
-    // No places. Takes no memory.
+    // No positions. Takes no memory.
     pub(crate) fn new(alloc: Global) -> Bounds
         ensures { result ≡ [] }
     {
@@ -115,7 +115,7 @@ impl Bounds {
         }
     }
 
-    // How many places there are.
+    // How many positions there are.
     pub(crate) fn len(&self) -> usize
         ensures len { result ≡ length self.now / 2 }
         ensures even { length self.now ≡ 2 * (length self.now / 2) }
@@ -123,59 +123,59 @@ impl Bounds {
         self.nodes.len() / 2
     }
 
-    // The time at the place.
-    pub(crate) fn get(&self, place: usize) -> u64
-        requires { place < length self.now / 2 }
-        ensures { result ≡ bound_in self.now place }
+    // The time at the position.
+    pub(crate) fn get(&self, position: usize) -> u64
+        requires { position < length self.now / 2 }
+        ensures { result ≡ bound_in self.now position }
     {
-        self.nodes[self.nodes.len() / 2 + place]
+        self.nodes[self.nodes.len() / 2 + position]
     }
 
-    // Puts a time at the place.
-    pub(crate) fn set(&mut self, place: usize, bound: u64)
-        requires { place < length self.old / 2 }
+    // Puts a time at the position.
+    pub(crate) fn set(&mut self, position: usize, bound: u64)
+        requires { position < length self.old / 2 }
         ensures len { length self.new ≡ length self.old }
-        ensures set { bound_in self.new place ≡ bound }
-        ensures others { (q : ℕ) → q ≢ place → bound_in self.new q ≡ bound_in self.old q }
+        ensures set { bound_in self.new position ≡ bound }
+        ensures others { (q : ℕ) → q ≢ position → bound_in self.new q ≡ bound_in self.old q }
     {
-        let leaf = self.nodes.len() / 2 + place;
+        let leaf = self.nodes.len() / 2 + position;
         self.nodes[leaf] = bound;
         mend(&mut self.nodes, leaf);
     }
 
-    // The first place from this one on with a time up to the high one.
+    // The first position from this one on with a time up to the high one.
     pub(crate) fn next_up_to(&self, from: usize, high: u64) -> Option<usize>
         ensures none { result ≡ None → (q : ℕ) → from ≤ q → high < bound_in self.now q }
-        ensures small { IfSome result (λ place. place < 2 ^ 63) }
-        ensures some { IfSome result (λ place. (from ≤ place) × (bound_in self.now place ≤ high) × ((q : ℕ) → from ≤ q → q < place → high < bound_in self.now q)) }
+        ensures small { IfSome result (λ position. position < 2 ^ 63) }
+        ensures some { IfSome result (λ position. (from ≤ position) × (bound_in self.now position ≤ high) × ((q : ℕ) → from ≤ q → q < position → high < bound_in self.now q)) }
     {
         next_in(&self.nodes, from, high)
     }
 
-    // Makes places up to this one, of which the new ones have the last time.
-    pub(crate) fn widen(&mut self, alloc: Global, place: usize) -> Result<(), Memory>
+    // Makes positions up to this one, of which the new ones have the last time.
+    pub(crate) fn widen(&mut self, alloc: Global, position: usize) -> Result<(), Memory>
         ensures lower { (q : ℕ) → bound_in self.new q ≤ bound_in self.old q }
-        ensures ok { OnOk result (place < length self.new / 2) }
+        ensures ok { OnOk result (position < length self.new / 2) }
         ensures err { OnErr result (self.new ≡ self.old) }
     {
-        if place < self.len() {
+        if position < self.len() {
             return Ok(());
         }
-        let Some(places) = higher_of(place, self.nodes.len()).checked_add(1) else {
+        let Some(positions) = higher_of(position, self.nodes.len()).checked_add(1) else {
             return Err(Memory);
         };
-        let mut wider = Bounds::filled(alloc, places)?;
+        let mut wider = Bounds::filled(alloc, positions)?;
         refill(&mut wider, self);
         *self = wider;
         Ok(())
     }
 
-    // So many places with the last time.
-    fn filled(alloc: Global, places: usize) -> Result<Bounds, Memory>
-        ensures len { IfOk result (λ b. length b ≡ 2 * places) }
-        ensures last { IfOk result (λ b. (q : ℕ) → q < places → bound_in b q ≡ 2 ^ 64 - 1) }
+    // So many positions with the last time.
+    fn filled(alloc: Global, positions: usize) -> Result<Bounds, Memory>
+        ensures len { IfOk result (λ b. length b ≡ 2 * positions) }
+        ensures last { IfOk result (λ b. (q : ℕ) → q < positions → bound_in b q ≡ 2 ^ 64 - 1) }
     {
-        let Some(count) = places.checked_mul(2) else {
+        let Some(count) = positions.checked_mul(2) else {
             return Err(Memory);
         };
         let mut nodes = Vec::with_capacity(alloc, count)?;

@@ -36,7 +36,7 @@ impl FirstTimes {
     // Whether a time stands at the group.
     fn has(&self, ns: u8, group: usize) -> bool
         ensures space { IsTrue result → ns < length self.now.spaces.items }
-        ensures place { IsTrue result → group < length (get_or self.now.spaces.items ns []) / 2 }
+        ensures position { IsTrue result → group < length (get_or self.now.spaces.items ns []) / 2 }
         ensures none { result ≡ false → (g : ℕ) → group ≤ g → HasGroup self.now.spaces.items ns g → ⊥ }
     {
         match self.spaces.get(ns as usize) {

@@ -240,7 +240,7 @@ module _ {D : Type 0} {G : Ghosts D} (start : Option MetaState) (turns : List Tu
           was_sent = sent;
           call = record { id = Some w.name; version = w.version; needed = needed_write level };
           of_call = ap call_of w.act_is;
-          may_use = may_use start turns old id w.left w.next a b w.version w.uses;
+          may_use = may_use start turns old id w.left w.next a b;
           member = subst (λ s. IsTrue (has_replica (Some place) s n)) to_shard (node_replica place shard n m);
           late = record { instance_ = own.0; stands = own.1; holds = sym (fate_here start turns old id w.left w.next a b n own.0 own.1) ∙ late_by (fate_to old.fates id n) late };
           not_yet = λ line i. elim (drop_on (suc (length turns)) turns (line_of a b) line i) as (λ _. IsTrue (delivers_nothing line)) [
@@ -286,5 +286,5 @@ module _ {D : Type 0} {G : Ghosts D} (start : Option MetaState) (turns : List Tu
       })
 
 pub left_by_write : {D : Type 0} {G : Ghosts D} (old : Net D G) → LeftByWrite old
-left_by_write {D} {G} old start turns new id a b point level members k w stay sets sent quiet are bag =
-    left_on start turns a b sets old new w.left stay (subst (HoldsBack start (turns ++ line_of a b ∷ [])) (sym bag) (holds_more start turns old id a b point level w sets sent quiet members k are))
+left_by_write {D} {G} old start turns was new id a b point level members k w left stay sets sent quiet are bag =
+    left_on start turns a b sets was new left stay (subst (HoldsBack start (turns ++ line_of a b ∷ [])) (sym bag) (holds_more start turns old id a b point level w sets sent quiet members k are))

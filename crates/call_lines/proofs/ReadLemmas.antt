@@ -103,7 +103,7 @@ module _ {D : Type 0} {G : Ghosts D} (start : Option MetaState) (turns : List Tu
   opened = let low = at_within events placed.0 (event.Place place placed.1) placed.2 in omega (arith, low)
 
   pub uses_it : MayUse start here r.version place
-  uses_it = may_use start turns net id r.left r.next a b r.version r.uses
+  uses_it = may_use start turns net id r.left r.next a b
 
   of_turn : IsAskingOf start events here asks_for
   of_turn = record { of_act = ap (λ (x : Rules). read_of x.spaces a) (sym rules_here) ∙ r.of_act; of_call = r.of_call; uses = record { may_use = uses_it; place_at = placed.0; done = placed.1; there = placed.2 } }

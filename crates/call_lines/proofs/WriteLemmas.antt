@@ -1,8 +1,9 @@
 -- A write's events tell of its line.
 use Rattle.std.proofs.Common.{◌≡◌, ℕ, zero, suc, ◌+◌, ◌*◌, ◌<◌, ◌≤◌, List, [], ◌∷◌, ◌++◌, map, length, take, refl, sym, ap, ap₂, subst, ◌∙◌, inl, inr, arith, Bool, true, false, length-append, IsPermutation}
-use Rattle.std.specs.Prelude.{◌⊎◌, ⊤, ℤ, Option, Some, None, Ok, filter, slice_get, option_map}
+use Rattle.std.specs.Prelude.{◌⊎◌, ⊤, ℤ, Option, Some, None, Ok, IfSome, filter, slice_get, option_map}
 use Rattle.std.proofs.lemmas.List.{append-nil, length-map}
 use Rattle.std.proofs.lemmas.Bool.{cases_lt}
+use Rattle.std.specs.List.{Any}
 use Rattle.m3_model.specs.Levels.{needed_write}
 use Rattle.m3_model.specs.Members.{IsIn}
 use Rattle.m3_model.specs.Ascends.{Ascends}
@@ -28,7 +29,6 @@ use Rattle.m3_model.specs.Hash.{shard_of}
 use Rattle.m3_model.specs.declared.turn.Turn.{Turn}
 use Rattle.m3_outside.specs.DiskState.{DiskState}
 use Rattle.m3_outside.specs.declared.disk.Disk.{Ghosts}
-use Rattle.cluster_core.specs.Earlier.{last_place}
 use Rattle.cluster_core.specs.Legal.{Lawful, LawfulAt, Legal}
 use Rattle.cluster_core.specs.Replicas.{replica}
 use Rattle.cluster_core.specs.Rows.{ReplicaMayRefuse}
@@ -47,9 +47,10 @@ use Rattle.placement_core.proofs.OrderLemmas.{ascends-filter, ascends-map}
 use Rattle.replica_exchange.specs.declared.call_id.CallId.{CallId}
 use Rattle.session_net.specs.Messages.{Heard, fate_to}
 use Rattle.session_net.specs.Outcomes.{answering, refusing}
+use Rattle.session_net.specs.Ready.{Places}
 use Rattle.session_net.specs.Writes.{IsSent, Sent, counted_among, put_of, send_of, shard_of_point, told_in}
 use Rattle.session_net.specs.declared.net.Net.{Net}
-use Rattle.session_net.proofs.ReadyLemmas.{place_there}
+use Rattle.session_net.proofs.ReadyLemmas.{placed_there}
 use Rattle.told_by.specs.Hears.{Happens, HasServed, HearsAcks, HearsBy, HearsShard, InStretch, IsOwnCall}
 use Rattle.told_by.specs.Clocks.{sets_rules}
 use Rattle.told_by.specs.Lines.{AreSteps, IsAskOrStep, WriteLine, ack_by, position_after}
@@ -67,7 +68,7 @@ use Rattle.transcripts.specs.Record.{TurnPosition, inner_turns}
 use Rattle.transcripts.specs.Rules.{rules_at}
 use Rattle.transcripts.proofs.PlacementLemmas.{known_more, stood_known}
 use Rattle.call_lines.specs.Laws.{IsCalm, IsWrite, LeavesLine, AcknowledgedTells, UnmetTells, UnsentTells}
-use Rattle.call_lines.specs.Left.{NetIsLeftBy, IsNextCall, MayUseIt}
+use Rattle.call_lines.specs.Left.{NetIsLeftBy, NetIsUsable, IsNextCall, MayUseAfter}
 use Rattle.call_lines.proofs.HeardLemmas.{IsExchangedBy, counted_nodes, each_came, events_are, few_events, heard_nodes, in_counted}
 use Rattle.call_lines.proofs.ToldLemmas.{heard_ok}
 use Rattle.call_lines.proofs.MemberLemmas.{counted_all, counted_many, counted_within, node_replica, node_within}
@@ -76,7 +77,7 @@ use Rattle.call_lines.proofs.ShardLemmas.{AreHeardOf, IsCallBy, MaySay, answerin
 
 -- ---- what a call of the next line meets
 
-module _ {D : Type 0} {G : Ghosts D} (start : Option MetaState) (turns : List Turn) (net : Net D G) (id : CallId) (left : NetIsLeftBy start turns net) (next : IsNextCall turns id) where
+module _ {D : Type 0} {G : Ghosts D} (start : Option MetaState) (turns : List Turn) {version : Option ℕ} (net : Net D G) (id : CallId) (left : NetIsUsable start turns version net) (next : IsNextCall turns id) where
   pub number_here : (a : Act) (b : Answer) → id.number ≡ call_number (position_after turns a b)
   number_here a b = next.1 ∙ more_none (numbering_after 0 turns).calls
     where
@@ -86,14 +87,25 @@ module _ {D : Type 0} {G : Ghosts D} (start : Option MetaState) (turns : List Tu
   pub fate_here : (a : Act) (b : Answer) (node : ℕ) (own : Instance) → slice_get net.state.place.instances node ≡ Some own → fate_to net.fates id node ≡ fate_at (position_after turns a b) own.name
   fate_here a b node own stands = left.fates id.client id.number node own stands ∙ ap₂ (λ client number. fate_in (numbering_after 0 turns).fates client number own.name) next.0 (number_here a b)
 
-  pub may_use : (a : Act) (b : Answer) (version : Option ℕ) → MayUseIt version net.state.place → MayUse start (position_after turns a b) version net.state.place
-  may_use a b None uses = (inner_turns turns, record { others = []; some_of = tt; are = sym (append-nil (inner_turns turns)) }, left.place)
-  may_use a b (Some version) uses = (known_more start (inner_turns turns) [] net.state.place (stood_known start (inner_turns turns) net.state.place left.place), sym uses)
+  pub may_use : (a : Act) (b : Answer) → MayUse start (position_after turns a b) version net.state.place
+  may_use a b = by version left.place
+    where
+      by : (given : Option ℕ) → MayUseAfter start turns given net.state.place → MayUse start (position_after turns a b) given net.state.place
+      by None stood = (inner_turns turns, record { others = []; some_of = tt; are = sym (append-nil (inner_turns turns)) }, stood)
+      by (Some v) known = (known_more start (inner_turns turns) [] net.state.place known.0, known.1)
 
--- the placement that stands was placed
-pub placed_in : (events : List Event) (place : Placement) → last_place events ≡ Some place → (i : ℕ) × (done : List (ℕ × ℕ)) × At events i (event.Place place done)
-placed_in events place last =
-    let found = any_at (λ e. (done : List (ℕ × ℕ)) × (e ≡ event.Place place done)) events (place_there (λ e. (done : List (ℕ × ℕ)) × (e ≡ event.Place place done)) events place last (λ done. (done, refl))) in
+-- fields that the turns left may be used by a call that gives no version, or the one that stands
+pub usable : {D : Type 0} {G : Ghosts D} (start : Option MetaState) (turns : List Turn) (net : Net D G) (version : Option ℕ) → IfSome version (λ v. v ≡ net.state.place.version) → NetIsLeftBy start turns net → NetIsUsable start turns version net
+usable start turns net version given left = record { rules = left.rules; place = by version given; seed = left.seed; fates = left.fates; late = left.late }
+  where
+    by : (v : Option ℕ) → IfSome v (λ n. n ≡ net.state.place.version) → MayUseAfter start turns v net.state.place
+    by None given = left.place
+    by (Some n) given = (stood_known start (inner_turns turns) net.state.place left.place, sym given)
+
+-- a placement of the list was placed
+pub placed_in : (events : List Event) (place : Placement) → Any (Places place) events → (i : ℕ) × (done : List (ℕ × ℕ)) × At events i (event.Place place done)
+placed_in events place is =
+    let found = any_at (λ e. (done : List (ℕ × ℕ)) × (e ≡ event.Place place done)) events (placed_there (λ e. (done : List (ℕ × ℕ)) × (e ≡ event.Place place done)) events place is (λ done. (done, refl))) in
     (found.0, found.3.0, subst (At events found.0) found.3.1 found.2)
 
 -- the identifier of a point is its act's
@@ -165,7 +177,7 @@ module _ {D : Type 0} {G : Ghosts D} (start : Option MetaState) (turns : List Tu
   opened = let low = at_within events placed.0 (event.Place place placed.1) placed.2 in omega (arith, low)
 
   uses_it : MayUse start here w.version place
-  uses_it = may_use start turns net id w.left w.next written b w.version w.uses
+  uses_it = may_use start turns net id w.left w.next written b
 
   shard_is : shard ≡ shard_of point.id (seed_at start here) (length place.shards)
   shard_is = ap (λ seed. shard_of point.id seed (length place.shards)) (sym (w.left).seed)

@@ -40,10 +40,10 @@ abbrev pub LeftAsBefore : {D : Type 0} {G : Ghosts D} → Net D G → Type 0
 LeftAsBefore {D} {G} old =
     (start : Option MetaState) (turns : List Turn) (new : Net D G) (a : Act) (b : Answer) → NetIsLeftBy start turns old → FieldsStay old new → SetsNothing a b → IsTrue (delivers_nothing (line_of a b)) → new.bag ≡ old.bag → NetIsLeftBy start (turns ++ line_of a b ∷ []) new
 
--- where the late messages of a write to some first ones of the members came to the bag
+-- where the late messages of a write to some first ones of the members of the placement that it used came to the bag; `was` goes by the placement that stands
 abbrev pub LeftByWrite : {D : Type 0} {G : Ghosts D} → Net D G → Type 0
 LeftByWrite {D} {G} old =
-    (start : Option MetaState) (turns : List Turn) (new : Net D G) (id : CallId) (a : Act) (b : Answer) (point : Point) (level : WriteLevel) (members : Shard) (k : ℕ) → IsWrite start turns old id a point level → FieldsStay old new → SetsNothing a b
+    (start : Option MetaState) (turns : List Turn) (was new : Net D G) (id : CallId) (a : Act) (b : Answer) (point : Point) (level : WriteLevel) (members : Shard) (k : ℕ) → IsWrite start turns old id a point level → NetIsLeftBy start turns was → FieldsStay was new → SetsNothing a b
     → was_sent b ≡ true → IsTrue (delivers_nothing (line_of a b)) → AreMembers old.state.place (shard_of_point old.state point) members → new.bag ≡ bag_after old id point (nodes_of (take k members)) → NetIsLeftBy start (turns ++ line_of a b ∷ []) new
 
 -- and where the bag was emptied

@@ -18,7 +18,7 @@ use Rattle.cluster_core.specs.declared.event.StepCall.{StepCall}
 use Rattle.cluster_core.specs.declared.event.StepCall.TheVariants as call
 use Rattle.replica_exchange.specs.declared.call_id.CallId.{CallId}
 use Rattle.session_net.specs.Deliveries.{HasDelivered}
-use Rattle.session_net.specs.Ready.{IsReady}
+use Rattle.session_net.specs.Ready.{IsReady, IsCallable}
 use Rattle.session_net.specs.Writes.{IsAcknowledged, IsUnmet, IsUnsent}
 use Rattle.session_net.specs.declared.net.Net.{Net}
 use Rattle.told_by.specs.Lines.{PlainLine, WriteLine, position_after}
@@ -27,7 +27,7 @@ use Rattle.transcripts.specs.Caused.{refusal_after}
 use Rattle.transcripts.specs.Deliveries.{LateMessage}
 use Rattle.transcripts.specs.Points.{point_of}
 use Rattle.transcripts.specs.Record.{Record, TurnPosition, inner_turns, line_of}
-use Rattle.call_lines.specs.Left.{NetIsLeftBy, IsNextCall, MayUseIt, WereDelivered}
+use Rattle.call_lines.specs.Left.{NetIsLeftBy, NetIsUsable, IsNextCall, WereDelivered}
 
 -- A kind of line that says what its events tell.
 abbrev pub Kind : Type 1
@@ -69,16 +69,15 @@ pub record LeavesServed (Line : Kind) (start : Option MetaState) (turns : List T
 
 -- the next turn is a write of this point, made as this call where calls may be made
 pub record IsWrite {D : Type 0} {G : Ghosts D} (start : Option MetaState) (turns : List Turn) (net : Net D G) (id : CallId) (a : Act) (point : Point) (level : WriteLevel) : Type 0 where
-  pub left : NetIsLeftBy start turns net
-  pub ready : IsReady net.state net.replicas net.bag
+  pub version : Option ℕ
+  pub left : NetIsUsable start turns version net
+  pub ready : IsCallable net.state net.replicas net.bag
   pub next : IsNextCall turns id
   pub ns : List ℕ
   pub name : List ℕ
   pub t : ℕ
   pub v : ℤ
-  pub version : Option ℕ
   pub act_is : a ≡ act.Write ns name t v level version
-  pub uses : MayUseIt version net.state.place
   pub of_act : point_of net.state.rules.spaces a ≡ Some point
 
 -- one that was acknowledged tells of its line

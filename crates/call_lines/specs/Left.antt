@@ -19,7 +19,7 @@ use Rattle.session_net.specs.declared.net.Net.{Net}
 use Rattle.told_by.specs.Lines.{position_after}
 use Rattle.transcripts.specs.Deliveries.{LateMessage, IsLateBefore, IsLateMessage, delivers_nothing, shard_of_message}
 use Rattle.transcripts.specs.Fates.{call_number, fate_in, is_stopped, numbering_after}
-use Rattle.transcripts.specs.Placements.{placement_after, seed_after, start_placement}
+use Rattle.transcripts.specs.Placements.{placement_after, placements, seed_after, start_placement}
 use Rattle.transcripts.specs.Record.{TurnPosition, IsTurnPosition, inner_turns}
 use Rattle.transcripts.specs.Rules.{rules_after, start_rules}
 
@@ -27,10 +27,10 @@ use Rattle.transcripts.specs.Rules.{rules_after, start_rules}
 abbrev pub IsNextCall : List Turn → CallId → Type 0
 IsNextCall turns id = (id.client ≡ 0) × (id.number ≡ (numbering_after 0 turns).calls)
 
--- a call may use the placement that stands: it gives no version, or this one's
-abbrev pub MayUseIt : Option ℕ → Placement → Type 0
-MayUseIt None place = ⊤
-MayUseIt (Some version) place = version ≡ place.version
+-- a call that gives this version, or none, may use the placement after these turns: the one of the version, or the one that stands
+abbrev pub MayUseAfter : Option MetaState → List Turn → Option ℕ → Placement → Type 0
+MayUseAfter start turns None place = placement_after (start_placement start) (inner_turns turns) ≡ Some place
+MayUseAfter start turns (Some version) place = IsIn (placements start (inner_turns turns)) place × (place.version ≡ version)
 
 -- the position of a delivery in the next line, whatever it answers
 abbrev pub next_delivery : List Turn → TurnPosition
@@ -67,6 +67,14 @@ FareAsSet turns place fates = (client call node : ℕ) (own : Instance) → slic
 pub record NetIsLeftBy {D : Type 0} {G : Ghosts D} (start : Option MetaState) (turns : List Turn) (net : Net D G) : Type 0 where
   pub rules : rules_after (start_rules start) (inner_turns turns) ≡ net.state.rules
   pub place : placement_after (start_placement start) (inner_turns turns) ≡ Some net.state.place
+  pub seed : seed_after start (inner_turns turns) ≡ net.state.seed
+  pub fates : FareAsSet turns net.state.place net.fates
+  pub late : HoldsBack start turns net.bag
+
+-- A call that gives this version, or none, may go by these fields: the placement is one that it may use, and the others are what the turns left.
+pub record NetIsUsable {D : Type 0} {G : Ghosts D} (start : Option MetaState) (turns : List Turn) (version : Option ℕ) (net : Net D G) : Type 0 where
+  pub rules : rules_after (start_rules start) (inner_turns turns) ≡ net.state.rules
+  pub place : MayUseAfter start turns version net.state.place
   pub seed : seed_after start (inner_turns turns) ≡ net.state.seed
   pub fates : FareAsSet turns net.state.place net.fates
   pub late : HoldsBack start turns net.bag

@@ -14,22 +14,21 @@ use Rattle.m3_outside.specs.declared.disk.Disk.{Ghosts}
 use Rattle.cluster_core.specs.Legal.{Legal}
 use Rattle.replica_exchange.specs.declared.call_id.CallId.{CallId}
 use Rattle.session_net.specs.Reads.{IsCutShort, IsFirstShort, IsReadFound, IsFull, IsStopped, Wish}
-use Rattle.session_net.specs.Ready.{IsReady}
+use Rattle.session_net.specs.Ready.{IsCallable}
 use Rattle.session_net.specs.declared.net.Net.{Net}
 use Rattle.told_by.specs.Lines.{ReadLine}
 use Rattle.transcripts.specs.Calls.{call_of}
 use Rattle.call_lines.specs.Laws.{LeavesLine, LeavesServed}
-use Rattle.call_lines.specs.Left.{NetIsLeftBy, IsNextCall, MayUseIt}
+use Rattle.call_lines.specs.Left.{NetIsUsable, IsNextCall}
 
 -- the next turn is a read of what this wish wants, made as this call where calls may be made
 pub record IsReadTurn {D : Type 0} {G : Ghosts D} (start : Option MetaState) (turns : List Turn) (net : Net D G) (id : CallId) (a : Act) (w : Wish) (level : ReadLevel) : Type 0 where
-  pub left : NetIsLeftBy start turns net
-  pub ready : IsReady net.state net.replicas net.bag
+  pub version : Option ℕ
+  pub left : NetIsUsable start turns version net
+  pub ready : IsCallable net.state net.replicas net.bag
   pub next : IsNextCall turns id
   pub name : Option (List ℕ)
-  pub version : Option ℕ
   pub of_call : call_of a ≡ Some (record { id = name; version = version; needed = needed_read level })
-  pub uses : MayUseIt version net.state.place
   pub of_act : read_of net.state.rules.spaces a ≡ Some (record { pick = w.pick; from = w.from; to = w.to; level = level })
 
 -- one that was answered tells of its line

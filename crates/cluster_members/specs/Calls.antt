@@ -1,5 +1,5 @@
 -- What a cluster that stands answers to clients' calls, and what that leaves of it.
-use Rattle.std.specs.Prelude.{◌≡◌, ◌⊎◌, ℕ, ℤ, List, Some, None}
+use Rattle.std.specs.Prelude.{◌≡◌, ◌⊎◌, ℕ, ℤ, List, Option, Some, None}
 use Rattle.m3_outside.specs.DiskState.{DiskState}
 use Rattle.m3_outside.specs.declared.disk.Disk.{Ghosts}
 use Rattle.m3_model.specs.Rules.{namespace_position}
@@ -15,6 +15,7 @@ use Rattle.session_net.specs.Writes.{IsAcknowledged, IsRefused}
 use Rattle.session_net.specs.declared.net.Net.{Net}
 use Rattle.session_net.specs.declared.session_err.SessionErr.{SessionErr}
 use Rattle.session_net.specs.declared.session_err.SessionErr.TheVariants as err
+use Rattle.cluster_members.specs.Kept.{IsUnkept, WentBy}
 use Rattle.cluster_members.specs.Steps.{spaces_in}
 use Rattle.cluster_members.specs.declared.calls.Range.{Range}
 use Rattle.cluster_members.specs.declared.members.Members.{Members}
@@ -25,9 +26,10 @@ answer_of (err.Consistency shard needed got reasons) = answer.Consistency got ne
 answer_of err.Memory = answer.Memory
 answer_of err.Full = answer.Full
 
--- the state by which calls go, the fates, the slots and which nodes are stopped stay
+-- the state by which calls go, the placements that are kept, the fates, the slots and which nodes are stopped stay
 pub record KeepsCluster {D : Type 0} {G : Ghosts D} (old new : Members D G) : Type 0 where
   pub state : new.net.state ≡ old.net.state
+  pub past : new.past.items ≡ old.past.items
   pub fates : new.net.fates ≡ old.net.fates
   pub slots : new.slots.items ≡ old.slots.items
   pub stopped : new.stopped.items ≡ old.stopped.items
@@ -53,17 +55,27 @@ IsWriteAnswer state old id p level answer.Memory new = IsRefused state old id p 
 IsWriteAnswer state old id p level answer.Full new = IsRefused state old id p level new err.Full
 IsWriteAnswer state old id p level _ new = ⊥
 
--- a write went to the members of its shard
-pub record IsPut {D : Type 0} {G : Ghosts D} (state : D → DiskState) (old : Members D G) (id : CallId) (point : NamedPoint) (level : WriteLevel) (answered : Answer) (new : Members D G) : Type 0 where
+-- a write went to the members of its shard, by a placement that it may use
+pub record IsPut {D : Type 0} {G : Ghosts D} (state : D → DiskState) (old : Members D G) (id : CallId) (point : NamedPoint) (level : WriteLevel) (version : Option ℕ) (answered : Answer) (new : Members D G) : Type 0 where
   pub position : ℕ
   pub found : namespace_position point.ns (spaces_in old) ≡ Some position
-  pub answers : IsWriteAnswer state old.net id (placed point position) level answered new.net
+  pub answers : WentBy old version (λ before after. IsWriteAnswer state before id (placed point position) level answered after) new.net
   pub keeps : KeepsCluster old new
 
--- the namespace isn't there, or the write went to the members of its shard
-abbrev pub IsWritten : {D : Type 0} {G : Ghosts D} → (D → DiskState) → Members D G → CallId → NamedPoint → WriteLevel → Answer → Members D G → Type 0
-IsWritten state old id point level answered new =
-    ((namespace_position point.ns (spaces_in old) ≡ None) × (answered ≡ answer.Unknown point.ns) × (new ≡ old)) ⊎ IsPut state old id point level answered new
+-- no placement of the version is kept, where the namespace is there
+pub record IsOfNoVersion {D : Type 0} {G : Ghosts D} (old : Members D G) (ns : List ℕ) (version : Option ℕ) (answered : Answer) (new : Members D G) : Type 0 where
+  pub position : ℕ
+  pub found : namespace_position ns (spaces_in old) ≡ Some position
+  pub unkept : IsUnkept old.net.state.place old.past.items version answered
+  pub same : new ≡ old
+
+-- the namespace isn't there, or no placement of the version is kept; nothing changed
+abbrev pub IsMissing : {D : Type 0} {G : Ghosts D} → Members D G → List ℕ → Option ℕ → Answer → Members D G → Type 0
+IsMissing old ns version answered new = ((namespace_position ns (spaces_in old) ≡ None) × (answered ≡ answer.Unknown ns) × (new ≡ old)) ⊎ IsOfNoVersion old ns version answered new
+
+-- what the call names is missing, or the write went to the members of its shard
+abbrev pub IsWritten : {D : Type 0} {G : Ghosts D} → (D → DiskState) → Members D G → CallId → NamedPoint → WriteLevel → Option ℕ → Answer → Members D G → Type 0
+IsWritten state old id point level version answered new = IsMissing old point.ns version answered new ⊎ IsPut state old id point level version answered new
 
 -- ---- reads
 
@@ -79,15 +91,14 @@ IsReadAnswer state old id w level answer.Memory new = IsRefusedRead state old id
 IsReadAnswer state old id w level answer.Full new = IsRefusedRead state old id w level new err.Full
 IsReadAnswer state old id w level _ new = ⊥
 
--- the nodes that count were asked
-pub record IsReadServed {D : Type 0} {G : Ghosts D} (state : D → DiskState) (old : Members D G) (id : CallId) (ns : List ℕ) (pick : ℕ → Pick) (range : Range) (level : ReadLevel) (answered : Answer) (new : Members D G) : Type 0 where
+-- the nodes that count were asked, by a placement that the read may use
+pub record IsReadServed {D : Type 0} {G : Ghosts D} (state : D → DiskState) (old : Members D G) (id : CallId) (ns : List ℕ) (pick : ℕ → Pick) (range : Range) (level : ReadLevel) (version : Option ℕ) (answered : Answer) (new : Members D G) : Type 0 where
   pub position : ℕ
   pub found : namespace_position ns (spaces_in old) ≡ Some position
-  pub answers : IsReadAnswer state old.net id (wish (pick position) range) level answered new.net
+  pub answers : WentBy old version (λ before after. IsReadAnswer state before id (wish (pick position) range) level answered after) new.net
   pub keeps : KeepsCluster old new
   pub bag : new.net.bag ≡ old.net.bag
 
--- the namespace isn't there, or the nodes that count were asked
-abbrev pub IsFetchAnswer : {D : Type 0} {G : Ghosts D} → (D → DiskState) → Members D G → CallId → List ℕ → (ℕ → Pick) → Range → ReadLevel → Answer → Members D G → Type 0
-IsFetchAnswer state old id ns pick range level answered new =
-    ((namespace_position ns (spaces_in old) ≡ None) × (answered ≡ answer.Unknown ns) × (new ≡ old)) ⊎ IsReadServed state old id ns pick range level answered new
+-- what the call names is missing, or the nodes that count were asked
+abbrev pub IsFetchAnswer : {D : Type 0} {G : Ghosts D} → (D → DiskState) → Members D G → CallId → List ℕ → (ℕ → Pick) → Range → ReadLevel → Option ℕ → Answer → Members D G → Type 0
+IsFetchAnswer state old id ns pick range level version answered new = IsMissing old ns version answered new ⊎ IsReadServed state old id ns pick range level version answered new

@@ -29,6 +29,7 @@ pub record SetsRules {D : Type 0} {G : Ghosts D} (state : D → DiskState) (rule
   pub fates : new.net.fates ≡ old.net.fates
   pub bag : new.net.bag ≡ old.net.bag
   pub slots : new.slots.items ≡ old.slots.items
+  pub past : new.past.items ≡ old.past.items
   pub stopped : new.stopped.items ≡ old.stopped.items
 
 -- the list has no room for a Clock and its Ask, and nothing changed

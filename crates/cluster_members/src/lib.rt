@@ -3,10 +3,12 @@
 
 pub mod calls;
 mod clock;
+pub mod kept;
 pub mod members;
 pub mod rules;
 mod spaces;
 
 pub use calls::Range;
+pub use kept::unknown_number;
 pub use members::Members;
 pub use session_writes::deliver::deliver;

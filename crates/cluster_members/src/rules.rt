@@ -61,6 +61,7 @@ impl<D: Disk> Members<D> {
         requires sized { 0 < space.block }
         requires ready { IsReady self.old.net.state self.old.net.replicas self.old.net.bag }
         ensures ready { IsReady self.new.net.state self.new.net.replicas self.new.net.bag }
+        ensures past { self.new.past.items ≡ self.old.past.items }
         ensures named { IsSpaceAdded D.state self.old space result self.new }
     {
         let spaces = self.net.state.rules.spaces.as_slice();
@@ -88,6 +89,7 @@ impl<D: Disk> Members<D> {
         requires time { now < TIME_END }
         requires ready { IsReady self.old.net.state self.old.net.replicas self.old.net.bag }
         ensures ready { IsReady self.new.net.state self.new.net.replicas self.new.net.bag }
+        ensures past { self.new.past.items ≡ self.old.past.items }
         ensures moved { IsMoved D.state self.old now result self.new }
     {
         let moment = self.net.state.rules.now;

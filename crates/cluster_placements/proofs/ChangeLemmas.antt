@@ -1,10 +1,15 @@
 -- A line that makes a placement, by what each of its calls leaves.
-use Rattle.std.proofs.Common.{◌≡◌, ◌≢◌, ◌≤◌, ◌<◌, ◌+◌, ◌*◌, ◌-◌, ℕ, List, [], ◌∷◌, ◌++◌, length, refl, sym, ap, subst, ◌∙◌, inl, inr, arith, Bool, false, replicate, length-append, IsPermutation}
-use Rattle.std.specs.Prelude.{◌⊎◌, Option, Some, None, not}
+use Rattle.std.proofs.Common.{◌≡◌, ◌≢◌, ◌≤◌, ◌<◌, ◌+◌, ◌*◌, ◌-◌, ℕ, suc, Vec, Global, List, [], ◌∷◌, ◌++◌, length, refl, sym, ap, subst, ◌∙◌, inl, inr, arith, Bool, true, false, replicate, length-append, IsPermutation}
+use Rattle.std.specs.Prelude.{◌⊎◌, ⊤, Option, Some, None, Result, Ok, Err, OnOk, is_err, not, ◌&&◌, nat_le, vec_len}
 use Rattle.std.specs.FinMap.{get}
+use Rattle.std.specs.List.{Any}
+use Rattle.std.specs.Option.{option_or}
+use Rattle.std.specs.Vec.{vec_capacity}
+use Rattle.std.proofs.lemmas.Bool.{leb-false}
 use Rattle.std.proofs.lemmas.List.{length-replicate}
 use Rattle.m3_model.specs.Members.{IsIn}
 use Rattle.m3_model.specs.declared.act.Act.{Act}
+use Rattle.m3_model.specs.declared.act.Act.TheVariants as act
 use Rattle.m3_model.specs.declared.answer.Answer.{Answer}
 use Rattle.m3_model.specs.declared.answer.Answer.TheVariants as answer
 use Rattle.m3_model.specs.declared.placement.Instance.{Instance}
@@ -17,6 +22,8 @@ use Rattle.m3_outside.specs.Slots.{Held}
 use Rattle.m3_outside.specs.declared.disk.Disk.{Ghosts}
 use Rattle.m3_outside.specs.declared.slot.DiskSlot.{DiskSlot}
 use Rattle.net_plan.specs.declared.late_write.LateWrite.{LateWrite}
+use Rattle.m3_model.specs.declared.limits.TheConstants.{MOST_VERSIONS}
+use Rattle.placement_acts.specs.Acts.{answer_if, is_step_act, refusal_by_names, refusal_due, versions_due}
 use Rattle.placement_core.specs.Lawful.{IsLawful}
 use Rattle.placement_core.specs.Shards.{nodes_of, shard_at}
 use Rattle.placement_core.specs.Steps.{IsStep, KeepsNames}
@@ -27,7 +34,7 @@ use Rattle.transcripts.specs.Placements.{has_replica}
 use Rattle.replica_exchange.specs.MachineCalls.{HasRoom}
 use Rattle.replica_exchange.specs.declared.slot.Slot.{Slot}
 use Rattle.replica_calls.specs.Calls.{Tracked, first_member}
-use Rattle.session_net.specs.Ready.{IsReady}
+use Rattle.session_net.specs.Ready.{IsCallable, IsReady, Places}
 use Rattle.session_net.specs.Runs.{Ran, slot_at, steps_of}
 use Rattle.session_net.proofs.ReadyLemmas.{room_after}
 use Rattle.cluster_members.specs.declared.members.Members.{Members}
@@ -40,7 +47,7 @@ use Rattle.first_cluster.proofs.FirstLemmas.{node_slot}
 use Rattle.first_cluster.proofs.SlotLists.{in_or_out, slot_instance, slot_replica}
 use Rattle.cluster_placements.specs.Lending.{HaveGained, HaveReturned, IsUntakenAt}
 use Rattle.cluster_placements.specs.Slots.{AreSlotsIn, left_slots, new_slots}
-use Rattle.cluster_placements.specs.Steps.{FitsNext, IsAsItWas, IsChange, IsChanged, IsMade, MakesNext, MayBeMade, MayChange, place_events, step_events, step_length}
+use Rattle.cluster_placements.specs.Steps.{FitsNext, IsAsItWas, IsChange, IsChanged, IsMade, MakesNext, MayBeMade, MayChange, kept_in, place_events, step_events, step_length}
 use Rattle.cluster_placements.specs.declared.plan.Change.{Change}
 use Rattle.cluster_placements.proofs.HasLemmas.{any_in}
 use Rattle.cluster_placements.proofs.HeldLemmas.{manned_then, out_still, out_then, unstepped_then}
@@ -110,6 +117,15 @@ module _ {D : Type 0} (state : D → DiskState) (depot after : Depot D) (meta : 
     late = λ one i. let sent = ready.late one i in record { sent = subst (λ events. HasSend events one.version one.shard one.point) (sym same) sent.sent; there = had_still (slot_at one.node one.shard) sent.there };
   }
 
+  pub callable_gained : (was : MetaState) → IsCallable was replicas bag → IsCallable was gained bag
+  callable_gained was before = record {
+    clock = ap last_clock same ∙ before.clock;
+    place = subst (Any (Places was.place)) (sym same) before.place;
+    lawful = before.lawful;
+    there = λ n s i. had_still (slot_at n s) (before.there n s i);
+    late = ready_gained.late;
+  }
+
   none_or : (s : Slot) → (get replicas.members s ≡ None) ⊎ (get replicas.members s ≢ None)
   none_or s = by (get replicas.members s)
     where
@@ -123,11 +139,40 @@ module _ {D : Type 0} (state : D → DiskState) (depot after : Depot D) (meta : 
     | inr there ↦ had_still (slot_at n s) there
   ]
 
+second_none : (a b : Option Answer) → option_or a b ≡ None → b ≡ None
+second_none None b e = e
+second_none (Some x) b e = cc
+
+by_steps : (kept : ℕ) (place : Placement) (a : Act) → is_step_act a ≡ true → refusal_due (Some place) kept a ≡ option_or (refusal_by_names place a) (versions_due kept a)
+by_steps kept place (act.Init rf shards seed nodes) step = cc
+by_steps kept place _ step = refl
+
+-- the limit of versions isn't reached, where an act leads on
+below_limit : (kept : ℕ) (place : Placement) (a : Act) → is_step_act a ≡ true → refusal_due (Some place) kept a ≡ None → kept < MOST_VERSIONS
+below_limit kept place a step free = by (nat_le MOST_VERSIONS kept) refl
+  where
+    none : versions_due kept a ≡ None
+    none = second_none (refusal_by_names place a) (versions_due kept a) (sym (by_steps kept place a step) ∙ free)
+
+    by : (t : Bool) → nat_le MOST_VERSIONS kept ≡ t → kept < MOST_VERSIONS
+    by false e = leb-false MOST_VERSIONS kept e
+    by true e = let due : Some (answer.Limit MOST_VERSIONS) ≡ None = sym (ap (λ t. answer_if t (answer.Limit MOST_VERSIONS)) (ap (λ t. t && nat_le MOST_VERSIONS kept) step ∙ e)) ∙ none in cc
+
+-- there is room for one more, where room was taken for it
+pub spare_room : {E : Type 0} (past : Vec Placement Global) (taken : Result ⊤ E) → is_err taken ≡ false → OnOk taken (vec_len past + 1 ≤ vec_capacity past) → vec_len past < vec_capacity past
+spare_room past (Ok u) is room = omega (arith, room)
+spare_room past (Err e) is room = cc
+
 -- with its new replicas the placement may be made, where there is room for its events
-pub may_make : {D : Type 0} {G : Ghosts D} (state : D → DiskState) (kept : ℕ) (a : Act) (depot after : Depot D) (old mid : Members D G) (change : Change) → IsChange old kept a change → MayChange old depot.held
-    → HaveGained state (new_slots old.net.replicas.members change.next) depot old.net.replicas.members after mid.net.replicas.members → mid.net.replicas.events ≡ old.net.replicas.events → mid.net.state ≡ old.net.state → mid.net.bag ≡ old.net.bag
+pub may_make : {D : Type 0} {G : Ghosts D} (state : D → DiskState) (a : Act) (depot after : Depot D) (old mid : Members D G) (change : Change) → IsChange old (kept_in old) a change → is_step_act a ≡ true → MayChange old depot.held
+    → vec_len mid.past < vec_capacity mid.past → mid.past.items ≡ old.past.items → HaveGained state (new_slots old.net.replicas.members change.next) depot old.net.replicas.members after mid.net.replicas.members → mid.net.replicas.events ≡ old.net.replicas.events → mid.net.state ≡ old.net.state → mid.net.bag ≡ old.net.bag
     → HasRoom (step_length change.left.items) old.net.replicas.events → MayBeMade mid change
-may_make state kept a depot after old mid change is may have same state_same bag_same room = record {
+may_make state a depot after old mid change is step may spare past_same have same state_same bag_same room = record {
+  serves = λ p i. subst (λ (meta : MetaState). IsCallable (record meta { place = p }) mid.net.replicas mid.net.bag) (sym state_same)
+      (subst (λ bag. IsCallable (record old.net.state { place = p }) mid.net.replicas bag) (sym bag_same)
+      (callable_gained state depot after old.net.state old.net.replicas mid.net.replicas old.net.bag change.next may.ready have same (record old.net.state { place = p }) (may.serves p (subst (λ xs. IsIn xs p) past_same i))));
+  few_past = subst (λ (xs : List Placement). suc (length xs) < MOST_VERSIONS) (sym past_same) (below_limit (kept_in old) old.net.state.place a step is.leads.leads.free);
+  past_room = spare;
   ready = subst (λ (meta : MetaState). IsReady meta mid.net.replicas mid.net.bag) (sym state_same)
       (subst (λ bag. IsReady old.net.state mid.net.replicas bag) (sym bag_same) (ready_gained state depot after old.net.state old.net.replicas mid.net.replicas old.net.bag change.next may.ready have same));
   lawful = is.leads.lawful;
@@ -143,7 +188,7 @@ may_make state kept a depot after old mid change is may have same state_same bag
 
 module _ {D : Type 0} {G : Ghosts D} (state : D → DiskState) (kept : ℕ) (a : Act) (depot after : Depot D) (old mid new : Members D G) (change : Change) (answered : Answer) (made : IsMade state mid change answered new)
     (is : IsChange old kept a change) (have : HaveGained state (new_slots old.net.replicas.members change.next) depot old.net.replicas.members after mid.net.replicas.members) (same : mid.net.replicas.events ≡ old.net.replicas.events) (state_same : mid.net.state ≡ old.net.state)
-    (fates_same : mid.net.fates ≡ old.net.fates) (bag_same : mid.net.bag ≡ old.net.bag) where
+    (past_same : mid.past.items ≡ old.past.items) (fates_same : mid.net.fates ≡ old.net.fates) (bag_same : mid.net.bag ≡ old.net.bag) where
   ran_on : Ran state (record { members = mid.net.replicas.members; events = old.net.replicas.events }) (step_events change.next (left_slots old.net.state.place change.next)) new.net.replicas
   ran_on =
       subst (λ left. Ran state (record { members = mid.net.replicas.members; events = old.net.replicas.events }) (step_events change.next left) new.net.replicas) is.fitted.left_are
@@ -165,6 +210,7 @@ module _ {D : Type 0} {G : Ghosts D} (state : D → DiskState) (kept : ℕ) (a :
       gained = have;
       ran = ran_on;
       state_is = state_then;
+      past = made.past ∙ ap (λ (xs : List Placement). xs ++ mid.net.state.place ∷ []) past_same ∙ ap (λ (meta : MetaState). old.past.items ++ meta.place ∷ []) state_same;
       fates = made.fates ∙ fates_same;
       bag = made.bag ∙ bag_same;
       fits = fits_then;
@@ -177,6 +223,7 @@ module _ {D : Type 0} {G : Ghosts D} (state : D → DiskState) (kept : ℕ) (a :
   pub may_again : MayChange old depot.held → MayChange new after.held
   may_again may = record {
     ready = made.ready;
+    serves = made.serves;
     slots = subst (λ (place : Placement). AreSlotsIn place new.slots.items) (sym (ap (λ (meta : MetaState). meta.place) state_then))
         (slots_then old.net.replicas.members old.net.state.place change.next old.slots.items new.slots.items is.leads.lawful is.leads.step may.slots may.manned all_slots);
     out = out_then state (new_slots old.net.replicas.members change.next) old.slots.items new.slots.items depot after old.net.replicas.members mid.net.replicas.members old.net.replicas.events new.net.replicas
@@ -190,14 +237,16 @@ module _ {D : Type 0} {G : Ghosts D} (state : D → DiskState) (kept : ℕ) (a :
 -- ---- where no disk could be taken
 
 -- the cluster is as it was, with the same replicas
-pub as_it_was : {D : Type 0} {G : Ghosts D} (old new : Members D G) → new.net.state ≡ old.net.state → new.net.replicas ≡ old.net.replicas → new.net.fates ≡ old.net.fates → new.net.bag ≡ old.net.bag → new.slots.items ≡ old.slots.items → new.stopped.items ≡ old.stopped.items
+pub as_it_was : {D : Type 0} {G : Ghosts D} (old new : Members D G) → new.net.state ≡ old.net.state → new.past.items ≡ old.past.items → new.net.replicas ≡ old.net.replicas → new.net.fates ≡ old.net.fates → new.net.bag ≡ old.net.bag → new.slots.items ≡ old.slots.items → new.stopped.items ≡ old.stopped.items
     → IsAsItWas old new
-as_it_was old new state_is replicas fates bag slots stopped = record { state_is = state_is; replicas = replicas; fates = fates; bag = bag; slots = slots; stopped = stopped }
+as_it_was old new state_is past replicas fates bag slots stopped = record { state_is = state_is; past = past; replicas = replicas; fates = fates; bag = bag; slots = slots; stopped = stopped }
 
 module _ {D : Type 0} {G : Ghosts D} (state : D → DiskState) (kept : ℕ) (a : Act) (depot after : Depot D) (old new : Members D G) (same : IsAsItWas old new) (taken : List Slot) (returned : HaveReturned state taken depot after) where
   pub may_still : MayChange old depot.held → MayChange new after.held
   may_still may = record {
     ready = subst (λ (meta : MetaState). IsReady meta new.net.replicas new.net.bag) (sym same.state_is) (subst (λ (t : Tracked D). IsReady old.net.state t new.net.bag) (sym same.replicas) (subst (λ bag. IsReady old.net.state old.net.replicas bag) (sym same.bag) may.ready));
+    serves = λ p i. subst (λ (meta : MetaState). IsCallable (record meta { place = p }) new.net.replicas new.net.bag) (sym same.state_is) (subst (λ (t : Tracked D). IsCallable (record old.net.state { place = p }) t new.net.bag) (sym same.replicas)
+        (subst (λ bag. IsCallable (record old.net.state { place = p }) old.net.replicas bag) (sym same.bag) (may.serves p (subst (λ xs. IsIn xs p) same.past i))));
     slots = subst (λ (meta : MetaState). AreSlotsIn meta.place new.slots.items) (sym same.state_is) (subst (λ slots. AreSlotsIn old.net.state.place slots) (sym same.slots) may.slots);
     out = subst (λ (t : Tracked D). AreOut new.slots.items t.members after.held) (sym same.replicas)
         (subst (λ slots. AreOut slots old.net.replicas.members after.held) (sym same.slots) (out_still state old.slots.items old.net.replicas.members depot after may.out taken returned));

@@ -222,6 +222,7 @@ module _ {D : Type 0} (state : D → DiskState) where
             | inl same ↦ subst (IsSameAt old new) (sym same) (same_by may.at may.none left_.1 (given.each may.at))
             | inr other ↦ of_other t out other
           ];
+          later = (let first = may.later in let next = given.later in omega (arith, first, next));
           rose = rose_to old.faults mid.faults new.faults left_.2 given.later;
         }
 

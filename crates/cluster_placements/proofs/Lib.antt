@@ -1,9 +1,9 @@
-mod ChangeLemmas
+pub mod ChangeLemmas
 mod FewLemmas
 mod GainLemmas
 mod HasLemmas
 mod HeldLemmas
 mod ListedLemmas
-mod OrderLemmas
+pub mod OrderLemmas
 pub mod PlacedLemmas
 mod PlaceLemmas

@@ -8,6 +8,7 @@ use Rattle.m3_model.specs.Members.{IsIn}
 use Rattle.m3_model.specs.declared.placement.Instance.{Instance}
 use Rattle.m3_model.specs.declared.placement.Placement.{Placement}
 use Rattle.m3_model.specs.declared.rules.MetaState.{MetaState}
+use Rattle.m3_model.specs.declared.rules.Rules.{Rules}
 use Rattle.m3_model.proofs.MemberLemmas.{IsIn-append_cases}
 use Rattle.m3_outside.specs.DiskState.{DiskState}
 use Rattle.net_plan.specs.declared.late_write.LateWrite.{LateWrite}
@@ -31,9 +32,9 @@ use Rattle.replica_exchange.specs.declared.call_err.CallErr.{CallErr}
 use Rattle.replica_exchange.specs.declared.slot.Slot.{Slot}
 use Rattle.replica_calls.specs.Calls.{MayCall, Tracked}
 use Rattle.replica_calls.specs.Slots.{MemberMap}
-use Rattle.session_net.specs.Ready.{IsReady}
+use Rattle.session_net.specs.Ready.{IsCallable, IsReady, Places}
 use Rattle.session_net.specs.Runs.{Ran, Step, slot_at, step_in, steps_of}
-use Rattle.session_net.proofs.ReadyLemmas.{AreQuiet, any_after, ready_after, there_after}
+use Rattle.session_net.proofs.ReadyLemmas.{AreQuiet, any_after, may_call, ready_after, there_after}
 use Rattle.node_calls.proofs.ListLemmas.{filter_few}
 use Rattle.node_calls.proofs.RunLemmas.{quiet_exchange, quiet_flat, ran_ok}
 use Rattle.first_cluster.specs.Slots.{AreApart, slots_of}
@@ -66,6 +67,32 @@ ready_placed {D} disk meta later old mid new bag next left was lawful there plac
       there = λ n s m. there_after disk old mid (place_events next) (slot_at n s) placed (there n s m);
       late = λ one m. let sent = was.late one m in record { sent = any_after disk (IsSend one.version one.shard one.point) old mid (place_events next) placed sent.sent; there = there_after disk old mid (place_events next) (slot_at one.node one.shard) placed sent.there };
     }
+
+-- and they still may by each that they could go by before
+pub callable_placed : {D : Type 0} (disk : D → DiskState) (later was : MetaState) (old mid new : Tracked D) (bag : List LateWrite) (next : Placement) (left : List Slot) → IsCallable was old bag → Ran disk old (place_events next) mid → Ran disk mid (flat_map end_at left) new
+    → IsReady later new bag → later.rules ≡ was.rules → IsCallable was new bag
+callable_placed disk later was old mid new bag next left before placed ended ready same = record {
+  clock = ready.clock ∙ ap (λ (rules : Rules). Some rules) same;
+  place = any_after disk (Places was.place) mid new (flat_map end_at left) ended (any_after disk (Places was.place) old mid (place_events next) placed before.place);
+  lawful = before.lawful;
+  there = λ n s m. there_after disk mid new (flat_map end_at left) (slot_at n s) ended (there_after disk old mid (place_events next) (slot_at n s) placed (before.there n s m));
+  late = ready.late;
+}
+
+-- so does the one that stood
+pub serves_placed : {D : Type 0} (disk : D → DiskState) (meta later : MetaState) (old mid new : Tracked D) (bag : List LateWrite) (past kept : List Placement) (next : Placement) (left : List Slot) → IsReady meta old bag → ((p : Placement) → IsIn past p → IsCallable (record meta { place = p }) old bag)
+    → Ran disk old (place_events next) mid → Ran disk mid (flat_map end_at left) new → IsReady later new bag → later ≡ record meta { place = next } → kept ≡ past ++ meta.place ∷ [] → (p : Placement) → IsIn kept p → IsCallable (record later { place = p }) new bag
+serves_placed disk meta later old mid new bag past kept next left was serves placed ended ready is all p i =
+    subst (λ (m : MetaState). IsCallable (record m { place = p }) new bag) (sym is) (callable_placed disk later (record meta { place = p }) old mid new bag next left before placed ended ready (ap (λ (m : MetaState). m.rules) is))
+  where
+    before : IsCallable (record meta { place = p }) old bag
+    before = elim (IsIn-append_cases past (meta.place ∷ []) p (subst (λ xs. IsIn xs p) all i)) as (λ _. IsCallable (record meta { place = p }) old bag) [
+      | inl earlier ↦ serves p earlier
+      | inr last ↦ elim last as (λ _. IsCallable (record meta { place = p }) old bag) [
+        | inl same ↦ subst (λ (q : Placement). IsCallable (record meta { place = q }) old bag) same (may_call meta old bag was)
+        | inr none ↦ absurd none
+      ]
+    ]
 
 -- an end of a tenure is never refused, where the replica is there and there is room
 pub end_done : {D : Type 0} (state : D → DiskState) (slot : Slot) (result : Result ⊤ CallErr) (old new : Tracked D) → get old.members slot ≢ None → HasRoom 2 old.events

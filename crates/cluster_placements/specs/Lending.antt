@@ -46,6 +46,7 @@ pub record IsUntakenAt {D : Type 0} (state : D → DiskState) (slots : List Slot
   pub parts : slots ≡ first ++ slot ∷ rest
   pub back : (s : Slot) → IsIn first s → IsReturned state old new s
   pub others : (s : Slot) → ¬ IsIn first s → IsSameAt old new s
+  pub later : old.faults ≤ new.faults
   pub rose : Rose old.faults new.faults
 
 -- why the disks of these slots weren't all taken: one couldn't be, or memory was wanted

@@ -1,13 +1,14 @@
 -- Lines that make a placement: what a cluster that stands answers, and what that leaves of it and of the disks that it doesn't have.
-use Rattle.std.specs.Prelude.{◌≡◌, ◌≢◌, ◌⊎◌, ℕ, suc, ◌≤◌, ◌-◌, ◌+◌, ◌*◌, List, [], ◌∷◌, ◌++◌, length, Some, None, Bool, false, replicate, slice_get}
+use Rattle.std.specs.Prelude.{◌≡◌, ◌≢◌, ◌⊎◌, ℕ, suc, ◌≤◌, ◌<◌, ◌-◌, ◌+◌, ◌*◌, List, [], ◌∷◌, ◌++◌, length, Some, None, Bool, false, replicate, slice_get, vec_len}
 use Rattle.std.specs.FinMap.{get}
 use Rattle.std.specs.List.{flat_map}
 use Rattle.std.specs.List.Sorted.{IsPermutation, IsSorted}
+use Rattle.std.specs.Vec.{vec_capacity}
 use Rattle.m3_model.specs.Members.{IsIn}
 use Rattle.m3_model.specs.declared.act.Act.{Act}
 use Rattle.m3_model.specs.declared.answer.Answer.{Answer}
 use Rattle.m3_model.specs.declared.answer.Answer.TheVariants as answer
-use Rattle.m3_model.specs.declared.limits.TheConstants.{MOST_NODES, MOST_SHARDS}
+use Rattle.m3_model.specs.declared.limits.TheConstants.{MOST_NODES, MOST_SHARDS, MOST_VERSIONS}
 use Rattle.m3_model.specs.declared.placement.Instance.{Instance}
 use Rattle.m3_model.specs.declared.placement.Placement.{Placement}
 use Rattle.m3_outside.specs.Depots.{Depot}
@@ -30,6 +31,7 @@ use Rattle.replica_calls.specs.Slots.{MemberMap, slot_cmp}
 use Rattle.session_net.specs.Messages.{exchange}
 use Rattle.session_net.specs.Ready.{IsReady}
 use Rattle.session_net.specs.Runs.{Ran, slot_at, steps_of}
+use Rattle.cluster_members.specs.Kept.{PastServes}
 use Rattle.cluster_members.specs.declared.members.Members.{Members}
 use Rattle.node_calls.specs.Halts.{AreManned}
 use Rattle.first_cluster.specs.Depots.{AreOut}
@@ -57,14 +59,15 @@ step_length left = 2 + 2 * length left
 
 -- ---- what a line needs
 
--- so many versions are kept from the oldest on
-abbrev pub kept_from : ℕ → Placement → ℕ
-kept_from oldest place = suc place.version - oldest
+-- so many placements are kept, with the one that stands
+abbrev pub kept_in : {D : Type 0} {G : Ghosts D} → Members D G → ℕ
+kept_in m = suc (length m.past.items)
 
--- Calls may be made; the slots are those of replicas, whose disks alone are out; each is one of the placement's nodes and shards; and a slot without a replica has
+-- Calls may be made, by each placement that is kept; the slots are those of replicas, whose disks alone are out; each is one of the placement's nodes and shards; and a slot without a replica has
 -- no step in the list.
 pub record MayChange {D : Type 0} {G : Ghosts D} (m : Members D G) (held : DiskSlot → Held D) : Type 0 where
   pub ready : IsReady m.net.state m.net.replicas m.net.bag
+  pub serves : PastServes m
   pub slots : AreSlotsIn m.net.state.place m.slots.items
   pub out : AreOut m.slots.items m.net.replicas.members held
   pub manned : AreManned m.slots.items m.net.replicas
@@ -98,12 +101,13 @@ pub record IsChange {D : Type 0} {G : Ghosts D} (m : Members D G) (kept : ℕ) (
 -- ---- what a line leaves
 
 -- The next placement stands: over the disk of each slot that had none stands a replica that never began; the list has the placement, and the tenures of the
--- replicas end that it takes away; the slots are those of all replicas, and nodes that are stopped stay so.
+-- replicas end that it takes away; the one before it is kept; the slots are those of all replicas, and nodes that are stopped stay so.
 pub record IsPlaced {D : Type 0} {G : Ghosts D} (state : D → DiskState) (depot : Depot D) (old : Members D G) (next : Placement) (after : Depot D) (new : Members D G) : Type 0 where
   pub made : MemberMap D
   pub gained : HaveGained state (new_slots old.net.replicas.members next) depot old.net.replicas.members after made
   pub ran : Ran state (record { members = made; events = old.net.replicas.events }) (step_events next (left_slots old.net.state.place next)) new.net.replicas
   pub state_is : new.net.state ≡ record old.net.state { place = next }
+  pub past : new.past.items ≡ old.past.items ++ old.net.state.place ∷ []
   pub fates : new.net.fates ≡ old.net.fates
   pub bag : new.net.bag ≡ old.net.bag
   pub fits : FitsNext old next new.slots.items new.stopped.items
@@ -111,6 +115,7 @@ pub record IsPlaced {D : Type 0} {G : Ghosts D} (state : D → DiskState) (depot
 -- the cluster is as it was
 pub record IsAsItWas {D : Type 0} {G : Ghosts D} (old new : Members D G) : Type 0 where
   pub state_is : new.net.state ≡ old.net.state
+  pub past : new.past.items ≡ old.past.items
   pub replicas : new.net.replicas ≡ old.net.replicas
   pub fates : new.net.fates ≡ old.net.fates
   pub bag : new.net.bag ≡ old.net.bag
@@ -168,9 +173,12 @@ IsChanged state kept a depot old answered after new =
 
 -- ---- within a line
 
--- the replicas of new slots are made, and there is room for the events
+-- the replicas of new slots are made, and there is room for the placement that stands among those before, and for the events
 pub record MayBeMade {D : Type 0} {G : Ghosts D} (m : Members D G) (change : Change) : Type 0 where
   pub ready : IsReady m.net.state m.net.replicas m.net.bag
+  pub serves : PastServes m
+  pub few_past : kept_in m < MOST_VERSIONS
+  pub past_room : vec_len m.past < vec_capacity m.past
   pub lawful : IsLawful change.next
   pub step : IsStep m.net.state.place change.next []
   pub left_are : change.left.items ≡ left_slots m.net.state.place change.next
@@ -179,10 +187,12 @@ pub record MayBeMade {D : Type 0} {G : Ghosts D} (m : Members D G) (change : Cha
   pub flags : length change.stopped.items ≡ length change.next.instances
   pub room : HasRoom (step_length change.left.items) m.net.replicas.events
 
--- the placement stands
+-- the placement stands, and the one before it is kept
 pub record IsMade {D : Type 0} {G : Ghosts D} (state : D → DiskState) (old : Members D G) (change : Change) (answered : Answer) (new : Members D G) : Type 0 where
   pub answer_is : answered ≡ answer.Placed change.printed change.printed.version
   pub ready : IsReady new.net.state new.net.replicas new.net.bag
+  pub serves : PastServes new
+  pub past : new.past.items ≡ old.past.items ++ old.net.state.place ∷ []
   pub ran : Ran state old.net.replicas (step_events change.next change.left.items) new.net.replicas
   pub state_is : new.net.state ≡ record old.net.state { place = change.next }
   pub fates : new.net.fates ≡ old.net.fates

@@ -1,11 +1,11 @@
 //! Lines that make a placement.
-ghost use Rattle.std.specs.Prelude.{◌≡◌, ◌≤◌, ◌<◌, ◌+◌, ◌*◌, suc, true, length};
+ghost use Rattle.std.specs.Prelude.{◌≡◌, ◌<◌, ◌+◌, ◌*◌, true, length};
 ghost use Rattle.m3_model.specs.Limits.{MeetsLimits};
 ghost use Rattle.placement_acts.specs.Acts.{is_step_act};
 ghost use Rattle.replica_exchange.specs.MachineCalls.{HasRoom};
 ghost use Rattle.first_cluster.specs.Depots.{depot_by};
 ghost use Rattle.first_cluster.specs.First.{IsDiskAnswer};
-ghost use Rattle.cluster_placements.specs.Steps.{IsChanged, IsMade, MayBeMade, MayChange, kept_from};
+ghost use Rattle.cluster_placements.specs.Steps.{IsChanged, IsMade, MayBeMade, MayChange, kept_in};
 
 use crate::events::{end_all, place};
 use crate::lending::gain;
@@ -33,7 +33,8 @@ fn untaken(alloc: Global, place: &Placement, slot: Slot) -> Answer
     }
 }
 
-// The cluster with the placement, whose new replicas stand: the list has it, and the tenures end that it takes away. Takes no memory.
+// The cluster with the placement, whose new replicas stand: the list has it, the one before it is kept, and the tenures end that it takes
+// away. Takes no memory.
 fn make<D: Disk>(members: &mut Members<D>, change: Change) -> Answer
     requires { MayBeMade members.old change }
     ensures { IsMade D.state members.old change result members.new }
@@ -48,7 +49,8 @@ fn make<D: Disk>(members: &mut Members<D>, change: Change) -> Answer
     } = change;
     place(&mut members.net.replicas, &next);
     end_all(&mut members.net.replicas, left.as_slice());
-    drop(replace(&mut members.net.state.place, next));
+    let stood = replace(&mut members.net.state.place, next);
+    members.past.push_reserved(stood);
     drop(replace(&mut members.slots, slots));
     drop(replace(&mut members.stopped, stopped));
     let version = printed.version;
@@ -60,8 +62,7 @@ fn make<D: Disk>(members: &mut Members<D>, change: Change) -> Answer
 
 /// Serves the line of an `add`, `drain`, `cancel`, `remove` or `replace`: the placement that the planning rules lead to stands
 /// then, with a replica at Boot over the disk of each slot that had none, the tenures of replicas that it takes away are ended, and it is
-/// answered with its version. Nodes that are stopped stay so, also one that is named again. The run opened with the oldest version, or made
-/// it first; from it on all versions are kept.
+/// answered with its version. The placement before it is kept. Nodes that are stopped stay so, also one that is named again.
 ///
 /// Refused: as the planning rules say; `Full` where the list has no room for the placement and the ends of tenures; `Disk` with the node
 /// and the shard whose disk couldn't be taken; or want of memory. The cluster is then as it was, and each disk that was taken for the line
@@ -72,17 +73,15 @@ pub fn change_placement<D: Disk, X: Disks<D = D>>(
     members: &mut Members<D>,
     alloc: Global,
     disks: &mut X,
-    oldest: u64,
     act: &Act,
 ) -> Answer
     requires step { is_step_act act.now ≡ true }
     requires limits { MeetsLimits act.now }
-    requires oldest { oldest ≤ suc members.old.net.state.place.version }
     requires may { MayChange members.old (X.held disks.old) }
     ensures may { MayChange members.new (X.held disks.new) }
-    ensures changed { IsChanged D.state (kept_from oldest members.old.net.state.place) act.now (depot_by X.held X.counted X.all_faults disks.old) members.old result (depot_by X.held X.counted X.all_faults disks.new) members.new }
+    ensures changed { IsChanged D.state (kept_in members.old) act.now (depot_by X.held X.counted X.all_faults disks.old) members.old result (depot_by X.held X.counted X.all_faults disks.new) members.new }
 {
-    let change = match planned(alloc, members, oldest, act) {
+    let change = match planned(alloc, members, act) {
         Ok(change) => change,
         Err(refused) => return refused,
     };
@@ -92,6 +91,9 @@ pub fn change_placement<D: Disk, X: Disks<D = D>>(
         .has_room(2 + 2 * change.left.len() as u64)
     {
         return Answer::Full;
+    }
+    if members.past.try_reserve(1).is_err() {
+        return Answer::Memory;
     }
     match gain(
         alloc,

@@ -1,12 +1,12 @@
 //! What a line is to make, before it takes any disk.
-ghost use Rattle.std.specs.Prelude.{◌≡◌, ◌≤◌, suc, true, IfOk, IfErr, Some, length};
+ghost use Rattle.std.specs.Prelude.{◌≡◌, ◌≤◌, true, IfOk, IfErr, Some, length};
 ghost use Rattle.std.specs.FinMap as finite;
 ghost use Rattle.m3_model.specs.Limits.{MeetsLimits};
 ghost use Rattle.placement_acts.specs.Acts.{LeadsNowhere, is_step_act};
 ghost use Rattle.placement_core.specs.Lawful.{IsLawful};
 ghost use Rattle.placement_core.specs.Steps.{KeepsNames};
 ghost use Rattle.cluster_placements.specs.Slots.{new_slots, left_slots};
-ghost use Rattle.cluster_placements.specs.Steps.{IsChange, IsFitted, kept_from};
+ghost use Rattle.cluster_placements.specs.Steps.{IsChange, IsFitted, kept_in};
 
 use crate::flags::with_nodes;
 use crate::slots::{left_out, slots_of, together, unmanned};
@@ -62,18 +62,16 @@ fn fitted<D: Disk>(alloc: Global, members: &Members<D>, next: Placement) -> Resu
 pub(crate) fn planned<D: Disk>(
     alloc: Global,
     members: &Members<D>,
-    oldest: u64,
     act: &Act,
 ) -> Result<Change, Answer>
     requires lawful { IsLawful members.now.net.state.place }
     requires step { is_step_act act.now ≡ true }
     requires limits { MeetsLimits act.now }
-    requires oldest { oldest ≤ suc members.now.net.state.place.version }
-    ensures change { IfOk result (IsChange members.now (kept_from oldest members.now.net.state.place) act.now) }
-    ensures refused { IfErr result (LeadsNowhere (Some members.now.net.state.place) (kept_from oldest members.now.net.state.place) act.now) }
+    ensures change { IfOk result (IsChange members.now (kept_in members.now) act.now) }
+    ensures refused { IfErr result (LeadsNowhere (Some members.now.net.state.place) (kept_in members.now) act.now) }
 {
     let place = &members.net.state.place;
-    let kept = (place.version + 1 - oldest) as usize;
+    let kept = members.past.len() + 1;
     let next = next_placement(alloc, place, kept, act)?;
     match fitted(alloc, members, next) {
         Ok(change) => Ok(change),

@@ -1,5 +1,5 @@
 -- Lines that bootstrap a node.
-use Rattle.std.proofs.Common.{◌≡◌, ◌*◌, ℕ, List, length, refl, sym, subst, inl, inr, arith, Bool, true, false}
+use Rattle.std.proofs.Common.{◌≡◌, ◌*◌, ℕ, List, length, refl, ap, sym, subst, inl, inr, arith, Bool, true, false}
 use Rattle.std.specs.Prelude.{Option, Some, None}
 use Rattle.m3_model.specs.declared.act.Act.{Act}
 use Rattle.m3_model.specs.declared.act.Act.TheVariants as act
@@ -8,6 +8,7 @@ use Rattle.m3_model.specs.declared.answer.Answer.TheVariants as answer
 use Rattle.m3_model.specs.declared.reason.Reason.{Reason}
 use Rattle.m3_model.specs.declared.reason.Reason.TheVariants as reason
 use Rattle.m3_model.specs.declared.turn.Turn.{Turn}
+use Rattle.m3_model.specs.declared.rules.MetaState.{MetaState}
 use Rattle.m3_outside.specs.Depots.{Depot}
 use Rattle.m3_outside.specs.DiskState.{DiskState, IsLawfulDisk}
 use Rattle.m3_outside.specs.declared.disk.Disk.{Ghosts}
@@ -45,13 +46,13 @@ module _ {D : Type 0} {G : Ghosts D} (state : D → DiskState) (lawful : (d : D)
 
     -- a replica couldn't begin
     held_on : (b : Answer) (g : Members D G) (shard : ℕ) (why : Reason) → IsLeft tells g → IsHeldUp state m name asked shard why g → LeavesBegun state tells None turns m boot b g → IsTracked state m tells first now turns calls go boot b g
-    held_on b g shard why left h leaves = begun_on state m tells first now turns calls go lawful boot b g h.begins left (free_boot asked b h.may) leaves h.keeps.keeps.slots h.ran
+    held_on b g shard why left h leaves = begun_on state m tells first now turns calls go lawful boot b g h.begins left (free_boot asked b h.may) leaves h.keeps.keeps.slots h.keeps.keeps.past (ap (λ (s : MetaState). s.place) h.keeps.keeps.state) h.ran
 
     pub boot_on : (b : Answer) (g : Members D G) → IsLeft tells g → IsBootstrapAnswer state m name asked b g → IsTracked state m tells first now turns calls go boot b g
     boot_on (answer.Available available place version) g left (none, is, version_is, h) =
         let b : Answer = answer.Available available place version in
         let leaves = available_tells state m tells None turns g name asked available place version (so state m tells first now turns calls go).stands (may_begin state m tells first now turns calls go lawful) (none, is, version_is, h) in
-        begun_on state m tells first now turns calls go lawful boot b g h.begins left (free_boot asked b h.may) leaves h.keeps.keeps.slots h.ran
+        begun_on state m tells first now turns calls go lawful boot b g h.begins left (free_boot asked b h.may) leaves h.keeps.keeps.slots h.keeps.keeps.past (ap (λ (s : MetaState). s.place) h.keeps.keeps.state) h.ran
     boot_on (answer.Unknown unknown) g left (inl (none, is), same) =
         let b : Answer = answer.Unknown unknown in
         refused_on state m tells first now turns calls go boot b g same (subst (λ x. IsDueNext None turns boot b (Some (answer.Unknown x))) (sym is) ((boot_due asked b).unknown none))

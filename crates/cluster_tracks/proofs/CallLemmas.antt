@@ -1,7 +1,6 @@
 -- Lines of calls of a cluster that stands: what came to the list tells of each, and the cluster stands after it.
-use Rattle.std.proofs.Common.{◌≡◌, ◌<◌, ℕ, List, [], ◌∷◌, ◌++◌, min, refl, sym, ap, subst, arith, Bool}
-use Rattle.std.specs.Prelude.{Some, None}
-use Rattle.m3_model.specs.Rules.{namespace_position}
+use Rattle.std.proofs.Common.{◌≡◌, ◌<◌, ℕ, List, [], ◌∷◌, ◌++◌, min, refl, sym, ap, subst, arith, inl, inr, Bool, ◌∙◌}
+use Rattle.std.specs.Prelude.{Option, Some, None, decimal}
 use Rattle.m3_model.specs.declared.act.Act.{Act}
 use Rattle.m3_model.specs.declared.answer.Answer.{Answer}
 use Rattle.m3_model.specs.declared.answer.Answer.TheVariants as answer
@@ -11,6 +10,7 @@ use Rattle.m3_outside.specs.DiskState.{DiskState, IsLawfulDisk}
 use Rattle.m3_outside.specs.declared.disk.Disk.{Ghosts}
 use Rattle.cluster_core.specs.declared.event.Event.{Event}
 use Rattle.session_net.specs.Runs.{Ran}
+use Rattle.session_net.specs.Calls.{Tracked}
 use Rattle.session_net.specs.declared.net.Net.{Net}
 use Rattle.session_net.proofs.RunLemmas.{ran_nothing}
 use Rattle.told_by.specs.Lines.{MakesAndHears, PlainLine}
@@ -19,13 +19,14 @@ use Rattle.transcripts.specs.Record.{line_of}
 use Rattle.call_lines.specs.Laws.{IsNotRefused, Kind, LeavesLine, LeavesServed}
 use Rattle.call_lines.specs.Left.{NetIsLeftBy, IsNextCall}
 use Rattle.call_lines.proofs.KeepLemmas.{left_as_before}
-use Rattle.cluster_members.specs.Calls.{KeepsCluster}
-use Rattle.cluster_members.specs.Steps.{spaces_in}
+use Rattle.cluster_members.specs.Calls.{IsMissing, KeepsCluster}
+use Rattle.cluster_members.specs.Kept.{IsNumberOf, IsUnkept, KeepsNone}
 use Rattle.cluster_members.specs.declared.members.Members.{Members}
 use Rattle.act_lines.specs.Due.{CallDue, IsDueNext, SpaceDue}
 use Rattle.act_lines.specs.Settings.{LeavesNothing}
 use Rattle.act_lines.specs.Quiet.{DeliversNone, SetsNone}
 use Rattle.act_lines.proofs.DueLemmas.{calls_are_due}
+use Rattle.act_lines.proofs.KnownLemmas.{known_kept}
 use Rattle.act_lines.proofs.NothingLemmas.{refused_tells}
 use Rattle.act_lines.proofs.QuietLemmas.{delivers_nothing_so, keeps_stops_so, sets_nothing_so}
 use Rattle.cluster_tracks.specs.Numbers.{last_number, numbers_by}
@@ -80,7 +81,9 @@ module _ {D : Type 0} {G : Ghosts D} (state : D → DiskState) (m : Members D G)
           ready = is_left.ready;
           place = ap (λ s. s.place) keeps.state;
           slots = keeps.slots;
+          past = keeps.past;
           stopped = keeps.stopped;
+          known = known_kept turns a b m.net.state.place g.net.state.place m.net.fates g.net.fates (ap (λ s. s.place) keeps.state) keeps.fates (sets_nothing_so a b sets).fates (keeps_stops_so a b sets) on.tracks.after.stands.known;
         })
 
     -- so where no refusal was due
@@ -100,18 +103,33 @@ module _ {D : Type 0} {G : Ghosts D} (state : D → DiskState) (m : Members D G)
     same_bag delivers same = left_as_before m.net None turns g.net a b left_so (record { state = keeps.state; fates = keeps.fates }) (sets_nothing_so a b sets) (delivers_nothing_so a b delivers) same
 
     -- and where nothing changed
-    pub stays_on : g.net ≡ m.net → LeavesNothing None turns m.net.replicas.events a b → Tracks state tells first now (turns ++ line_of a b ∷ []) (Some g) (numbers_by a b calls)
-    stays_on same nothing =
+    pub stays_on : g.net.replicas ≡ m.net.replicas → g.net.bag ≡ m.net.bag → LeavesNothing None turns m.net.replicas.events a b → Tracks state tells first now (turns ++ line_of a b ∷ []) (Some g) (numbers_by a b calls)
+    stays_on same bag nothing =
         let line : LeavesServed PlainLine None turns [] m.net.replicas.events a b g.net.replicas.events =
-        subst (λ (net : Net D G). LeavesServed PlainLine None turns [] m.net.replicas.events a b net.replicas.events) (sym same) nothing.line in
-        served_on PlainLine (plain_on state (Some m)) (λ more plain. plain.makes) line [] (subst (λ (net : Net D G). Ran state m.net.replicas [] net.replicas) (sym same) (ran_nothing state m.net.replicas))
-        (same_bag nothing.delivers_none (ap (λ (net : Net D G). net.bag) same))
+        subst (λ (t : Tracked D). LeavesServed PlainLine None turns [] m.net.replicas.events a b t.events) (sym same) nothing.line in
+        served_on PlainLine (plain_on state (Some m)) (λ more plain. plain.makes) line [] (subst (λ (t : Tracked D). Ran state m.net.replicas [] t) (sym same) (ran_nothing state m.net.replicas)) (same_bag nothing.delivers_none bag)
 
   module _ (a : Act) (b : Answer) (g : Members D G) (same : g ≡ m) where
     -- a call for which there is no number
     pub wanted_on : b ≡ answer.Memory → Tracks state tells first now (turns ++ line_of a b ∷ []) (Some g) (numbers_by a b calls)
     wanted_on is = stays_same state m tells first now turns calls a b g same on.tracks (subst (λ (x : Answer). LeavesNothing None turns m.net.replicas.events a x) (sym is) (memory_tells turns m.net.replicas.events a))
 
-    -- one whose namespace isn't there
-    pub unknown_on : (ns : List ℕ) → SpaceDue None turns m.net.state.rules ns a b → namespace_position ns (spaces_in m) ≡ None → b ≡ answer.Unknown ns → Tracks state tells first now (turns ++ line_of a b ∷ []) (Some g) (numbers_by a b calls)
-    unknown_on ns due none is = stays_same state m tells first now turns calls a b g same on.tracks (refused_tells None turns m.net.replicas.events a b (subst (λ (x : Answer). IsDueNext None turns a b (Some x)) (sym is) (due.unknown none)))
+    -- one that names what isn't there
+    refused_on : (c : Answer) → b ≡ c → IsDueNext None turns a b (Some c) → Tracks state tells first now (turns ++ line_of a b ∷ []) (Some g) (numbers_by a b calls)
+    refused_on c is due = stays_same state m tells first now turns calls a b g same on.tracks (refused_tells None turns m.net.replicas.events a b (subst (λ (x : Answer). IsDueNext None turns a b (Some x)) (sym is) due))
+
+  -- what a call names is missing
+  pub missing_on : (a : Act) (b : Answer) (g : Members D G) (ns : List ℕ) (version : Option ℕ) → SpaceDue None turns m.net.state.rules ns version a b → IsMissing m ns version b g → Tracks state tells first now (turns ++ line_of a b ∷ []) (Some g) (numbers_by a b calls)
+  missing_on a b g ns version due (inl none) = refused_on a b g none.2 (answer.Unknown ns) none.1 (due.unknown none.0)
+  missing_on a b g ns version due (inr h) = by_version version refl h.unkept
+    where
+      by_answer : (v : ℕ) → version ≡ Some v → KeepsNone m.net.state.place m.past.items (Some v) → (c : Answer) → b ≡ c → IsNumberOf v c → Tracks state tells first now (turns ++ line_of a b ∷ []) (Some g) (numbers_by a b calls)
+      by_answer v gives none (answer.Unknown name) is number =
+          refused_on a b g h.same (answer.Unknown (decimal v)) (is ∙ ap (λ (x : List ℕ). answer.Unknown x) number)
+          (due.unkept h.position v h.found gives (λ p m. none p ((stood.stands.kept.are p).0 m)))
+      by_answer v gives none answer.Memory is number = wanted_on a b g h.same is
+      by_answer v gives none _ is number = absurd number
+
+      by_version : (v : Option ℕ) → version ≡ v → IsUnkept m.net.state.place m.past.items v b → Tracks state tells first now (turns ++ line_of a b ∷ []) (Some g) (numbers_by a b calls)
+      by_version None gives unkept = absurd unkept
+      by_version (Some v) gives unkept = by_answer v gives unkept.0 b refl unkept.1

@@ -22,6 +22,7 @@ use Rattle.cluster_members.specs.declared.members.Members.{Members}
 use Rattle.upkeep_lines.specs.Nodes.{IsDeliverAnswer, KeepsButReplicas}
 use Rattle.act_lines.specs.Settings.{LeavesNothing}
 use Rattle.act_lines.proofs.DueLemmas.{deliveries_are_due}
+use Rattle.act_lines.proofs.KnownLemmas.{known_kept}
 use Rattle.act_lines.proofs.NothingLemmas.{full_delivery_tells}
 use Rattle.act_lines.proofs.QuietLemmas.{delivers_nothing_so, keeps_stops_so, sets_nothing_so}
 use Rattle.cluster_tracks.specs.Steps.{AddsLine}
@@ -54,7 +55,9 @@ module _ {D : Type 0} {G : Ghosts D} (state : D → DiskState) (lawful : (d : D)
         ready = left.ready;
         place = ap (λ (s : MetaState). s.place) done.1.state;
         slots = done.1.slots;
+        past = done.1.past;
         stopped = done.1.stopped;
+        known = known_kept turns act.Deliver b m.net.state.place g.net.state.place m.net.fates g.net.fates (ap (λ (s : MetaState). s.place) done.1.state) done.1.fates refl (λ own x. refl) stands.known;
       })
 
   -- nothing came to the list, and the late messages are as before or lost
@@ -82,7 +85,9 @@ module _ {D : Type 0} {G : Ghosts D} (state : D → DiskState) (lawful : (d : D)
         ready = left.ready;
         place = ap (λ (s : MetaState). s.place) keeps.state;
         slots = keeps.slots;
+        past = keeps.past;
         stopped = keeps.stopped;
+        known = known_kept turns act.Deliver b m.net.state.place g.net.state.place m.net.fates g.net.fates (ap (λ (s : MetaState). s.place) keeps.state) keeps.fates sets.fates (keeps_stops_so act.Deliver b h.sets_none) stands.known;
       })
 
   -- the line of a delivery

@@ -21,19 +21,19 @@ use Rattle.cluster_core.specs.declared.event.Event.{Event}
 use Rattle.cluster_core.specs.declared.event.Event.TheVariants as event
 use Rattle.cluster_core.specs.declared.event.StepCall.TheVariants as call
 use Rattle.cluster_core.specs.declared.event.StepReply.{StepReply}
-use Rattle.cluster_core.proofs.ListLemmas.{at_in}
+use Rattle.cluster_core.proofs.ListLemmas.{at_in, in_at}
 use Rattle.replica_exchange.specs.declared.member.Member.{Member}
 use Rattle.replica_exchange.specs.declared.slot.Slot.{Slot}
 use Rattle.replica_calls.specs.Calls.{first_member}
-use Rattle.session_net.specs.Runs.{steps_of}
+use Rattle.session_net.specs.Runs.{slot_at, steps_of}
 use Rattle.cluster_members.specs.declared.members.Members.{Members}
-use Rattle.first_cluster.specs.Bare.{AreBare}
+use Rattle.first_cluster.specs.Bare.{AreBare, IsBare}
 use Rattle.first_cluster.specs.Begins.{begins_of}
 use Rattle.first_cluster.specs.Depots.{disk_slot_of}
-use Rattle.first_cluster.specs.First.{IsFirst, opening_of}
-use Rattle.first_cluster.specs.Slots.{AreApart, slots_of, start_at, starts_of}
+use Rattle.first_cluster.specs.First.{IsFirst}
+use Rattle.first_cluster.specs.Slots.{AreApart, start_at, starts_of}
 use Rattle.first_cluster.proofs.BareLemmas.{given_bare}
-use Rattle.first_cluster.proofs.PlacedSlots.{from_start, start_slot, tenure_first}
+use Rattle.first_cluster.proofs.PlacedSlots.{from_start, tenure_first}
 use Rattle.first_cluster.proofs.SlotLists.{in_or_out, slots_apart}
 use Rattle.told_by.specs.Makes.{IsAssigned}
 use Rattle.transcripts.specs.Record.{line_of}
@@ -41,11 +41,18 @@ use Rattle.act_lines.specs.Stands.{NoneStands, ClusterStands}
 use Rattle.act_lines.specs.Opens.{IsGivenNow, IsLow, OpensLow}
 use Rattle.act_lines.proofs.BeginEvents.{step_among}
 use Rattle.act_lines.proofs.InitStands.{first_stands}
-use Rattle.cluster_tracks.specs.Runs.{HaveRun, IsMadeOver}
+use Rattle.cluster_tracks.specs.Runs.{HasRun, HaveRun, IsMadeOver}
 use Rattle.cluster_tracks.specs.Steps.{FirstStandsSo}
-use Rattle.cluster_tracks.proofs.FailureLemmas.{stepped_from}
-use Rattle.cluster_tracks.proofs.OpenLemmas.{none_taken}
+use Rattle.cluster_tracks.specs.Tracks.{HasTenures}
+use Rattle.cluster_tracks.proofs.FailureLemmas.{stepped_from, stepped_none}
 use Rattle.told_moves.proofs.SlotLemmas.{Tries, tried_began}
+
+-- a slot without a replica took no step
+pub first_unstepped : {D : Type 0} {G : Ghosts D} (state : D → DiskState) (rf shards seed : ℕ) (nodes : List (List ℕ × List ℕ)) (old now : Depot D) (m : Members D G) → IsFirst state rf shards seed nodes old now m → (s : Slot) → finite.get m.net.replicas.members s ≡ None → steps_of s m.net.replicas.events ≡ []
+first_unstepped state rf shards seed nodes old now m first s nobody =
+    let begun = first.opened.begun in
+    ap (steps_of s) begun.ran.grew
+    ∙ begun.ran.only s (stepped_none state (steps_of s (begins_of begun.said (starts_of m.net.state.place))) (finite.get first.opened.made s) (finite.get m.net.replicas.members s) (begun.ran.stepped s) nobody)
 
 module _ {D : Type 0} {G : Ghosts D} (state : D → DiskState) (m : Members D G) (tells : Bool) (turns : List Turn) (rf shards seed : ℕ) (nodes : List (List ℕ × List ℕ)) (old now : Depot D) (bare : tells ≡ true → AreBare state old.held) (none : NoneStands turns)
     (first : IsFirst state rf shards seed nodes old now m) (legal : Legal tells m.net.replicas.events) where
@@ -70,9 +77,6 @@ module _ {D : Type 0} {G : Ghosts D} (state : D → DiskState) (m : Members D G)
   stands : ClusterStands None longer m
   stands = first_stands state m turns rf shards seed nodes old now none first
 
-  in_slots : (s : Slot) → IsIn (slots_of place) s → IsIn m.slots.items s
-  in_slots s i = subst (λ xs. IsIn xs s) (sym first.slots) i
-
   -- ---- what the replicas did
 
   each_made : (s : Slot) (r : Member D) → finite.get first.opened.made s ≡ Some r → IsMadeOver state tells now s r
@@ -84,25 +88,16 @@ module _ {D : Type 0} {G : Ghosts D} (state : D → DiskState) (m : Members D G)
     | inr out ↦ (let clash : None ≡ Some r = sym (first.opened.taken.others s out).no_member ∙ is in cc)
   ]
 
-  -- a slot for which no replica was made begins none
-  others : (s : Slot) → finite.get first.opened.made s ≡ None → steps_of s begins ≡ []
-  others s nobody = none_taken s.node s.shard begins (λ c a i.
-      let h = step_among first.opened.begun.said (starts_of place) s.node s.shard c a i in
-      let same : (h.start).slot ≡ s = λ j. record { shard = h.shard_is j; node = h.node_is j } in
-      let taken = first.opened.taken.taken s (in_slots s (subst (IsIn (slots_of place)) same (start_slot place h.start h.among))) in
-      let clash : None ≡ Some (first_member taken.disk) = sym nobody ∙ taken.stands in
-      cc)
-
   run : HaveRun state tells now m.net.replicas
   run = record {
-    made = record { members = first.opened.made; events = opening_of m.net.state };
     place = place;
     rules = m.net.state.rules;
-    opened = refl;
-    each = each_made;
-    more = begins;
-    ran = first.opened.begun.ran;
-    others = others;
+    later = begins;
+    opened = list_is;
+    each = λ s r is.
+        let from = stepped_from state (steps_of s begins) (finite.get first.opened.made s) (finite.get m.net.replicas.members s) r (first.opened.begun.ran.stepped s) is in
+        subst (λ es. HasRun state tells now s (steps_of s es) r) (sym list_is) (record { made = from.before; over = each_made s from.before from.was; stepped = (r, refl, from.first, from.takes) });
+    others = first_unstepped state rf shards seed nodes old now m first;
   }
 
   -- ---- first begins
@@ -144,10 +139,28 @@ module _ {D : Type 0} {G : Ghosts D} (state : D → DiskState) (m : Members D G)
         omega (arith, one, given_is);
   }
 
+  -- ---- the placement, and disks that weren't taken
+
+  tenures : HasTenures place
+  tenures shard i a among =
+      let at = in_at place.shards shard i in
+      let one = tenure_first place rf shards nodes first.place (start_at (0 + at.0) a) (from_start 0 place.shards at.0 shard a at.1 among) in
+      omega (arith, one)
+
+  still_bare : tells ≡ true → AreBare state now.held
+  still_bare e disk_slot =
+      let s : Slot = slot_at disk_slot.node disk_slot.shard in
+      elim (in_or_out m.slots.items s) as (λ _. IsBare state (now.held disk_slot)) [
+        | inl i ↦ subst (IsBare state) (sym (first.opened.taken.taken s i).held) tt
+        | inr out ↦ subst (IsBare state) (sym (first.opened.taken.others s out).held) (bare e disk_slot)
+      ]
+
 pub first_stands_so : {D : Type 0} {G : Ghosts D} (state : D → DiskState) (m : Members D G) → FirstStandsSo state m
 first_stands_so {D} {G} state m tells turns rf shards seed nodes old now tell bare none first legal = record {
   stands = stands state m tells turns rf shards seed nodes old now bare none first legal;
   run = run state m tells turns rf shards seed nodes old now bare none first legal;
   apart = subst AreApart (sym first.slots) (slots_apart m.net.state.place first.lawful);
   low = low state m tells turns rf shards seed nodes old now bare none first legal;
+  tenures = tenures state m tells turns rf shards seed nodes old now bare none first legal;
+  bare = still_bare state m tells turns rf shards seed nodes old now bare none first legal;
 }

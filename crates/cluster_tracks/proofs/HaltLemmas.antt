@@ -1,5 +1,5 @@
 -- Lines that stop or restart a node.
-use Rattle.std.proofs.Common.{◌++◌, ℕ, List, refl, sym, subst, arith, Bool, true, false}
+use Rattle.std.proofs.Common.{◌++◌, ℕ, List, refl, ap, sym, subst, arith, Bool, true, false}
 use Rattle.std.specs.Prelude.{Some, None}
 use Rattle.std.specs.List.{flat_map}
 use Rattle.m3_model.specs.declared.act.Act.{Act}
@@ -9,6 +9,7 @@ use Rattle.m3_model.specs.declared.answer.Answer.TheVariants as answer
 use Rattle.m3_model.specs.declared.reason.Reason.{Reason}
 use Rattle.m3_model.specs.declared.reason.Reason.TheVariants as reason
 use Rattle.m3_model.specs.declared.turn.Turn.{Turn}
+use Rattle.m3_model.specs.declared.rules.MetaState.{MetaState}
 use Rattle.m3_outside.specs.Depots.{Depot}
 use Rattle.m3_outside.specs.DiskState.{DiskState, IsLawfulDisk}
 use Rattle.m3_outside.specs.declared.disk.Disk.{Ghosts}
@@ -38,7 +39,7 @@ module _ {D : Type 0} {G : Ghosts D} (state : D → DiskState) (lawful : (d : D)
       let n = h.ran in
       let free = (stop_due answer.Done).free n.node n.found (flag_tells state m tells first now turns calls go name false n) in
       let stands = stopped_tells state m None turns g name (so state m tells first now turns calls go).stands h in
-      halted_on state m tells first now turns calls go lawful stop answer.Done g (flat_map stop_at (slots_of_node n.node m.slots.items)) left free stands refl (λ o. o) h.keeps.slots h.stopped
+      halted_on state m tells first now turns calls go lawful stop answer.Done g (flat_map stop_at (slots_of_node n.node m.slots.items)) left free stands refl (λ o. o) h.keeps.slots h.keeps.past (ap (λ (s : MetaState). s.place) h.keeps.state) h.stopped
   stop_on (answer.Unknown unknown) g left (none, is, same) =
       let b : Answer = answer.Unknown unknown in
       refused_on state m tells first now turns calls go stop b g same (subst (λ x. IsDueNext None turns stop b (Some (answer.Unknown x))) (sym is) ((stop_due b).unknown none))
@@ -69,7 +70,7 @@ module _ {D : Type 0} {G : Ghosts D} (state : D → DiskState) (lawful : (d : D)
     restart_on answer.Done g left h =
         let n = h.was in
         let stands = restarted_tells state m None turns g name pick (so state m tells first now turns calls go).stands h in
-        halted_on state m tells first now turns calls go lawful restart answer.Done g (flat_map restart_at (slots_of_node n.node m.slots.items)) left (free_restart answer.Done n) stands refl (λ o. o) h.keeps.slots h.restarted
+        halted_on state m tells first now turns calls go lawful restart answer.Done g (flat_map restart_at (slots_of_node n.node m.slots.items)) left (free_restart answer.Done n) stands refl (λ o. o) h.keeps.slots h.keeps.past (ap (λ (s : MetaState). s.place) h.keeps.state) h.restarted
     restart_on (answer.Unknown unknown) g left (none, is, same) =
         let b : Answer = answer.Unknown unknown in
         refused_on state m tells first now turns calls go restart b g same (subst (λ x. IsDueNext None turns restart b (Some (answer.Unknown x))) (sym is) ((restart_due b).unknown none))
@@ -80,10 +81,10 @@ module _ {D : Type 0} {G : Ghosts D} (state : D → DiskState) (lawful : (d : D)
     restart_on (answer.Disk node shard) g left (is, h) =
         let b : Answer = answer.Disk node shard in
         let stands = restart_failed_tells state m None turns g name node pick shard (so state m tells first now turns calls go).stands (is, h) in
-        halted_on state m tells first now turns calls go lawful restart b g (came shard reason.Disk g h) left (free_restart b h.was) stands refl (λ o. o) h.keeps.slots h.stopped
+        halted_on state m tells first now turns calls go lawful restart b g (came shard reason.Disk g h) left (free_restart b h.was) stands refl (λ o. o) h.keeps.slots h.keeps.past (ap (λ (s : MetaState). s.place) h.keeps.state) h.stopped
     restart_on answer.Memory g left (shard, h) =
         let stands = restart_wanted_tells state m None turns g name pick (so state m tells first now turns calls go).stands (shard, h) in
-        halted_on state m tells first now turns calls go lawful restart answer.Memory g (came shard reason.Memory g h) left (free_restart answer.Memory h.was) stands refl (λ o. o) h.keeps.slots h.stopped
+        halted_on state m tells first now turns calls go lawful restart answer.Memory g (came shard reason.Memory g h) left (free_restart answer.Memory h.was) stands refl (λ o. o) h.keeps.slots h.keeps.past (ap (λ (s : MetaState). s.place) h.keeps.state) h.stopped
     restart_on answer.Full g left (n, lacks) = let few = few_own m n.node in lacking_on state m tells first now turns calls go restart g 4 n.node (omega (arith, few)) lacks
     restart_on _ g left h = absurd h
 

@@ -32,6 +32,7 @@ use Rattle.first_cluster.proofs.BareLemmas.{returned_bare}
 use Rattle.first_cluster.proofs.SlotLists.{in_or_out}
 use Rattle.act_lines.specs.Inits.{untaken_at}
 use Rattle.act_lines.proofs.InitLemmas.{first_tells}
+use Rattle.act_lines.proofs.GroupLemmas.{lacking_groups_tell}
 use Rattle.act_lines.proofs.UntakenLemmas.{untaken_tells}
 use Rattle.act_lines.specs.Settings.{LeavesNothing}
 use Rattle.act_lines.specs.Quiet.{SetsNone}
@@ -115,13 +116,17 @@ module _ {D : Type 0} {G : Ghosts D} (state : D → DiskState) (tells : Bool) (f
     abbrev a : Act
     a = act.Init rf shards seed nodes
 
-    -- an `init` was refused, and its disks are back
+    -- an `init` was refused, and its disks are back, or were never out
     refused_tracked : (b : Answer) → IsRefusedInit state rf shards seed nodes before now b → Tracks {G = G} state tells first now (turns ++ line_of a b ∷ []) None calls
     refused_tracked (answer.Disk name shard) h =
         let untaken : IsDiskUntaken rf shards seed nodes name shard before now = h.0 in
         let faults : List Fault = untaken_at turns untaken.node shard ∷ [] in
         unmade now a (answer.Disk name shard) faults (anew_adds PlainLine tells faults turns t.delivered a (answer.Disk name shard) [] t.were (untaken_tells {D = D} tells turns rf shards seed nodes name shard before now t.after.none untaken)) tt untaken.rose
         (returned_later state before now h.1) (λ e. returned_bare state before now (t.tell e) (t.after.bare e) h.1)
+    refused_tracked (answer.Group shard) h =
+        subst (λ (d : Depot D). Tracks {G = G} state tells first d (turns ++ line_of a (answer.Group shard) ∷ []) None calls) (sym h.1)
+        (unmade before a (answer.Group shard) [] (anew_adds PlainLine tells [] turns t.delivered a (answer.Group shard) [] t.were (lacking_groups_tell tells turns rf shards seed nodes shard t.after.none h.0)) tt (rose_none before.faults before.faults (omega arith))
+        (λ disk_slot. omega arith) t.after.bare)
     refused_tracked answer.Memory h = unmade_so now a answer.Memory (memory_tells turns [] a) h.later (returned_later state before now h) (λ e. returned_bare state before now (t.tell e) (t.after.bare e) h)
     refused_tracked _ h = absurd h
 

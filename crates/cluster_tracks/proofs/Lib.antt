@@ -10,6 +10,7 @@ pub mod AddLemmas
 pub mod QuietLemmas
 pub mod SharedLemmas
 pub mod SlotLemmas
+pub mod KeptLemmas
 pub mod CallLemmas
 pub mod WriteLemmas
 pub mod ReadLemmas
@@ -20,5 +21,6 @@ pub mod HaltLemmas
 pub mod BootstrapLemmas
 pub mod UpkeepLemmas
 pub mod InitLemmas
+pub mod PlacementLemmas
 pub mod LineLemmas
 pub use Rattle.act_lines.proofs.StandLemmas

@@ -16,11 +16,12 @@ use Rattle.cluster_members.specs.declared.members.Members.{Members}
 use Rattle.cluster_tracks.specs.Numbers.{numbers_by}
 use Rattle.cluster_tracks.specs.Tracks.{Tracks}
 use Rattle.cluster_tracks.specs.Acts.{Does, IsServedBy, OnMembers, next_call}
-use Rattle.cluster_tracks.specs.Lines.{BootstrapsAreTracked, DeliveriesAreTracked, EachMember, FatesAreTracked, FetchesAreTracked, FlushesAreTracked, InitsAreTracked, IsLeft, IsTrackedLine, LinesAreTracked, MatchesAreTracked, MomentsAreTracked, NamespacesAreTracked, OrdersAreTracked, RestartsAreTracked, SnapshotsAreTracked, StatusIsTracked, StopsAreTracked, TicksAreTracked, WritesAreTracked}
+use Rattle.cluster_tracks.specs.Lines.{BootstrapsAreTracked, DeliveriesAreTracked, EachMember, FatesAreTracked, FetchesAreTracked, FlushesAreTracked, InitsAreTracked, IsLeft, IsTrackedLine, LinesAreTracked, MatchesAreTracked, MomentsAreTracked, NamespacesAreTracked, OrdersAreTracked, RestartsAreTracked, SnapshotsAreTracked, StatusIsTracked, StepsAreTracked, StopsAreTracked, TicksAreTracked, WritesAreTracked}
 use Rattle.cluster_tracks.proofs.BootstrapLemmas.{bootstraps_are_tracked}
 use Rattle.cluster_tracks.proofs.DeliveryLemmas.{deliveries_are_tracked}
 use Rattle.cluster_tracks.proofs.HaltLemmas.{restarts_are_tracked, stops_are_tracked}
 use Rattle.cluster_tracks.proofs.InitLemmas.{inits_are_tracked, orders_are_tracked}
+use Rattle.cluster_tracks.proofs.PlacementLemmas.{steps_are_tracked}
 use Rattle.cluster_tracks.proofs.ReadLemmas.{fetches_are_tracked, matches_are_tracked}
 use Rattle.cluster_tracks.proofs.SettingLemmas.{fates_are_tracked, moments_are_tracked, namespaces_are_tracked}
 use Rattle.cluster_tracks.proofs.UpkeepLemmas.{flushes_are_tracked, snapshots_are_tracked, status_is_tracked, ticks_are_tracked}
@@ -48,9 +49,9 @@ module _ {D : Type 0} {G : Ghosts D} (state : D → DiskState) where
   by_act : (m : Members D G) → ActsAreTracked state m → (a : Act) → IsServedAct a → ¬ IsInitAct a → IsTrackedLine state m a
   by_act m each (act.Namespace name block past future retention) served other = each.namespace name block past future retention
   by_act m each (act.Now now) served other = each.moment now
-  by_act m each (act.Write ns id t v level version) served other = subst (λ x. IsTrackedLine state m (act.Write ns id t v level x)) (sym served) (each.write ns id t v level)
-  by_act m each (act.Fetch ns id from to level version) served other = subst (λ x. IsTrackedLine state m (act.Fetch ns id from to level x)) (sym served) (each.fetch ns id from to level)
-  by_act m each (act.Match ns wanted from to level version) served other = subst (λ x. IsTrackedLine state m (act.Match ns wanted from to level x)) (sym served) (each.find ns wanted from to level)
+  by_act m each (act.Write ns id t v level version) served other = each.write ns id t v level version
+  by_act m each (act.Fetch ns id from to level version) served other = each.fetch ns id from to level version
+  by_act m each (act.Match ns wanted from to level version) served other = each.find ns wanted from to level version
   by_act m each (act.Fates list) served other = each.fates list
   by_act m each act.Deliver served other = each.delivery
   by_act m each (act.Stop node) served other = each.stop node
@@ -60,6 +61,11 @@ module _ {D : Type 0} {G : Ghosts D} (state : D → DiskState) where
   by_act m each act.Flush served other = each.flush
   by_act m each act.Snapshot served other = each.snapshot
   by_act m each act.Status served other = each.status
+  by_act m each (act.Add node group) served other = λ tells first now turns calls b g go left did. absurd did
+  by_act m each (act.Drain node) served other = λ tells first now turns calls b g go left did. absurd did
+  by_act m each (act.Cancel node) served other = λ tells first now turns calls b g go left did. absurd did
+  by_act m each (act.Remove node) served other = λ tells first now turns calls b g go left did. absurd did
+  by_act m each (act.Replace node with_ group) served other = λ tells first now turns calls b g go left did. absurd did
   by_act m each (act.Init rf shards seed nodes) served other = absurd (other tt)
   by_act m each _ served other = absurd served
 
@@ -90,8 +96,8 @@ module _ {D : Type 0} {G : Ghosts D} (state : D → DiskState) where
   left_each : (tells : Bool) (new : Option (Members D G)) → EachMember new (λ g. IsLeft tells g) → (m : Members D G) → new ≡ Some m → IsLeft tells m
   left_each tells new left m is = subst (λ (o : Option (Members D G)). EachMember o (λ g. IsLeft tells g)) is left
 
-  lines_tracked : (old : Option (Members D G)) → ((m : Members D G) → old ≡ Some m → ActsAreTracked state m) → OrdersAreTracked state old → InitsAreTracked state old → LinesAreTracked state old
-  lines_tracked old each order init tells first before after turns calls a b new served t are left = by a served
+  lines_tracked : (old : Option (Members D G)) → ((m : Members D G) → old ≡ Some m → ActsAreTracked state m) → OrdersAreTracked state old → InitsAreTracked state old → StepsAreTracked state old → LinesAreTracked state old
+  lines_tracked old each order init steps tells first before after turns calls a b new served t are left may = by a served
     where
       other : (x : Act) → ¬ IsInitAct x → IsServedAct x → OnMembers old (λ k g. Does state (next_call calls) k x b g) b new × (after ≡ before) → Tracks state tells first after (turns ++ line_of x b ∷ []) new (numbers_by x b calls)
       other x no_init it did = on_any old each order tells first before after turns calls x b new it no_init t are left did
@@ -108,6 +114,11 @@ module _ {D : Type 0} {G : Ghosts D} (state : D → DiskState) where
       by (act.Stop node) it did = other (act.Stop node) (λ no. no) it did
       by (act.Restart node pick) it did = other (act.Restart node pick) (λ no. no) it did
       by (act.Bootstrap node asked) it did = other (act.Bootstrap node asked) (λ no. no) it did
+      by (act.Add node group) it did = steps tells first before after turns calls (act.Add node group) b new refl t left may did
+      by (act.Drain node) it did = steps tells first before after turns calls (act.Drain node) b new refl t left may did
+      by (act.Cancel node) it did = steps tells first before after turns calls (act.Cancel node) b new refl t left may did
+      by (act.Remove node) it did = steps tells first before after turns calls (act.Remove node) b new refl t left may did
+      by (act.Replace node with_ group) it did = steps tells first before after turns calls (act.Replace node with_ group) b new refl t left may did
       by act.Tick it did = other act.Tick (λ no. no) it did
       by act.Flush it did = other act.Flush (λ no. no) it did
       by act.Snapshot it did = other act.Snapshot (λ no. no) it did
@@ -131,4 +142,4 @@ lines_are_tracked state lawful old =
       flush = flushes_are_tracked state lawful m;
       snapshot = snapshots_are_tracked state lawful m;
       status = status_is_tracked state lawful m;
-    }) (orders_are_tracked state old) (inits_are_tracked state lawful old)
+    }) (orders_are_tracked state old) (inits_are_tracked state lawful old) (steps_are_tracked state old)

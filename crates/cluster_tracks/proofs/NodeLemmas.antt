@@ -87,8 +87,8 @@ module _ {D : Type 0} {G : Ghosts D} (state : D → DiskState) (m : Members D G)
     may_begin = record { disks = lawful; tell = go.tracks.tell; members = go.members; low = so.low }
 
     -- a node was stopped or restarted, or stayed stopped
-    pub halted_on : (a : Act) (b : Answer) (g : Members D G) (more : List Event) → IsLeft tells g → IsNotRefused None turns a b → LeavesStanding None turns m a b g → printed b ≡ None → (OpensReplicas a → ⊥) → g.slots.items ≡ m.slots.items → Ran state m.net.replicas more g.net.replicas → IsTracked a b g
-    halted_on a b g more left free h prints opens slots ran =
+    pub halted_on : (a : Act) (b : Answer) (g : Members D G) (more : List Event) → IsLeft tells g → IsNotRefused None turns a b → LeavesStanding None turns m a b g → printed b ≡ None → (OpensReplicas a → ⊥) → g.slots.items ≡ m.slots.items → g.past.items ≡ m.past.items → g.net.state.place ≡ m.net.state.place → Ran state m.net.replicas more g.net.replicas → IsTracked a b g
+    halted_on a b g more left free h prints opens slots past place ran =
         let told = h.line.more in
         let same : told ≡ more = append_cancel_left events told more (sym h.line.grew ∙ ran.grew) in
         let none = quiet_turns_make_none turns events a b told (two_events state tells now m.net.replicas so.run) h.line.line.makes prints opens in
@@ -97,17 +97,21 @@ module _ {D : Type 0} {G : Ghosts D} (state : D → DiskState) (m : Members D G)
           ran = ran;
           others = ran.only;
           slots = slots;
+          past = past;
+          place = place;
           stands = h.stands;
           low = (begins_still state m tells None g.net.replicas more so.stands.ready may_begin ran (subst HaveNoPlace same none.0) (subst (BeginsGiven events) same none.1)).low;
         })
 
     -- a node's replicas began
-    pub begun_on : (a : Act) (b : Answer) (g : Members D G) (more : List Event) → IsLeft tells g → IsNotRefused None turns a b → LeavesBegun state tells None turns m a b g → g.slots.items ≡ m.slots.items → Ran state m.net.replicas more g.net.replicas → IsTracked a b g
-    begun_on a b g more left free h slots ran = goes_on a b g left (begun_adds state m tells turns go.tracks.delivered a b g go.tracks.were free h) (record {
+    pub begun_on : (a : Act) (b : Answer) (g : Members D G) (more : List Event) → IsLeft tells g → IsNotRefused None turns a b → LeavesBegun state tells None turns m a b g → g.slots.items ≡ m.slots.items → g.past.items ≡ m.past.items → g.net.state.place ≡ m.net.state.place → Ran state m.net.replicas more g.net.replicas → IsTracked a b g
+    begun_on a b g more left free h slots past place ran = goes_on a b g left (begun_adds state m tells turns go.tracks.delivered a b g go.tracks.were free h) (record {
       more = more;
       ran = ran;
       others = ran.only;
       slots = slots;
+      past = past;
+      place = place;
       stands = h.stands;
       low = h.begins.low;
     })

@@ -31,7 +31,7 @@ use Rattle.replica_machine.proofs.OpeningLemmas.{first_begin_is_as_made}
 use Rattle.replica_machine.proofs.OtherLemmas.{first_follows}
 use Rattle.replica_exchange.specs.declared.member.Member.{Member}
 use Rattle.replica_calls.specs.Calls.{Tracked}
-use Rattle.session_net.specs.Runs.{Step, TakesSteps, IsStepped, slot_at, step_in, steps_of}
+use Rattle.session_net.specs.Runs.{Step, TakesSteps, slot_at, step_in, steps_of}
 use Rattle.first_cluster.specs.Bare.{HasNoPoints}
 use Rattle.cluster_tracks.specs.Runs.{HaveRun, RunOpensEmpty}
 
@@ -111,15 +111,6 @@ module _ (n s : ℕ) where
           | inr other ↦ at_other more (along more) past e m new other is tells (subst (λ o. TakesSteps state (cons_option o (steps_of (slot_at n s) more)) m new) other.none takes) i c a there
         ]
 
-  -- a slot of which no step stands among some events took none of them
-  pub none_taken : (events : List Event) → ((c : StepCall) (a : StepReply) → IsIn events (event.Step n s c a) → ⊥) → steps_of (slot_at n s) events ≡ []
-  none_taken [] never = refl
-  none_taken (e ∷ events) never =
-      elim (own_or e) as (λ _. steps_of (slot_at n s) (e ∷ events) ≡ []) [
-        | inl own ↦ absurd (never own.0 own.1 (inl own.2))
-        | inr other ↦ ap (λ o. cons_option o (steps_of (slot_at n s) events)) other.none ∙ none_taken events (λ c a i. never c a (inr i))
-      ]
-
   -- a slot that took no step of some events has none among them
   pub none_there : (more : List Event) (i : ℕ) (c : StepCall) (a : StepReply) → steps_of (slot_at n s) more ≡ [] → At more i (event.Step n s c a) → ⊥
   none_there more i c a none there =
@@ -131,31 +122,18 @@ module _ (n s : ℕ) where
 
   module _ {D : Type 0} (state : D → DiskState) (depot : Depot D) (tell : TellAll state) (t : Tracked D) (h : HaveRun state true depot t) (Holds : List Event → StepCall → StepReply → Type 0)
       (each : (first : D) → EachImage (state first) HasNoPoints → (past : List Event) (old new : MachineState D) (c : StepCall) (a : StepReply) → IsMachineOf state (state first).images (replica n s past) old → IsStep state old c a new → Holds past c a) where
-    abbrev list : List Event
-    list = event.Place h.place [] ∷ event.Clock h.rules ∷ h.more
-
-    list_is : t.events ≡ list
-    list_is = h.ran.grew ∙ ap (λ es. es ++ h.more) h.opened
-
-    within : (i : ℕ) (c : StepCall) (a : StepReply) → At h.more i (event.Step n s c a) → Holds (event.Place h.place [] ∷ event.Clock h.rules ∷ take i h.more) c a
-    within i c a there = by (finite.get h.made.members (slot_at n s)) refl (h.ran.stepped (slot_at n s))
-      where
-        by : (o : Option (Member D)) → finite.get h.made.members (slot_at n s) ≡ o → IsStepped state (steps_of (slot_at n s) h.more) o (finite.get t.members (slot_at n s)) → Holds (event.Place h.place [] ∷ event.Clock h.rules ∷ take i h.more) c a
-        by None none gone = absurd (none_there h.more i c a (h.others (slot_at n s) none) there)
-        by (Some m) is steps =
-            let made = h.each (slot_at n s) m is in
-            let machine : m.machine ≡ first_machine made.disk = ap (λ (x : Member D). x.machine) made.is_first in
-            let takes : TakesSteps state (steps_of (slot_at n s) h.more) (first_machine made.disk) (steps.0).machine = subst (λ y. TakesSteps state (steps_of (slot_at n s) h.more) y (steps.0).machine) machine steps.3 in
-            along state made.disk Holds (λ past old new d x is_of tells step. each made.disk (made.bare refl) past old new d x is_of step) h.more (event.Place h.place [] ∷ event.Clock h.rules ∷ []) (first_machine made.disk) (steps.0).machine
-            (first_follows state made.disk) (tell made.disk) takes i c a there
-
-    anywhere : (i : ℕ) (c : StepCall) (a : StepReply) → At list i (event.Step n s c a) → Holds (take i list) c a
-    anywhere zero c a there = (let clash : event.Place h.place [] ≡ event.Step n s c a = same_Some (event.Place h.place []) (event.Step n s c a) there in cc)
-    anywhere (suc zero) c a there = (let clash : event.Clock h.rules ≡ event.Step n s c a = same_Some (event.Clock h.rules) (event.Step n s c a) there in cc)
-    anywhere (suc (suc i)) c a there = within i c a there
-
     pub in_run : (i : ℕ) (c : StepCall) (a : StepReply) → At t.events i (event.Step n s c a) → Holds (take i t.events) c a
-    in_run i c a there = subst (λ es. Holds (take i es) c a) (sym list_is) (anywhere i c a (subst (λ es. At es i (event.Step n s c a)) list_is there))
+    in_run i c a there = by (finite.get t.members (slot_at n s)) refl
+      where
+        by : (o : Option (Member D)) → finite.get t.members (slot_at n s) ≡ o → Holds (take i t.events) c a
+        by None none = absurd (none_there t.events i c a (h.others (slot_at n s) none) there)
+        by (Some m) is =
+            let r = h.each (slot_at n s) m is in
+            let disk = (r.over).disk in
+            let machine : (r.made).machine ≡ first_machine disk = ap (λ (x : Member D). x.machine) (r.over).is_first in
+            let takes : TakesSteps state (steps_of (slot_at n s) t.events) (first_machine disk) ((r.stepped).0).machine = subst (λ y. TakesSteps state (steps_of (slot_at n s) t.events) y ((r.stepped).0).machine) machine (r.stepped).3 in
+            along state disk Holds (λ past old new d x is_of tells step. each disk ((r.over).bare refl) past old new d x is_of step) t.events [] (first_machine disk) ((r.stepped).0).machine
+            (first_follows state disk) (tell disk) takes i c a there
 
 -- ---- first begins
 

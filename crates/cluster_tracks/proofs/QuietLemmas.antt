@@ -1,5 +1,5 @@
 -- Lines that print no placement, begin no replica, and neither stop nor restart a node.
-use Rattle.std.proofs.Common.{◌≡◌, ◌≤◌, ◌+◌, ℕ, List, ◌++◌, length, take, length-append, sym, ap, subst, ◌∙◌, arith, Bool}
+use Rattle.std.proofs.Common.{◌≡◌, ◌≤◌, ◌+◌, ℕ, List, ◌++◌, length, take, sym, ap, subst, ◌∙◌, arith, Bool}
 use Rattle.std.specs.Prelude.{Some, None}
 use Rattle.std.proofs.lemmas.List.{append_cancel_left}
 use Rattle.m3_model.specs.Members.{IsIn}
@@ -48,10 +48,7 @@ quiet_turns_make_none turns events a b more opened makes prints opens = (no_plac
 
 -- a list that was opened has two events
 pub two_events : {D : Type 0} (state : D → DiskState) (tells : Bool) (depot : Depot D) (t : Tracked D) → HaveRun state tells depot t → 2 ≤ length t.events
-two_events state tells depot t h =
-    let long : length t.events ≡ length h.made.events + length h.more = ap length h.ran.grew ∙ length-append h.made.events h.more in
-    let two : length h.made.events ≡ 2 = ap length h.opened in
-    omega (arith, long, two)
+two_events state tells depot t h = let long = ap length h.opened in omega (arith, long)
 
 pub quiet_lines_stand_on : {D : Type 0} {G : Ghosts D} (state : D → DiskState) → ((d : D) → IsLawfulDisk (state d)) → (old : Members D G) → QuietLinesStandOn state old
 quiet_lines_stand_on {D} {G} state lawful old tells now turns a b new tell are h q =
@@ -65,17 +62,22 @@ quiet_lines_stand_on {D} {G} state lawful old tells now turns a b new tell are h
       ran = q.ran;
       others = q.others;
       slots = q.slots;
+      past = q.past;
+      place = q.place;
       stands = stands_still state old None turns new a b h.stands (record {
         left = q.left;
         ready = q.ready;
         place = q.place;
+        prints = λ p is. let clash : None ≡ Some p = sym q.prints ∙ is in cc;
         more = q.more;
         ran = q.ran;
         no_place = no_place;
         of_slots = steps_are_of_slots old q.more h.stands.slots q.others;
         slots = q.slots;
+        past = q.past;
         stopped = q.stopped;
         halts = q.halts;
+        known = q.known;
       });
       low = (begins_still state old tells None new.net.replicas q.more h.stands.ready may q.ran no_place given).low;
     }

@@ -1,7 +1,8 @@
 -- Replicas that took the steps of the list since they were made.
-use Rattle.std.proofs.Common.{◌≡◌, List, [], ◌++◌, Bool, sym, ap, subst, ◌∙◌, arith}
-use Rattle.std.specs.Prelude.{Option, Some, None}
+use Rattle.std.proofs.Common.{◌≡◌, List, ◌++◌, Bool, refl, sym, ap, subst, ◌∙◌}
+use Rattle.std.specs.Prelude.{Some}
 use Rattle.std.specs.FinMap as finite
+use Rattle.std.proofs.lemmas.Option.{same_Some}
 use Rattle.m3_outside.specs.Causes.{RoseBy}
 use Rattle.m3_outside.specs.Depots.{Depot}
 use Rattle.m3_outside.specs.DiskState.{DiskState}
@@ -9,55 +10,52 @@ use Rattle.replica_exchange.specs.declared.member.Member.{Member}
 use Rattle.replica_exchange.specs.declared.slot.Slot.{Slot}
 use Rattle.replica_calls.specs.Calls.{Tracked}
 use Rattle.session_net.specs.Runs.{IsStepped, Step, steps_of}
-use Rattle.session_net.proofs.RunLemmas.{ran_then}
-use Rattle.first_cluster.specs.Depots.{disk_slot_of}
+use Rattle.session_net.proofs.RunLemmas.{stepped_then}
 use Rattle.cluster_tracks.specs.Failures.{CountsFaults, failures_in}
-use Rattle.cluster_tracks.specs.Runs.{HaveRun, RoseByFailures, RunGoesOn, RunIsCounted}
-use Rattle.cluster_tracks.proofs.FailureLemmas.{count_goes_on, rose_none, stepped_from, steps_append}
+use Rattle.cluster_tracks.specs.Runs.{HasRun, HaveRun, RoseByFailures, RunGoesOn, RunIsCounted}
+use Rattle.cluster_tracks.proofs.FailureLemmas.{others_on, rises, stepped_from, steps_grew}
 
 module _ {D : Type 0} (state : D → DiskState) where
-  -- a slot for which no replica was made has none
-  still_none : (o now : Option (Member D)) (steps : List Step) → IsStepped state steps o now → o ≡ None → now ≡ None
-  still_none None now steps gone none = gone
-  still_none (Some m) now steps h none = (let clash : Some m ≡ None = none in cc)
+  -- it took further steps
+  pub has_run_on : (tells : Bool) (depot : Depot D) (s : Slot) (steps more : List Step) (before m : Member D) → HasRun state tells depot s steps before → IsStepped state more (Some before) (Some m) → HasRun state tells depot s (steps ++ more) m
+  has_run_on tells depot s steps more before m r on = record { made = r.made; over = r.over; stepped = stepped_then state steps more (Some r.made) (Some before) (Some m) r.stepped on }
 
   pub run_goes_on : (old : Tracked D) → RunGoesOn state old
   run_goes_on old tells depot new more h ran came = record {
-    made = h.made;
     place = h.place;
     rules = h.rules;
-    opened = h.opened;
-    each = h.each;
-    more = h.more ++ more;
-    ran = ran_then state h.more more h.made old new h.ran ran;
-    others = λ s none. steps_append s h.more more ∙ ap (λ xs. xs ++ steps_of s more) (h.others s none) ∙ came s (still_none (finite.get h.made.members s) (finite.get old.members s) (steps_of s h.more) (h.ran.stepped s) none);
+    later = h.later ++ more;
+    opened = ran.grew ∙ ap (λ es. es ++ more) h.opened;
+    each = λ s m is.
+        let from = stepped_from state (steps_of s more) (finite.get old.members s) (finite.get new.members s) m (ran.stepped s) is in
+        subst (λ steps. HasRun state tells depot s steps m) (sym (steps_grew state old new more ran s)) (has_run_on tells depot s (steps_of s old.events) (steps_of s more) from.before m (h.each s from.before from.was) (m, refl, from.first, from.takes));
+    others = others_on state old new more ran h.others came;
   }
 
   module _ (tells : Bool) (depot : Depot D) (t : Tracked D) (h : HaveRun state tells depot t) where
-    -- the two events that open the list are no steps
-    no_steps : (s : Slot) → steps_of s h.made.events ≡ []
-    no_steps s = ap (steps_of s) h.opened
+    -- from the disk over which it was made
+    run_rose : (s : Slot) (steps : List Step) (m : Member D) (r : HasRun state tells depot s steps m) → RoseBy (failures_in steps) (state (r.over).disk).faults (state m.machine.disk).faults
+    run_rose s steps m r =
+        let now : (r.stepped).0 ≡ m = same_Some (r.stepped).0 m (sym (r.stepped).1) in
+        let disk : (state (r.made).machine.disk).faults ≡ (state (r.over).disk).faults = ap (λ (x : Member D). (state x.machine.disk).faults) (r.over).is_first in
+        subst (λ n. RoseBy (failures_in steps) n (state m.machine.disk).faults) disk
+        (subst (λ (x : Member D). RoseBy (failures_in steps) (state (r.made).machine.disk).faults (state x.machine.disk).faults) now (rises state steps (r.made).machine ((r.stepped).0).machine (r.stepped).3))
 
-    at_first : CountsFaults state h.made
-    at_first = record {
-      counts = λ s m is.
-          let made = h.each s m is in
-          let same : (state (m.first).value).faults ≡ (state m.machine.disk).faults = ap (λ (x : Member D). (state (x.first).value).faults) made.is_first ∙ sym (ap (λ (x : Member D). (state x.machine.disk).faults) made.is_first) in
-          subst (λ steps. RoseBy (failures_in steps) (state (m.first).value).faults (state m.machine.disk).faults) (sym (no_steps s)) (rose_none (state (m.first).value).faults (state m.machine.disk).faults (omega (arith, same)));
-      others = λ s none. no_steps s;
-    }
+    run_first : (s : Slot) (steps : List Step) (m : Member D) (r : HasRun state tells depot s steps m) → (state (m.first).value).faults ≡ (state (r.over).disk).faults
+    run_first s steps m r =
+        let now : (r.stepped).0 ≡ m = same_Some (r.stepped).0 m (sym (r.stepped).1) in
+        ap (λ (x : Member D). (state (x.first).value).faults) (sym now) ∙ ap (λ f. (state f.value).faults) (r.stepped).2 ∙ ap (λ (x : Member D). (state (x.first).value).faults) (r.over).is_first
 
     counts : CountsFaults state t
-    counts = count_goes_on state h.made t h.more at_first h.ran h.others
+    counts = record {
+      counts = λ s m is. let r = h.each s m is in subst (λ n. RoseBy (failures_in (steps_of s t.events)) n (state m.machine.disk).faults) (sym (run_first s (steps_of s t.events) m r)) (run_rose s (steps_of s t.events) m r);
+      others = h.others;
+    }
 
     rose : RoseByFailures state depot t
     rose = record {
-      rose = λ s m is.
-          let from = stepped_from state (steps_of s h.more) (finite.get h.made.members s) (finite.get t.members s) m (h.ran.stepped s) is in
-          let made = h.each s from.before from.was in
-          let same : (state (m.first).value).faults ≡ depot.counted (disk_slot_of s) = ap (λ f. (state f.value).faults) from.first ∙ ap (λ (x : Member D). (state (x.first).value).faults) made.is_first ∙ made.counted in
-          subst (λ n. RoseBy (failures_in (steps_of s t.events)) n (state m.machine.disk).faults) same (counts.counts s m is);
-      others = counts.others;
+      rose = λ s m is. let r = h.each s m is in subst (λ n. RoseBy (failures_in (steps_of s t.events)) n (state m.machine.disk).faults) (r.over).counted (run_rose s (steps_of s t.events) m r);
+      others = h.others;
     }
 
   pub run_is_counted : (t : Tracked D) → RunIsCounted state t

@@ -53,7 +53,9 @@ module _ {D : Type 0} {G : Ghosts D} (state : D → DiskState) (lawful : (d : D)
         ready = left.ready;
         place = ap (λ (s : MetaState). s.place) set.state_is;
         slots = set.slots;
+        past = set.past;
         stopped = set.stopped;
+        known = goes.stands.known;
       })
 
   pub namespaces_are_tracked : NamespacesAreTracked state m
@@ -107,6 +109,7 @@ module _ {D : Type 0} {G : Ghosts D} (state : D → DiskState) (lawful : (d : D)
         replicas = keeps.replicas;
         bag = keeps.bag;
         slots = keeps.slots;
+        past = keeps.past;
         stopped = keeps.stopped;
       }) in
       goes_quietly state m tells first now turns calls a answer.Done PlainLine (plain_on state (Some m)) lawful g [] on
@@ -124,7 +127,9 @@ module _ {D : Type 0} {G : Ghosts D} (state : D → DiskState) (lawful : (d : D)
         ready = left.ready;
         place = ap (λ (s : MetaState). s.place) keeps.state;
         slots = keeps.slots;
+        past = keeps.past;
         stopped = keeps.stopped;
+        known = goes.stands.known;
       })
   fates_are_tracked list tells first now turns calls (answer.Unknown name) g on left done =
       let a : Act = act.Fates list in

@@ -79,6 +79,8 @@ module _ {D : Type 0} {G : Ghosts D} (state : D → DiskState) (m : Members D G)
         ran = ran_nothing state m.net.replicas;
         others = λ s none. refl;
         slots = refl;
+        past = refl;
+        place = refl;
         stands = stands_unchanged m None turns a b before.stands h.sets_none h.delivers_none;
         low = before.low;
       })

@@ -13,7 +13,7 @@ use Rattle.call_lines.specs.Laws.{Kind}
 use Rattle.cluster_members.specs.declared.members.Members.{Members}
 use Rattle.first_cluster.specs.Slots.{AreApart}
 use Rattle.cluster_tracks.specs.Steps.{StandsAfterLine, TracksAtFirst, TracksOn}
-use Rattle.cluster_tracks.specs.Tracks.{Tracks, events_of}
+use Rattle.cluster_tracks.specs.Tracks.{HasTenures, Tracks, events_of}
 use Rattle.cluster_tracks.proofs.FailureLemmas.{rose_both, rose_none}
 use Rattle.cluster_tracks.proofs.NumberLemmas.{numbers_stay}
 use Rattle.cluster_tracks.proofs.RunLemmas.{run_goes_on}
@@ -85,4 +85,6 @@ stands_after_line {D} {G} state old tells now turns a b new h on = record {
   run = run_goes_on state old.net.replicas tells now new.net.replicas on.more h.run on.ran on.others;
   apart = subst AreApart (sym on.slots) h.apart;
   low = on.low;
+  tenures = subst HasTenures (sym on.place) h.tenures;
+  bare = h.bare;
 }

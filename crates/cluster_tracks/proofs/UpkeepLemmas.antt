@@ -1,5 +1,5 @@
 -- Lines of upkeep, and of `status`.
-use Rattle.std.proofs.Common.{◌≡◌, ◌+◌, ◌*◌, ◌≤◌, ℕ, List, length, refl, arith, Bool}
+use Rattle.std.proofs.Common.{◌≡◌, ◌+◌, ◌*◌, ◌≤◌, ℕ, List, length, refl, ap, arith, Bool}
 use Rattle.std.specs.Prelude.{Some, None}
 use Rattle.std.specs.List.{flat_map}
 use Rattle.m3_model.specs.declared.act.Act.{Act}
@@ -7,6 +7,7 @@ use Rattle.m3_model.specs.declared.act.Act.TheVariants as act
 use Rattle.m3_model.specs.declared.answer.Answer.{Answer}
 use Rattle.m3_model.specs.declared.answer.Answer.TheVariants as answer
 use Rattle.m3_model.specs.declared.turn.Turn.{Turn}
+use Rattle.m3_model.specs.declared.rules.MetaState.{MetaState}
 use Rattle.m3_outside.specs.Depots.{Depot}
 use Rattle.m3_outside.specs.DiskState.{DiskState, IsLawfulDisk}
 use Rattle.m3_outside.specs.declared.disk.Disk.{Ghosts}
@@ -34,7 +35,7 @@ module _ {D : Type 0} {G : Ghosts D} (state : D → DiskState) (lawful : (d : D)
   pub swept_on : (a : Act) → IsUpkeepAct a → (OpensReplicas a → ⊥) → (c : StepCall) → sweep_call a m.net.state.rules ≡ Some c → (b : Answer) (g : Members D G) → IsLeft tells g → IsSwept state c m b g → IsTracked state m tells first now turns calls go a b g
   swept_on a is opens c asks (answer.Swept done failed) g left h =
       halted_on state m tells first now turns calls go lawful a (answer.Swept done failed) g (flat_map (asked_at c) h.entries) left (free a (answer.Swept done failed) is)
-      (swept_tells state m None turns g a c done failed asks (so state m tells first now turns calls go).stands h) refl opens h.keeps.keeps.slots h.ran
+      (swept_tells state m None turns g a c done failed asks (so state m tells first now turns calls go).stands h) refl opens h.keeps.keeps.slots h.keeps.keeps.past (ap (λ (s : MetaState). s.place) h.keeps.keeps.state) h.ran
   swept_on a is opens c asks answer.Memory g left same = wanted_on state m tells first now turns calls go a g same
   swept_on a is opens c asks answer.Full g left h = let few = h.few in full_on state m tells first now turns calls go a g h.same (2 * length h.slots) (omega (arith, few)) h.room
   swept_on a is opens c asks _ g left h = absurd h
@@ -42,7 +43,7 @@ module _ {D : Type 0} {G : Ghosts D} (state : D → DiskState) (lawful : (d : D)
   pub told_on : (b : Answer) (g : Members D G) → IsLeft tells g → IsTold state m b g → IsTracked state m tells first now turns calls go act.Status b g
   told_on (answer.Status moment lines version) g left h =
       halted_on state m tells first now turns calls go lawful act.Status (answer.Status moment lines version) g (flat_map told_at lines) left (free act.Status (answer.Status moment lines version) tt)
-      (status_tells state m None turns g moment lines version (so state m tells first now turns calls go).stands h) refl (λ o. o) h.keeps.keeps.slots h.ran
+      (status_tells state m None turns g moment lines version (so state m tells first now turns calls go).stands h) refl (λ o. o) h.keeps.keeps.slots h.keeps.keeps.past (ap (λ (s : MetaState). s.place) h.keeps.keeps.state) h.ran
   told_on answer.Memory g left same = wanted_on state m tells first now turns calls go act.Status g same
   told_on answer.Full g left h = let few = h.few in full_on state m tells first now turns calls go act.Status g h.same (1 * length h.slots) (omega (arith, few)) h.room
   told_on _ g left h = absurd h

@@ -16,6 +16,7 @@ use Rattle.cluster_members.specs.declared.members.Members.{Members}
 use Rattle.upkeep_lines.specs.Nodes.{IsBootstrapAnswer, IsDeliverAnswer, IsFated, IsRestarted, IsStopped}
 use Rattle.cluster_upkeep.specs.Upkeep.{IsSwept, IsTold}
 use Rattle.first_cluster.specs.First.{IsFirst, IsRefusedInit}
+use Rattle.cluster_placements.specs.Steps.{IsChanged, kept_in}
 use Rattle.cluster_tracks.specs.Numbers.{last_number}
 
 -- ---- `init`
@@ -37,9 +38,9 @@ MayCall number Made answered m g = ((number < last_number) × Made) ⊎ ((number
 abbrev pub Does : {D : Type 0} {G : Ghosts D} → (D → DiskState) → CallId → Members D G → Act → Answer → Members D G → Type 0
 Does state id m (act.Namespace name block past future retention) answered g = IsSpaceAdded state m (record { name = name; block = block; past = past; future = future; retention = retention }) answered g
 Does state id m (act.Now now) answered g = IsMoved state m now answered g
-Does state id m (act.Write ns name t v level version) answered g = MayCall id.number (IsWritten state m id (record { ns = ns; id = name; t = t; v = v }) level answered g) answered m g
-Does state id m (act.Fetch ns name from to level version) answered g = MayCall id.number (IsFetchAnswer state m id ns (λ k. pick.One k name) (record { from = from; to = to }) level answered g) answered m g
-Does state id m (act.Match ns wanted from to level version) answered g = MayCall id.number (IsFetchAnswer state m id ns (λ k. pick.Match k wanted) (record { from = from; to = to }) level answered g) answered m g
+Does state id m (act.Write ns name t v level version) answered g = MayCall id.number (IsWritten state m id (record { ns = ns; id = name; t = t; v = v }) level version answered g) answered m g
+Does state id m (act.Fetch ns name from to level version) answered g = MayCall id.number (IsFetchAnswer state m id ns (λ k. pick.One k name) (record { from = from; to = to }) level version answered g) answered m g
+Does state id m (act.Match ns wanted from to level version) answered g = MayCall id.number (IsFetchAnswer state m id ns (λ k. pick.Match k wanted) (record { from = from; to = to }) level version answered g) answered m g
 Does state id m (act.Fates list) answered g = IsFated m list answered g
 Does state id m act.Deliver answered g = IsDeliverAnswer state m answered g
 Does state id m (act.Stop node) answered g = IsStopped state m node answered g
@@ -60,7 +61,17 @@ OnMembers {D} {G} (Some m) Step answered new = (g : Members D G) × (new ≡ Som
 abbrev pub next_call : List ℕ → CallId
 next_call calls = record { client = 0; number = slice_index calls 0 }
 
--- `init` takes disks; any other act is done with the next call, and leaves the disks that the cluster doesn't have
+-- a line that makes a placement, out of order where no cluster stands; it takes disks
+abbrev pub IsStepAnswer : {D : Type 0} {G : Ghosts D} → (D → DiskState) → Depot D → Option (Members D G) → Act → Answer → Depot D → Option (Members D G) → Type 0
+IsStepAnswer state depot None a answered after new = (answered ≡ answer.Order) × (new ≡ None) × (after ≡ depot)
+IsStepAnswer {D} {G} state depot (Some m) a answered after new = (g : Members D G) × (new ≡ Some g) × IsChanged state (kept_in m) a depot m answered after g
+
+-- `init` and the lines that make a placement take disks; any other act is done with the next call, and leaves the disks that the cluster doesn't have
 abbrev pub IsServedBy : {D : Type 0} {G : Ghosts D} → (D → DiskState) → List ℕ → Depot D → Option (Members D G) → Act → Answer → Depot D → Option (Members D G) → Type 0
 IsServedBy state calls depot old (act.Init rf shards seed nodes) answered after new = IsInitAnswer state depot old rf shards seed nodes answered after new
+IsServedBy state calls depot old (act.Add node group) answered after new = IsStepAnswer state depot old (act.Add node group) answered after new
+IsServedBy state calls depot old (act.Drain node) answered after new = IsStepAnswer state depot old (act.Drain node) answered after new
+IsServedBy state calls depot old (act.Cancel node) answered after new = IsStepAnswer state depot old (act.Cancel node) answered after new
+IsServedBy state calls depot old (act.Remove node) answered after new = IsStepAnswer state depot old (act.Remove node) answered after new
+IsServedBy state calls depot old (act.Replace node by group) answered after new = IsStepAnswer state depot old (act.Replace node by group) answered after new
 IsServedBy state calls depot old a answered after new = OnMembers old (λ m g. Does state (next_call calls) m a answered g) answered new × (after ≡ depot)

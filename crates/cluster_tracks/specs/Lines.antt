@@ -1,5 +1,5 @@
 -- Each line that a cluster answers is tracked with the turns before it.
-use Rattle.std.specs.Prelude.{◌≡◌, ℕ, ℤ, ⊤, List, [], ◌∷◌, ◌++◌, Option, Some, None, Bool}
+use Rattle.std.specs.Prelude.{◌≡◌, ℕ, ℤ, ⊤, List, [], ◌∷◌, ◌++◌, Option, Some, None, Bool, true}
 use Rattle.served_acts.specs.NotYet.{IsServedAct}
 use Rattle.m3_model.specs.declared.act.Act.{Act}
 use Rattle.m3_model.specs.declared.act.Act.TheVariants as act
@@ -13,15 +13,17 @@ use Rattle.m3_model.specs.declared.turn.Turn.{Turn}
 use Rattle.m3_outside.specs.Depots.{Depot}
 use Rattle.m3_outside.specs.DiskState.{DiskState}
 use Rattle.m3_outside.specs.declared.disk.Disk.{Ghosts}
+use Rattle.placement_acts.specs.Acts.{is_step_act}
 use Rattle.cluster_core.specs.Legal.{Legal}
 use Rattle.replica_calls.specs.Calls.{AreMembersOf}
 use Rattle.session_net.specs.Ready.{IsReady}
 use Rattle.transcripts.specs.Record.{line_of}
 use Rattle.told_moves.specs.Order.{IsInitAct}
 use Rattle.cluster_members.specs.declared.members.Members.{Members}
+use Rattle.cluster_placements.specs.Steps.{MayChange}
 use Rattle.cluster_tracks.specs.Numbers.{numbers_by}
 use Rattle.cluster_tracks.specs.Tracks.{Tracks}
-use Rattle.cluster_tracks.specs.Acts.{Does, IsInitAnswer, IsServedBy, next_call}
+use Rattle.cluster_tracks.specs.Acts.{Does, IsInitAnswer, IsServedBy, IsStepAnswer, next_call}
 
 -- ---- a cluster that stands
 
@@ -44,15 +46,15 @@ IsTrackedLine {D} {G} state m a =
 
 -- ---- acts of it
 
--- calls of clients that give no version
+-- calls of clients
 abbrev pub WritesAreTracked : {D : Type 0} {G : Ghosts D} → (D → DiskState) → Members D G → Type 0
-WritesAreTracked state m = (ns id : List ℕ) (t : ℕ) (v : ℤ) (level : WriteLevel) → IsTrackedLine state m (act.Write ns id t v level None)
+WritesAreTracked state m = (ns id : List ℕ) (t : ℕ) (v : ℤ) (level : WriteLevel) (version : Option ℕ) → IsTrackedLine state m (act.Write ns id t v level version)
 
 abbrev pub FetchesAreTracked : {D : Type 0} {G : Ghosts D} → (D → DiskState) → Members D G → Type 0
-FetchesAreTracked state m = (ns id : List ℕ) (from to : ℕ) (level : ReadLevel) → IsTrackedLine state m (act.Fetch ns id from to level None)
+FetchesAreTracked state m = (ns id : List ℕ) (from to : ℕ) (level : ReadLevel) (version : Option ℕ) → IsTrackedLine state m (act.Fetch ns id from to level version)
 
 abbrev pub MatchesAreTracked : {D : Type 0} {G : Ghosts D} → (D → DiskState) → Members D G → Type 0
-MatchesAreTracked state m = (ns : List ℕ) (wanted : List Matcher) (from to : ℕ) (level : ReadLevel) → IsTrackedLine state m (act.Match ns wanted from to level None)
+MatchesAreTracked state m = (ns : List ℕ) (wanted : List Matcher) (from to : ℕ) (level : ReadLevel) (version : Option ℕ) → IsTrackedLine state m (act.Match ns wanted from to level version)
 
 -- rules, fates and deliveries
 abbrev pub NamespacesAreTracked : {D : Type 0} {G : Ghosts D} → (D → DiskState) → Members D G → Type 0
@@ -90,6 +92,11 @@ SnapshotsAreTracked state m = IsTrackedLine state m act.Snapshot
 abbrev pub StatusIsTracked : {D : Type 0} {G : Ghosts D} → (D → DiskState) → Members D G → Type 0
 StatusIsTracked state m = IsTrackedLine state m act.Status
 
+-- what is known where one stands, before and after
+abbrev pub EachMember : {D : Type 0} {G : Ghosts D} → Option (Members D G) → (Members D G → Type 0) → Type 0
+EachMember None Holds = ⊤
+EachMember (Some m) Holds = Holds m
+
 -- ---- before a cluster stands, and `init`
 
 -- where none stands, each other act is out of order
@@ -105,16 +112,20 @@ InitsAreTracked {D} {G} state old =
     → Tracks state tells first before turns old calls → ((m : Members D G) → new ≡ Some m → IsLeft tells m) → IsInitAnswer state before old rf shards seed nodes b after new
     → Tracks state tells first after (turns ++ line_of (act.Init rf shards seed nodes) b ∷ []) new (numbers_by (act.Init rf shards seed nodes) b calls)
 
--- ---- all acts
+-- ---- lines that make a placement
 
--- what is known where one stands, before and after
-abbrev pub EachMember : {D : Type 0} {G : Ghosts D} → Option (Members D G) → (Members D G → Type 0) → Type 0
-EachMember None Holds = ⊤
-EachMember (Some m) Holds = Holds m
+-- Such a line, whatever it is answered; and what is left of the cluster has what the next one needs.
+abbrev pub StepsAreTracked : {D : Type 0} {G : Ghosts D} → (D → DiskState) → Option (Members D G) → Type 0
+StepsAreTracked {D} {G} state old =
+    (tells : Bool) (first before after : Depot D) (turns : List Turn) (calls : List ℕ) (a : Act) (b : Answer) (new : Option (Members D G))
+    → is_step_act a ≡ true → Tracks state tells first before turns old calls → EachMember new (λ m. IsLeft tells m) → EachMember new (λ m. MayChange m after.held) → IsStepAnswer state before old a b after new
+    → Tracks state tells first after (turns ++ line_of a b ∷ []) new (numbers_by a b calls)
+
+-- ---- all acts
 
 -- The line of an act that is served, whatever it is answered.
 abbrev pub LinesAreTracked : {D : Type 0} {G : Ghosts D} → (D → DiskState) → Option (Members D G) → Type 0
 LinesAreTracked {D} {G} state old =
     (tells : Bool) (first before after : Depot D) (turns : List Turn) (calls : List ℕ) (a : Act) (b : Answer) (new : Option (Members D G))
     → IsServedAct a → Tracks state tells first before turns old calls → EachMember old (λ m. AreMembersOf state m.net.replicas) → EachMember new (λ m. IsLeft tells m)
-    → IsServedBy state calls before old a b after new → Tracks state tells first after (turns ++ line_of a b ∷ []) new (numbers_by a b calls)
+    → EachMember new (λ m. MayChange m after.held) → IsServedBy state calls before old a b after new → Tracks state tells first after (turns ++ line_of a b ∷ []) new (numbers_by a b calls)

@@ -17,6 +17,7 @@ use Rattle.transcripts.specs.Record.{line_of}
 use Rattle.call_lines.specs.Left.{NetIsLeftBy}
 use Rattle.cluster_members.specs.declared.members.Members.{Members}
 use Rattle.act_lines.specs.Quiet.{KeepsStops}
+use Rattle.act_lines.specs.Stands.{KnowsNodes}
 use Rattle.act_lines.specs.Stays.{HaveNoPlace}
 use Rattle.act_lines.specs.Keeps.{BeginsGiven}
 use Rattle.cluster_tracks.specs.Failures.{OnlyReplicasStep}
@@ -43,7 +44,9 @@ pub record GoesQuietly {D : Type 0} {G : Ghosts D} (state : D → DiskState) (tu
   pub ready : IsReady new.net.state new.net.replicas new.net.bag
   pub place : new.net.state.place ≡ old.net.state.place
   pub slots : new.slots.items ≡ old.slots.items
+  pub past : new.past.items ≡ old.past.items
   pub stopped : new.stopped.items ≡ old.stopped.items
+  pub known : KnowsNodes (turns ++ line_of a b ∷ []) new.net.state.place new.net.fates
 
 -- So the cluster goes on.
 abbrev pub QuietLinesStandOn : {D : Type 0} {G : Ghosts D} → (D → DiskState) → Members D G → Type 0

@@ -17,7 +17,7 @@ use Rattle.cluster_core.specs.declared.event.StepReply.TheVariants as reply
 use Rattle.replica_exchange.specs.declared.member.Member.{Member}
 use Rattle.replica_exchange.specs.declared.slot.Slot.{Slot}
 use Rattle.replica_calls.specs.Calls.{Tracked, first_member}
-use Rattle.session_net.specs.Runs.{Ran, steps_of}
+use Rattle.session_net.specs.Runs.{IsStepped, Ran, Step, steps_of}
 use Rattle.first_cluster.specs.Bare.{HasNoPoints}
 use Rattle.first_cluster.specs.Depots.{disk_slot_of}
 use Rattle.cluster_tracks.specs.Failures.{CountsFaults, OnlyReplicasStep, failures_in}
@@ -29,16 +29,20 @@ pub record IsMadeOver {D : Type 0} (state : D → DiskState) (tells : Bool) (dep
   pub counted : (state disk).faults ≡ depot.counted (disk_slot_of s)
   pub bare : tells ≡ true → EachImage (state disk) HasNoPoints
 
--- The replicas were made so, with two events that open the list; and each took the steps of its slot since, which are all steps of the list.
+-- the replica was made so, at the run's beginning or later, and took these steps since
+pub record HasRun {D : Type 0} (state : D → DiskState) (tells : Bool) (depot : Depot D) (s : Slot) (steps : List Step) (m : Member D) : Type 0 where
+  pub made : Member D
+  pub over : IsMadeOver state tells depot s made
+  pub stepped : IsStepped state steps (Some made) (Some m)
+
+-- Two events open the list; and each replica took the steps of its slot in it, which are all steps of the list.
 pub record HaveRun {D : Type 0} (state : D → DiskState) (tells : Bool) (depot : Depot D) (t : Tracked D) : Type 0 where
-  pub made : Tracked D
   pub place : Placement
   pub rules : Rules
-  pub opened : made.events ≡ event.Place place [] ∷ event.Clock rules ∷ []
-  pub each : (s : Slot) (m : Member D) → finite.get made.members s ≡ Some m → IsMadeOver state tells depot s m
-  pub more : List Event
-  pub ran : Ran state made more t
-  pub others : OnlyReplicasStep made more
+  pub later : List Event
+  pub opened : t.events ≡ event.Place place [] ∷ event.Clock rules ∷ later
+  pub each : (s : Slot) (m : Member D) → finite.get t.members s ≡ Some m → HasRun state tells depot s (steps_of s t.events) m
+  pub others : OnlyReplicasStep t t.events
 
 -- no replica opens with a point
 abbrev pub no_points : Opening

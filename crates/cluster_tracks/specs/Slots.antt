@@ -1,17 +1,25 @@
 -- What an act leaves of the slots of a cluster that stands.
-use Rattle.std.specs.Prelude.{◌≡◌}
+use Rattle.std.specs.Prelude.{◌≡◌, List, [], ◌++◌, None}
+use Rattle.std.specs.FinMap as finite
 use Rattle.m3_model.specs.declared.act.Act.{Act}
 use Rattle.m3_model.specs.declared.answer.Answer.{Answer}
 use Rattle.m3_outside.specs.DiskState.{DiskState}
 use Rattle.m3_outside.specs.declared.disk.Disk.{Ghosts}
+use Rattle.cluster_core.specs.declared.event.Event.{Event}
 use Rattle.replica_exchange.specs.declared.call_id.CallId.{CallId}
+use Rattle.replica_exchange.specs.declared.slot.Slot.{Slot}
+use Rattle.session_net.specs.Runs.{steps_of}
 use Rattle.cluster_members.specs.declared.members.Members.{Members}
 use Rattle.upkeep_lines.specs.Halts.{HaveSameSlots}
 use Rattle.cluster_tracks.specs.Acts.{Does}
 
--- the slots stay, and the same ones have replicas
+-- the slots stay, the same ones have replicas, events only came, of which slots without a replica have no step, and the same placements are kept
 pub record KeepsSlots {D : Type 0} {G : Ghosts D} (old new : Members D G) : Type 0 where
   pub slots : new.slots.items ≡ old.slots.items
+  pub past : new.past.items ≡ old.past.items
+  pub place : new.net.state.place ≡ old.net.state.place
+  pub came : (more : List Event) × (new.net.replicas.events ≡ old.net.replicas.events ++ more)
+  pub only : (s : Slot) → finite.get old.net.replicas.members s ≡ None → steps_of s came.0 ≡ []
   pub same : HaveSameSlots old.net.replicas new.net.replicas
 
 -- So it is after each act other than `init`, whatever it is answered.

@@ -65,12 +65,14 @@ TracksOn {D} {G} Line state old =
 
 -- ---- a line of a cluster that stands
 
--- its replicas took the steps that came to the list, the slots stay, and it is what the turns left
+-- its replicas took the steps that came to the list, the slots and the placements stay, and it is what the turns left
 pub record StandsOn {D : Type 0} {G : Ghosts D} (state : D → DiskState) (tells : Bool) (turns : List Turn) (old : Members D G) (a : Act) (b : Answer) (new : Members D G) : Type 0 where
   pub more : List Event
   pub ran : Ran state old.net.replicas more new.net.replicas
   pub others : OnlyReplicasStep old.net.replicas more
   pub slots : new.slots.items ≡ old.slots.items
+  pub past : new.past.items ≡ old.past.items
+  pub place : new.net.state.place ≡ old.net.state.place
   pub stands : ClusterStands None (turns ++ line_of a b ∷ []) new
   pub low : tells ≡ true → OpensLow state None new.net.replicas
 

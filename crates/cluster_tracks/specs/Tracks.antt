@@ -1,5 +1,8 @@
 -- What is so of a cluster and of the disks that it doesn't have, after the turns of a first run.
 use Rattle.std.specs.Prelude.{◌≡◌, ◌≤◌, ℕ, List, [], ◌++◌, length, Option, Some, None, Bool, true}
+use Rattle.m3_model.specs.Members.{IsIn}
+use Rattle.m3_model.specs.declared.placement.Assignment.{Assignment}
+use Rattle.m3_model.specs.declared.placement.Placement.{Placement}
 use Rattle.m3_model.specs.declared.turn.Turn.{Turn}
 use Rattle.m3_outside.specs.Causes.{RoseBy}
 use Rattle.m3_outside.specs.Depots.{Depot, TellAll}
@@ -27,12 +30,19 @@ abbrev pub events_of : {D : Type 0} {G : Ghosts D} → Option (Members D G) → 
 events_of None = []
 events_of (Some m) = m.net.replicas.events
 
--- one that stands: it is what the turns left, and its replicas did what the list says; its slots are apart, and those that never began may begin
+-- each replica of the placement has its shard since some version
+abbrev pub HasTenures : Placement → Type 0
+HasTenures place = (shard : List Assignment) → IsIn place.shards shard → (a : Assignment) → IsIn shard a → 1 ≤ a.tenure
+
+-- One that stands: it is what the turns left, and its replicas did what the list says; its slots are apart, and those that never began may begin. Where disks tell,
+-- those that lie in slots have no points.
 pub record StandsSo {D : Type 0} {G : Ghosts D} (state : D → DiskState) (tells : Bool) (now : Depot D) (turns : List Turn) (m : Members D G) : Type 0 where
   pub stands : ClusterStands None turns m
   pub run : HaveRun state tells now m.net.replicas
   pub apart : AreApart m.slots.items
   pub low : tells ≡ true → OpensLow state None m.net.replicas
+  pub tenures : HasTenures m.net.state.place
+  pub bare : tells ≡ true → AreBare state now.held
 
 -- none stands: the turns left nothing, and where disks tell, those that lie in slots have no points
 pub record NoneStandsYet {D : Type 0} (state : D → DiskState) (tells : Bool) (now : Depot D) (turns : List Turn) : Type 0 where

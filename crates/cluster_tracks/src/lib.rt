@@ -7,5 +7,5 @@ pub mod lines;
 
 pub use lines::{
     acts_keep_slots, calls_are_tracked, inits_are_tracked, lines_are_tracked, nodes_are_tracked,
-    settings_are_tracked, upkeep_is_tracked,
+    settings_are_tracked, steps_are_tracked, upkeep_is_tracked,
 };

@@ -1,11 +1,11 @@
 //! The lines of a run tracked one after the other.
-ghost use Rattle.cluster_tracks.specs.Lines.{BootstrapsAreTracked, DeliveriesAreTracked, FatesAreTracked, FetchesAreTracked, FlushesAreTracked, InitsAreTracked, LinesAreTracked, MatchesAreTracked, MomentsAreTracked, NamespacesAreTracked, OrdersAreTracked, RestartsAreTracked, SnapshotsAreTracked, StatusIsTracked, StopsAreTracked, TicksAreTracked, WritesAreTracked};
+ghost use Rattle.cluster_tracks.specs.Lines.{BootstrapsAreTracked, DeliveriesAreTracked, FatesAreTracked, FetchesAreTracked, FlushesAreTracked, InitsAreTracked, LinesAreTracked, MatchesAreTracked, MomentsAreTracked, NamespacesAreTracked, OrdersAreTracked, RestartsAreTracked, SnapshotsAreTracked, StatusIsTracked, StepsAreTracked, StopsAreTracked, TicksAreTracked, WritesAreTracked};
 ghost use Rattle.cluster_tracks.specs.Slots.{ActsKeepSlots};
 
 use cluster_members::Members;
 use m3_outside::Disk;
 
-/// An act leaves the slots, and which of them have replicas.
+/// An act that makes no placement leaves the one that stands, the slots, and which of them have replicas; a slot without one takes no step.
 pub fn acts_keep_slots<D: Disk>(members: &Members<D>)
     ensures { ActsKeepSlots D.state members.now }
 {}
@@ -44,6 +44,12 @@ pub fn upkeep_is_tracked<D: Disk>(members: &Members<D>)
 pub fn inits_are_tracked<D: Disk>(members: &Option<Members<D>>)
     ensures order { OrdersAreTracked D.state members.now }
     ensures init { InitsAreTracked D.state members.now }
+{}
+
+/// Those that make a placement, whatever they are answered: the next placement, a refusal, a disk that couldn't be taken, or want of room
+/// or of memory.
+pub fn steps_are_tracked<D: Disk>(members: &Option<Members<D>>)
+    ensures { StepsAreTracked D.state members.now }
 {}
 
 /// Any line of an act that is served.

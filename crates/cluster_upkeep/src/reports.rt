@@ -69,6 +69,7 @@ pub fn status<D: Disk>(members: &mut Members<D>, alloc: Global) -> Answer
     requires ready { IsReady members.old.net.state members.old.net.replicas members.old.net.bag }
     ensures told { IsTold D.state members.old result members.new }
     ensures ready { IsReady members.new.net.state members.new.net.replicas members.new.net.bag }
+    ensures past { members.new.past.items ≡ members.old.past.items }
     ensures same_slots { HaveSameSlots members.old.net.replicas members.new.net.replicas }
 {
     let Ok(rows) = all_rows(alloc, &members.net.state.place) else {

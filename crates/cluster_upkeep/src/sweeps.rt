@@ -120,6 +120,7 @@ fn sweep<D: Disk>(members: &mut Members<D>, alloc: Global, job: Job) -> Answer
     requires ready { IsReady members.old.net.state members.old.net.replicas members.old.net.bag }
     ensures swept { IsSwept D.state (call_by job members.old.net.state.rules) members.old result members.new }
     ensures ready { IsReady members.new.net.state members.new.net.replicas members.new.net.bag }
+    ensures past { members.new.past.items ≡ members.old.past.items }
     ensures same_slots { HaveSameSlots members.old.net.replicas members.new.net.replicas }
 {
     let Ok(rows) = all_rows(alloc, &members.net.state.place) else {
@@ -148,6 +149,7 @@ pub fn tick<D: Disk>(members: &mut Members<D>, alloc: Global) -> Answer
     requires ready { IsReady members.old.net.state members.old.net.replicas members.old.net.bag }
     ensures swept { IsSwept D.state (call.Tick members.old.net.state.rules) members.old result members.new }
     ensures ready { IsReady members.new.net.state members.new.net.replicas members.new.net.bag }
+    ensures past { members.new.past.items ≡ members.old.past.items }
     ensures same_slots { HaveSameSlots members.old.net.replicas members.new.net.replicas }
 {
     sweep(members, alloc, Job::Tick)
@@ -160,6 +162,7 @@ pub fn flush<D: Disk>(members: &mut Members<D>, alloc: Global) -> Answer
     requires ready { IsReady members.old.net.state members.old.net.replicas members.old.net.bag }
     ensures swept { IsSwept D.state (call.Flush members.old.net.state.rules) members.old result members.new }
     ensures ready { IsReady members.new.net.state members.new.net.replicas members.new.net.bag }
+    ensures past { members.new.past.items ≡ members.old.past.items }
     ensures same_slots { HaveSameSlots members.old.net.replicas members.new.net.replicas }
 {
     sweep(members, alloc, Job::Flush)
@@ -172,6 +175,7 @@ pub fn snapshot<D: Disk>(members: &mut Members<D>, alloc: Global) -> Answer
     requires ready { IsReady members.old.net.state members.old.net.replicas members.old.net.bag }
     ensures swept { IsSwept D.state call.Snapshot members.old result members.new }
     ensures ready { IsReady members.new.net.state members.new.net.replicas members.new.net.bag }
+    ensures past { members.new.past.items ≡ members.old.past.items }
     ensures same_slots { HaveSameSlots members.old.net.replicas members.new.net.replicas }
 {
     sweep(members, alloc, Job::Snapshot)

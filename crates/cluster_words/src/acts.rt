@@ -105,6 +105,36 @@ fn find(alloc: Global, ns: u8, sign: u8, level: u8, rest: &str) -> Result<Act, M
     })
 }
 
+// `+d4` adds d in the group 4, `-a` drains a, `~d` cancels the moves to d, `/d` removes d, and `%ad1` replaces a by d in the group 1. Any
+// other word is a call.
+fn change(alloc: Global, word: &[u8]) -> Result<Act, Memory>
+    ensures { IfOk result MayAsk }
+{
+    match word {
+        [b'+', node, group] => {
+            let node = name(alloc, *node)?;
+            let group = name(alloc, *group)?;
+            Ok(Act::Add { node, group })
+        }
+        [b'-', node] => Ok(Act::Drain {
+            node: name(alloc, *node)?,
+        }),
+        [b'~', node] => Ok(Act::Cancel {
+            node: name(alloc, *node)?,
+        }),
+        [b'/', node] => Ok(Act::Remove {
+            node: name(alloc, *node)?,
+        }),
+        [b'%', node, by, group] => {
+            let node = name(alloc, *node)?;
+            let by = name(alloc, *by)?;
+            let group = name(alloc, *group)?;
+            Ok(Act::Replace { node, by, group })
+        }
+        other => call(alloc, other),
+    }
+}
+
 // Writes, fetches and matches; `Deliver` for any other word.
 fn call(alloc: Global, word: &[u8]) -> Result<Act, Memory>
     ensures { IfOk result MayAsk }
@@ -158,7 +188,7 @@ fn set_fates(alloc: Global, list: &str) -> Result<Act, Memory>
     })
 }
 
-// Upkeep: `k` ticks, `l` flushes and `u` asks how all replicas stand. Any other word is a call.
+// Upkeep: `k` ticks, `l` flushes and `u` asks how all replicas stand. Any other word changes the placement, or is a call.
 fn upkeep(alloc: Global, word: &[u8]) -> Result<Act, Memory>
     ensures { IfOk result MayAsk }
 {
@@ -166,7 +196,7 @@ fn upkeep(alloc: Global, word: &[u8]) -> Result<Act, Memory>
         [b'k'] => Ok(Act::Tick),
         [b'l'] => Ok(Act::Flush),
         [b'u'] => Ok(Act::Status),
-        other => call(alloc, other),
+        other => change(alloc, other),
     }
 }
 

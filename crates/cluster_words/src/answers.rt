@@ -1,6 +1,8 @@
 //! Answers as texts.
 use crate::words::letter_of;
-use m3_model::{Answer, Memory, Placement, Reason, Reply, Series, Standing, StatusLine};
+use m3_model::{
+    Answer, Memory, Placement, Reason, Reply, Series, ShardState, Standing, StatusLine,
+};
 
 /// The letter of a node by its number.
 pub fn letter_of_node(node: u8) -> char {
@@ -8,6 +10,8 @@ pub fn letter_of_node(node: u8) -> char {
         0 => 'a',
         1 => 'b',
         2 => 'c',
+        3 => 'd',
+        4 => 'e',
         _ => '?',
     }
 }
@@ -27,7 +31,16 @@ pub fn letter_of_reason(reason: &Reason) -> char {
     }
 }
 
-/// The version, and the nodes of each shard: `v1[abc]`.
+// What marks a node whose replica joins its shard, or leaves it.
+fn mark_of(state: ShardState) -> &'static str {
+    match state {
+        ShardState::Initializing => "+",
+        ShardState::Available => "",
+        ShardState::Leaving => "-",
+    }
+}
+
+/// The version, and the nodes of each shard: `v1[abc]`. One that joins is marked by a plus, and one that leaves by a minus: `v2[a-bcd+]`.
 pub fn spell_placement(out: &mut String, place: &Placement) -> Result<(), Memory> {
     let version = place.version;
     write!(out, "v{version}")?;
@@ -35,6 +48,7 @@ pub fn spell_placement(out: &mut String, place: &Placement) -> Result<(), Memory
         out.push('[')?;
         for assignment in shard.as_slice() {
             out.push(letter_of_node(assignment.node))?;
+            out.push_str(mark_of(assignment.state))?;
         }
         out.push(']')?;
     }
@@ -152,6 +166,12 @@ fn spell_other(out: &mut String, answer: &Answer) -> Result<(), Memory> {
         }
         Answer::Clock { now } => write!(out, "clock{now}")?,
         Answer::Limit { limit } => write!(out, "limit{limit}")?,
+        Answer::Busy { node, shard } => {
+            out.push('!')?;
+            out.push_str(node.as_str())?;
+            write!(out, "{shard}")?;
+        }
+        Answer::Group { shard } => write!(out, "group{shard}")?,
         Answer::Full => out.push_str("full")?,
         Answer::Memory => return Err(Memory),
         _ => out.push_str("other")?,

@@ -13,7 +13,8 @@ use Rattle.m3_outside.specs.DiskState.{DiskState}
 use Rattle.m3_outside.specs.declared.disk.Disk.{Ghosts}
 use Rattle.net_plan.specs.Fates.{fates_of}
 use Rattle.placement_core.specs.Lawful.{IsLawful}
-use Rattle.placement_plan.specs.First.{IsFirstPlacement, IsInitial}
+use Rattle.placement_plan.specs.First.{IsFirstPlacement, IsInitial, RefusesInitial}
+use Rattle.placement_plan.specs.declared.plan_err.PlaceErr.TheVariants as refused
 use Rattle.cluster_core.specs.declared.event.Event.{Event}
 use Rattle.cluster_core.specs.declared.event.Event.TheVariants as event
 use Rattle.replica_exchange.specs.declared.slot.Slot.{Slot}
@@ -40,7 +41,7 @@ pub record IsPlan (rf shards seed : ℕ) (nodes : List (List ℕ × List ℕ)) (
   pub stopped : plan.stopped.items ≡ replicate (length plan.state.place.instances) false
   pub printed : plan.printed ≡ plan.state.place
 
--- the cluster that `init` makes of these nodes: at moment 0 without namespaces, with a replica over the disk of each slot, begun behind the events that open the
+-- the cluster that `init` makes of these nodes: at moment 0 without namespaces, without a placement before its first, with a replica over the disk of each slot, begun behind the events that open the
 -- list; nothing is lost or late, and each node runs
 pub record IsFirst {D : Type 0} {G : Ghosts D} (state : D → DiskState) (rf shards seed : ℕ) (nodes : List (List ℕ × List ℕ)) (old new : Depot D) (m : Members D G) : Type 0 where
   pub initial : IsInitial rf shards nodes m.net.state.place
@@ -52,6 +53,7 @@ pub record IsFirst {D : Type 0} {G : Ghosts D} (state : D → DiskState) (rf sha
   pub opened : AreOpened state m.slots.items (starts_of m.net.state.place) (opening_of m.net.state) old new m.net.replicas
   pub fates : m.net.fates ≡ fates_of []
   pub bag : m.net.bag ≡ []
+  pub past : m.past.items ≡ []
   pub stopped : m.stopped.items ≡ replicate (length m.net.state.place.instances) false
 
 -- a disk of one of the placement's slots couldn't be taken
@@ -71,8 +73,9 @@ IsDiskAnswer place slot (answer.Disk name shard) = (shard ≡ slot.shard) × ((i
 IsDiskAnswer place slot answer.Memory = ⊤
 IsDiskAnswer place slot _ = ⊥
 
--- `init` is refused, and no disk is out
+-- `init` is refused, and no disk is out; where its nodes are in fewer isolation groups than a shard has replicas, nothing was done at any disk
 abbrev pub IsRefusedInit : {D : Type 0} → (D → DiskState) → ℕ → ℕ → ℕ → List (List ℕ × List ℕ) → Depot D → Depot D → Answer → Type 0
+IsRefusedInit state rf shards seed nodes old new (answer.Group shard) = RefusesInitial rf nodes (refused.Group shard) × (new ≡ old)
 IsRefusedInit state rf shards seed nodes old new (answer.Disk name shard) = IsDiskUntaken rf shards seed nodes name shard old new × HasReturned state old empty new
 IsRefusedInit state rf shards seed nodes old new answer.Memory = HasReturned state old empty new
 IsRefusedInit state rf shards seed nodes old new _ = ⊥

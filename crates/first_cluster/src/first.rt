@@ -1,7 +1,6 @@
 //! What a cluster begins with.
-ghost use Rattle.std.specs.Prelude.{◌≡◌, ◌≢◌, ◌<◌, length, IfOk, IfErr, IsTrue};
+ghost use Rattle.std.specs.Prelude.{◌≡◌, ◌≢◌, ◌<◌, length, IfOk, IfErr};
 ghost use Rattle.m3_model.specs.Limits.{IsInit};
-ghost use Rattle.served_acts.specs.NotYet.{fills_its_nodes};
 ghost use Rattle.m3_outside.specs.Slots.{Out};
 ghost use Rattle.m3_outside.specs.declared.slot.DiskSlot.{DiskSlot};
 ghost use Rattle.session_net.specs.Ready.{IsReady};
@@ -15,6 +14,7 @@ use cluster_members::Members;
 use m3_model::{Answer, Duplicate, Placement, Seq, Text};
 use m3_outside::{Disk, Disks};
 use net_plan::Fates;
+use placement_plan::PlaceErr;
 use replica_exchange::Slot;
 use session_net::Net;
 use std::alloc::Global;
@@ -41,7 +41,8 @@ fn untaken(alloc: Global, place: &Placement, slot: Slot) -> Answer
 ///
 /// # Errors
 ///
-/// The answer: a disk that couldn't be taken, or want of memory. No disk is out then.
+/// The answer: `Group` of shard 0 exactly where the nodes are in fewer than `rf` isolation groups, unless memory was wanted, and
+/// then no disk was taken; a disk that couldn't be taken; or want of memory. No disk is out then.
 pub fn first_members<D: Disk, X: Disks<D = D>>(
     alloc: Global,
     disks: &mut X,
@@ -51,7 +52,6 @@ pub fn first_members<D: Disk, X: Disks<D = D>>(
     nodes: Seq<(Text, Text)>,
 ) -> Result<(Members<D>, Placement), Answer>
     requires limits { IsInit rf shards seed nodes }
-    requires apart { IsTrue (fills_its_nodes rf nodes) }
     requires free { (slot : DiskSlot) → X.held disks.old slot ≢ Out }
     ensures members { IfOk result (λ made. IsFirst D.state rf shards seed nodes (depot_by X.held X.counted X.all_faults disks.old) (depot_by X.held X.counted X.all_faults disks.new) made.0) }
     ensures ready { IfOk result (λ made. IsReady made.0.net.state made.0.net.replicas made.0.net.bag) }
@@ -59,8 +59,10 @@ pub fn first_members<D: Disk, X: Disks<D = D>>(
     ensures placement { IfOk result (λ made. made.1 ≡ made.0.net.state.place) }
     ensures refused { IfErr result (IsRefusedInit D.state rf shards seed nodes (depot_by X.held X.counted X.all_faults disks.old) (depot_by X.held X.counted X.all_faults disks.new)) }
 {
-    let Ok(plan) = planned(alloc, rf, shards, seed, nodes) else {
-        return Err(Answer::Memory);
+    let plan = match planned(alloc, rf, shards, seed, nodes) {
+        Ok(plan) => plan,
+        Err(PlaceErr::Group { shard }) => return Err(Answer::Group { shard }),
+        Err(_) => return Err(Answer::Memory),
     };
     let replicas = match opened(alloc, disks, &plan) {
         Ok(replicas) => replicas,
@@ -75,6 +77,7 @@ pub fn first_members<D: Disk, X: Disks<D = D>>(
     };
     let members = Members {
         net,
+        past: Vec::new(alloc),
         slots: plan.slots,
         stopped: plan.stopped,
     };

@@ -1,7 +1,7 @@
 //! What a cluster is to be, before it takes any disk.
-ghost use Rattle.std.specs.Prelude.{◌≡◌, ◌≤◌, ◌^◌, false, length, replicate, IfOk, IsTrue};
+ghost use Rattle.std.specs.Prelude.{◌≡◌, ◌≤◌, ◌^◌, false, length, replicate, IfErr, IfOk};
 ghost use Rattle.m3_model.specs.Limits.{IsInit};
-ghost use Rattle.served_acts.specs.NotYet.{fills_its_nodes};
+ghost use Rattle.placement_plan.specs.First.{RefusesInitial};
 ghost use Rattle.first_cluster.specs.First.{IsPlan};
 ghost use Rattle.first_cluster.specs.Slots.{slots_in, starts_of};
 
@@ -9,6 +9,7 @@ use crate::start::Start;
 use first_placement::initial::initial;
 use m3_model::{Duplicate, Memory, MetaState, Placement, Rules, Seq, Text};
 use net_plan::Bag;
+use placement_plan::PlaceErr;
 use replica_exchange::Slot;
 use std::alloc::Global;
 
@@ -66,22 +67,20 @@ fn none_stopped(alloc: Global, nodes: usize) -> Result<Vec<bool>, Memory>
     Ok(stopped)
 }
 
-// What `init` is to make of these nodes. Refused for want of memory alone: the nodes' groups differ, so each shard finds
-// its nodes.
+// What `init` is to make of these nodes. Refused `Group` of shard 0 where these are in fewer than `rf` isolation groups; and for
+// want of memory.
 pub(crate) fn planned(
     alloc: Global,
     rf: u32,
     shards: u32,
     seed: u32,
     nodes: Seq<(Text, Text)>,
-) -> Result<Plan, Memory>
-    requires limits { IsInit rf shards seed nodes }
-    requires apart { IsTrue (fills_its_nodes rf nodes) }
-    ensures { IfOk result (IsPlan rf shards seed nodes) }
+) -> Result<Plan, PlaceErr>
+    requires { IsInit rf shards seed nodes }
+    ensures plan { IfOk result (IsPlan rf shards seed nodes) }
+    ensures refused { IfErr result (RefusesInitial rf nodes) }
 {
-    let Ok(place) = initial(alloc, rf, shards, nodes) else {
-        return Err(Memory);
-    };
+    let place = initial(alloc, rf, shards, nodes)?;
     let starts = starts_of(alloc, &place)?;
     let slots = slots_in(alloc, starts.as_slice())?;
     let stopped = none_stopped(alloc, place.instances.len())?;

@@ -28,20 +28,20 @@ ok {"op":"init","rf":3,"shards":64,"seed":4294967295,"nodes":[["a","x"],["b","y"
 ok {"op":"init","rf":1,"shards":8,"seed":0,"nodes":[["a","x"]]}
 ok {"op":"init","rf":5,"shards":64,"seed":0,"nodes":[["a","1"],["b","2"],["c","3"],["d","4"],["e","5"]]}
 form {"op":"init","rf":3,"shards":1,"seed":4294967296,"nodes":[["a","x"],["b","y"],["c","z"]]}
-later {"op":"init","rf":1,"shards":1,"seed":0,"nodes":[["a","x"],["b","y"],["c","z"]]}
-later {"op":"init","rf":5,"shards":64,"seed":0,"nodes":[["a","x"]]}
+ok {"op":"init","rf":1,"shards":1,"seed":0,"nodes":[["a","x"],["b","y"],["c","z"]]}
+ok {"op":"init","rf":5,"shards":64,"seed":0,"nodes":[["a","x"]]}
 form {"op":"init","rf":0,"shards":1,"seed":0,"nodes":[["a","x"],["b","y"],["c","z"]]}
 form {"op":"init","rf":6,"shards":1,"seed":0,"nodes":[["a","x"],["b","y"],["c","z"]]}
 form {"op":"init","rf":3,"shards":65,"seed":0,"nodes":[["a","x"],["b","y"],["c","z"]]}
 form {"op":"init","rf":3,"shards":0,"seed":0,"nodes":[["a","x"],["b","y"],["c","z"]]}
 form {"op":"init","rf":3,"shards":1,"seed":0,"nodes":[["a","x"],["a","y"],["c","z"]]}
-later {"op":"init","rf":3,"shards":1,"seed":0,"nodes":[["a","x"],["b","y"],["c","x"]]}
-later {"op":"init","rf":3,"shards":1,"seed":0,"nodes":[["a","x"],["b","y"]]}
+ok {"op":"init","rf":3,"shards":1,"seed":0,"nodes":[["a","x"],["b","y"],["c","x"]]}
+ok {"op":"init","rf":3,"shards":1,"seed":0,"nodes":[["a","x"],["b","y"]]}
 form {"op":"init","rf":3,"shards":1,"seed":0,"nodes":[["a","x"],["b","y"],["c"]]}
 form {"op":"init","rf":3,"shards":1,"seed":0,"nodes":[["a","x"],["b","y"],["c","z","u"]]}
 form {"op":"init","rf":3,"shards":1,"seed":0,"nodes":[]}
 form {"op":"init","rf":3,"shards":1,"seed":0,"nodes":{}}
-later {"op":"init","rf":3,"shards":1,"seed":0,"nodes":[["1","g"],["2","g"],["3","g"],["4","g"],["5","g"],["6","g"],["7","g"],["8","g"],["9","g"],["10","g"],["11","g"],["12","g"],["13","g"],["14","g"],["15","g"],["16","g"]]}
+ok {"op":"init","rf":3,"shards":1,"seed":0,"nodes":[["1","g"],["2","g"],["3","g"],["4","g"],["5","g"],["6","g"],["7","g"],["8","g"],["9","g"],["10","g"],["11","g"],["12","g"],["13","g"],["14","g"],["15","g"],["16","g"]]}
 form {"op":"init","rf":3,"shards":1,"seed":0,"nodes":[["1","g"],["2","g"],["3","g"],["4","g"],["5","g"],["6","g"],["7","g"],["8","g"],["9","g"],["10","g"],["11","g"],["12","g"],["13","g"],["14","g"],["15","g"],["16","g"],["17","g"]]}"#;
 
 // Lines of namespace, each with its outcome before it.
@@ -91,11 +91,11 @@ form {"op":"write","ns":"m","id":"{dc=\"x\"}","t":100,"v":1.5}
 form {"op":"write","ns":"m","id":"","t":100,"v":1}
 ok {"op":"write","ns":"m","id":"a","t":100,"v":1,"level":"all"}
 ok {"op":"write","ns":"m","id":"a","t":100,"v":1,"level":"majority"}
-later {"op":"write","ns":"m","id":"a","t":100,"v":1,"level":"one","version":1}
+ok {"op":"write","ns":"m","id":"a","t":100,"v":1,"level":"one","version":1}
 form {"op":"write","ns":"m","id":"a","t":100,"v":1,"level":"unstrict"}
 form {"op":"write","ns":"m","id":"a","t":100,"v":1,"level":"frob"}
 form {"op":"write","ns":"m","id":"a","t":100,"v":1,"level":null}
-later {"op":"write","ns":"m","id":"a","t":100,"v":1,"version":1}
+ok {"op":"write","ns":"m","id":"a","t":100,"v":1,"version":1}
 form {"op":"write","ns":"m","id":"a","t":100,"v":1,"version":-1}
 form {"op":"write","ns":"m","id":"a","t":100,"v":1,"version":1,"level":"frob"}
 ok {"op":"write","ns":"m","id":"a","t":100,"v":1.5,"v":2}
@@ -105,7 +105,7 @@ ok {"op":"fetch","ns":"m","id":"a","from":0,"to":4611686018427387903}
 ok {"op":"fetch","ns":"m","id":"a","from":9,"to":0}
 ok {"op":"fetch","ns":"m","id":"a","from":0,"to":9,"level":"unstrict"}
 ok {"op":"fetch","ns":"m","id":"a","from":0,"to":9,"level":"all"}
-later {"op":"fetch","ns":"m","id":"a","from":0,"to":9,"version":0}
+ok {"op":"fetch","ns":"m","id":"a","from":0,"to":9,"version":0}
 form {"op":"fetch","ns":"m","id":"a","from":0,"to":9,"level":"Majority"}
 form {"op":"fetch","ns":"m","id":"{","from":0,"to":9}
 form {"op":"fetch","ns":"m","id":"{}","from":0,"to":9,"version":1}
@@ -130,7 +130,7 @@ form {"op":"match","ns":"m","where":[],"from":0,"to":9,"id":"a"}
 form {"op":"match","ns":"m","where":[],"from":0,"to":4611686018427387904}
 ok {"op":"match","ns":"m","where":[],"from":0,"to":9,"level":"one"}
 form {"op":"match","ns":"m","where":[],"from":0,"to":9,"level":"some"}
-later {"op":"match","ns":"m","where":[],"from":0,"to":9,"version":1}
+ok {"op":"match","ns":"m","where":[],"from":0,"to":9,"version":1}
 ok {"op":"match","ns":"m","where":[["a","=",""],["a","=",""],["a","=",""],["a","=",""],["a","=",""],["a","=",""],["a","=",""],["a","=",""],["a","=",""],["a","=",""],["a","=",""],["a","=",""],["a","=",""],["a","=",""],["a","=",""],["a","=",""]],"from":0,"to":9}
 form {"op":"match","ns":"m","where":[["a","=",""],["a","=",""],["a","=",""],["a","=",""],["a","=",""],["a","=",""],["a","=",""],["a","=",""],["a","=",""],["a","=",""],["a","=",""],["a","=",""],["a","=",""],["a","=",""],["a","=",""],["a","=",""],["a","=",""]],"from":0,"to":9}"#;
 
@@ -193,9 +193,9 @@ form {"op":"bootstrap","node":"a","pick":0}
 form {"op":"bootstrap","node":"a","shard":0,"x":0}"#;
 
 // Lines of add, drain, cancel, remove and replace, each with its outcome before it.
-const PLACEMENTS: &str = r#"later {"op":"add","node":"d","group":"g4"}
-later {"group":"12345678901234567890123456789012","node":"-","op":"add"}
-later {"op":"add","node":"d","group":"","group":"d"}
+const PLACEMENTS: &str = r#"ok {"op":"add","node":"d","group":"g4"}
+ok {"group":"12345678901234567890123456789012","node":"-","op":"add"}
+ok {"op":"add","node":"d","group":"","group":"d"}
 form {"op":"add"}
 form {"op":"add","node":"d"}
 form {"op":"add","group":"g4"}
@@ -208,21 +208,21 @@ form {"op":"add","node":"d","group":null}
 form {"op":"add","node":"123456789012345678901234567890123","group":"g4"}
 form {"op":"add","node":"d","group":"123456789012345678901234567890123"}
 form {"op":"add","node":"d","group":"g4","by":"e"}
-later {"op":"drain","node":"a"}
+ok {"op":"drain","node":"a"}
 form {"op":"drain"}
 form {"op":"drain","node":""}
 form {"op":"drain","node":"a","group":"g1"}
-later {"op":"cancel","node":"a"}
+ok {"op":"cancel","node":"a"}
 form {"op":"cancel","nodes":"a"}
 form {"op":"cancel","node":1}
 form {"op":"cancel","node":"a","shard":0}
-later {"node":"12345678901234567890123456789012","op":"remove"}
+ok {"node":"12345678901234567890123456789012","op":"remove"}
 form {"op":"remove"}
 form {"op":"remove","node":"a b"}
 form {"op":"remove","node":"123456789012345678901234567890123"}
 form {"op":"remove","node":"a","x":null}
-later {"op":"replace","node":"a","by":"d","group":"g4"}
-later {"group":"a","by":"a","node":"a","op":"replace"}
+ok {"op":"replace","node":"a","by":"d","group":"g4"}
+ok {"group":"a","by":"a","node":"a","op":"replace"}
 form {"op":"replace","node":"a","by":"d"}
 form {"op":"replace","node":"a","group":"g4"}
 form {"op":"replace","by":"d","group":"g4"}

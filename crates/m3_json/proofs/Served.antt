@@ -1,25 +1,21 @@
 -- The acts that are served.
-use Rattle.std.proofs.Common.{◌≡◌, ℕ, refl, ap, false}
-use Rattle.std.specs.Prelude.{Option, Some, None, is_some, IsTrue, not, ◌↔◌}
-use Rattle.std.proofs.lemmas.Bool.{not-false, not-true}
+use Rattle.std.proofs.Common.{◌≡◌, refl, ap, false}
+use Rattle.std.specs.Prelude.{IsTrue, not, ◌↔◌}
+use Rattle.std.proofs.lemmas.Bool.{not-true}
 use Rattle.m3_model.specs.declared.act.Act.{Act}
 use Rattle.m3_model.specs.declared.act.Act.TheVariants as act
-use Rattle.served_acts.specs.NotYet.{fills_its_nodes, IsServedAct}
+use Rattle.served_acts.specs.NotYet.{IsServedAct}
 use Rattle.m3_json.specs.NotYet.{is_put_off}
-
-no_version : (version : Option ℕ) → is_some version ≡ false → version ≡ None
-no_version None none = refl
-no_version (Some n) none = cc
 
 -- an act that isn't put off is served
 pub act_served : (one : Act) → is_put_off one ≡ false → IsServedAct one
 unfolding is_put_off
-act_served (act.Init rf shards seed nodes) kept = not-false (fills_its_nodes rf nodes) kept
+act_served (act.Init rf shards seed nodes) kept = tt
 act_served (act.Namespace name block past future retention) kept = tt
 act_served (act.Now now) kept = tt
-act_served (act.Write ns id t v level version) kept = no_version version kept
-act_served (act.Fetch ns id from to level version) kept = no_version version kept
-act_served (act.Match ns wanted from to level version) kept = no_version version kept
+act_served (act.Write ns id t v level version) kept = cc
+act_served (act.Fetch ns id from to level version) kept = cc
+act_served (act.Match ns wanted from to level version) kept = cc
 act_served (act.Fates list) kept = tt
 act_served act.Deliver kept = tt
 act_served (act.Stop node) kept = tt
@@ -39,22 +35,22 @@ act_served act.Status kept = cc
 -- and one that is served isn't put off
 act_kept : (one : Act) → IsServedAct one → is_put_off one ≡ false
 unfolding is_put_off
-act_kept (act.Init rf shards seed nodes) h = ap not h
+act_kept (act.Init rf shards seed nodes) h = refl
 act_kept (act.Namespace name block past future retention) h = refl
 act_kept (act.Now now) h = refl
-act_kept (act.Write ns id t v level version) h = ap is_some h
-act_kept (act.Fetch ns id from to level version) h = ap is_some h
-act_kept (act.Match ns wanted from to level version) h = ap is_some h
+act_kept (act.Write ns id t v level version) h = refl
+act_kept (act.Fetch ns id from to level version) h = refl
+act_kept (act.Match ns wanted from to level version) h = refl
 act_kept (act.Fates list) h = refl
 act_kept act.Deliver h = refl
 act_kept (act.Stop node) h = refl
 act_kept (act.Restart node pick) h = refl
 act_kept (act.Bootstrap node shard) h = refl
-act_kept (act.Add node group) h = absurd h
-act_kept (act.Drain node) h = absurd h
-act_kept (act.Cancel node) h = absurd h
-act_kept (act.Remove node) h = absurd h
-act_kept (act.Replace node by group) h = absurd h
+act_kept (act.Add node group) h = refl
+act_kept (act.Drain node) h = refl
+act_kept (act.Cancel node) h = refl
+act_kept (act.Remove node) h = refl
+act_kept (act.Replace node by group) h = refl
 act_kept act.Tick h = refl
 act_kept act.Flush h = refl
 act_kept act.Snapshot h = refl

@@ -1,9 +1,10 @@
 -- A run goes on by one line.
 use Rattle.std.proofs.Common.{◌≡◌, ℕ, List, [], ◌∷◌, ◌++◌, refl, sym, ap, ◌∙◌, subst, inl, inr, append-nil, true, false, Bool}
-use Rattle.std.specs.Prelude.{Some, None, Ok}
+use Rattle.std.specs.Prelude.{Option, Some, None, Ok}
 use Rattle.std.proofs.lemmas.List.Concat.{flat_map-append}
 use Rattle.transcripts.specs.Record.{IsAnsweredBy}
 use Rattle.m3_model.specs.declared.answer.Answer.{Answer}
+use Rattle.m3_model.specs.declared.placement.Placement.{Placement}
 use Rattle.m3_model.specs.declared.turn.Request.{Request}
 use Rattle.m3_model.specs.declared.turn.Reply.{Reply}
 use Rattle.m3_model.specs.declared.turn.Reply.TheVariants as reply
@@ -15,6 +16,7 @@ use Rattle.m3_json.specs.Requests.{LineMeans}
 use Rattle.m3_outside.specs.Depots.{Depot}
 use Rattle.served_cluster.specs.Owned.{TracksTurns, place_of}
 use Rattle.m3_program.specs.Exchanges.{Exchange, Outcome, Passed, Refused, Answered, AreExchanges, IsExchange, IsOutcome, IsRefusal, is_blank, turns_by, turns_of, known_place, reply_line}
+use Rattle.m3_program.specs.Joining.{is_put_off_by}
 use Rattle.m3_program.specs.Streams.{Advances, Drops, Progress, Stage}
 use Rattle.m3_program.proofs.PromiseLemmas.{promised, promised_more}
 
@@ -37,6 +39,10 @@ IsLeftBy {D} state now = (tells : Bool) (first before : Depot D) (turns : List T
 known : {D : Type 0} {G : Ghosts D} (state : D → DiskState) (now : Stage D G) (first : Depot D) (xs : List Exchange) → IsLeftBy state now → Progress state first xs now → known_place None (turns_of xs) ≡ place_of now.cluster
 known state now first xs left p = left false first now.depot (turns_of xs) (p.tracks false (λ is. let clash : false ≡ true = is in cc))
 
+-- whether a request is put off is asked of the placement that stands
+pub put_off_so : (r : Request) {place stands : Option Placement} {result due : Bool} → result ≡ is_put_off_by place r → place ≡ stands → result ≡ due → is_put_off_by stands r ≡ due
+put_off_so r asked same is = ap (λ p. is_put_off_by p r) (sym same) ∙ sym asked ∙ is
+
 -- a line that makes no turn
 still : {D : Type 0} {G : Ghosts D} (state : D → DiskState) (now : Stage D G) (line text : List ℕ) (outcome : Outcome) → turns_by outcome ≡ []
     → ((first : Depot D) (xs : List Exchange) → Progress state first xs now → IsOutcome None (turns_of xs) line outcome text) → Advances state now line text now
@@ -55,25 +61,27 @@ pub passes : {D : Type 0} {G : Ghosts D} (state : D → DiskState) (now : Stage 
 passes state now line text blank empty = still state now line text Passed refl (λ first xs p. (blank, empty))
 
 -- a line that is refused
-pub refuses : {D : Type 0} {G : Ghosts D} (state : D → DiskState) (now : Stage D G) (line text : List ℕ) (refusal : Answer) → is_blank line ≡ false → IsRefusal line refusal
+pub refuses : {D : Type 0} {G : Ghosts D} (state : D → DiskState) (now : Stage D G) (line text : List ℕ) (refusal : Answer) → is_blank line ≡ false → IsRefusal (place_of now.cluster) line refusal
     → text ≡ reply_line (place_of now.cluster) (reply.One refusal) → IsLeftBy state now → Advances state now line text now
 refuses state now line text refusal some why printed left =
-    still state now line text (Refused refusal) refl (λ first xs p. (some, why, printed ∙ ap (λ place. reply_line place (reply.One refusal)) (sym (known state now first xs left p))))
+    still state now line text (Refused refusal) refl (λ first xs p.
+    let same = sym (known state now first xs left p) in
+    (some, subst (λ place. IsRefusal place line refusal) same why, printed ∙ ap (λ place. reply_line place (reply.One refusal)) same))
 
 -- the turns that are tracked are so with one more
 abbrev pub Follows : {D : Type 0} {G : Ghosts D} → (D → DiskState) → Stage D G → Turn → Stage D G → Type 0
 Follows {D} state old turn new = (tells : Bool) (first : Depot D) (turns : List Turn) → TracksTurns state tells first old.depot turns old.cluster → TracksTurns state tells first new.depot (turns ++ turn ∷ []) new.cluster
 
 -- a line that makes a turn
-pub answers : {D : Type 0} {G : Ghosts D} (state : D → DiskState) (old new : Stage D G) (line text : List ℕ) (request : Request) (r : Reply) → is_blank line ≡ false → LineMeans line (Ok request) → text ≡ reply_line (place_of new.cluster) r
-    → IsAnsweredBy request r → IsLeftBy state new → Follows state old (record { request = request; reply = r }) new → Advances state old line text new
-answers state old new line text request r some means printed answered left goes = λ first xs p.
+pub answers : {D : Type 0} {G : Ghosts D} (state : D → DiskState) (old new : Stage D G) (line text : List ℕ) (request : Request) (r : Reply) → is_blank line ≡ false → LineMeans line (Ok request) → is_put_off_by (place_of old.cluster) request ≡ false → text ≡ reply_line (place_of new.cluster) r
+    → IsAnsweredBy request r → IsLeftBy state old → IsLeftBy state new → Follows state old (record { request = request; reply = r }) new → Advances state old line text new
+answers state old new line text request r some means due printed answered was left goes = λ first xs p.
     let turn : Turn = record { request = request; reply = r } in
     let x : Exchange = record { line = line; outcome = Answered turn; text = text } in
     let same : turns_of xs ++ turn ∷ [] ≡ turns_of (xs ++ x ∷ []) = sym (turns_of-push xs x) in (
       Answered turn,
       record {
-        each = exchanges_push xs x p.each (some, means, answered, printed ∙ ap (λ place. reply_line place r) (sym (left false first new.depot (turns_of xs ++ turn ∷ []) (goes false first (turns_of xs) (p.tracks false (λ is. let clash : false ≡ true = is in cc))))));
+        each = exchanges_push xs x p.each (some, means, ap (λ place. is_put_off_by place request) (known state old first xs was p) ∙ due, answered, printed ∙ ap (λ place. reply_line place r) (sym (left false first new.depot (turns_of xs ++ turn ∷ []) (goes false first (turns_of xs) (p.tracks false (λ is. let clash : false ≡ true = is in cc))))));
         tracks = λ tells empty. subst (λ ts. TracksTurns state tells first new.depot ts new.cluster) same (goes tells first (turns_of xs) (p.tracks tells empty));
       },
     )

@@ -3,7 +3,6 @@ use Rattle.std.proofs.Common.{◌≡◌, ℕ, List, [], ◌++◌, map, take, dro
 use Rattle.std.specs.Prelude.{Option, Some, None}
 use Rattle.std.specs.Io.KnownBytes.{Appends}
 use Rattle.std.proofs.lemmas.List.{take-append-drop}
-use Rattle.std.proofs.lemmas.List.Elements.{All-nil}
 use Rattle.m3_model.specs.declared.turn.Reply.{Reply}
 use Rattle.m3_model.specs.declared.turn.Turn.{Turn}
 use Rattle.m3_outside.specs.DiskState.{DiskState, IsLawfulDisk}
@@ -20,6 +19,7 @@ use Rattle.m3_program.specs.Scripts.{PlayedTo, HasGenerated, reply_of, turns_of_
 use Rattle.m3_program.specs.Streams.{Stage}
 use Rattle.m3_program.specs.declared.status.Status.{Status}
 use Rattle.m3_program.specs.declared.status.Status.TheVariants as status
+use Rattle.m3_program.proofs.ScriptLemmas.{no_parts}
 use Rattle.m3_program.proofs.PromiseLemmas.{causes_closed, causes_nothing, kept_closed, kept_nothing}
 
 -- what a sink wrote behind what stood there
@@ -71,7 +71,7 @@ generated_nothing state first number before written is = (
   [],
   is ∙ ap Some (sym (append-nil before)),
   record {
-    course = record { parts = []; later = script number; of_script = refl; each = All-nil _ };
+    course = record { parts = []; later = script number; of_script = refl; each = no_parts };
     played_to = refl;
     kept = λ empty. kept_nothing;
     causes = λ tells empty. causes_nothing tells (counts_of first);

@@ -1,12 +1,12 @@
 -- A run of a script goes on by one request.
-use Rattle.std.proofs.Common.{◌≡◌, ℕ, List, [], ◌∷◌, ◌++◌, map, refl, sym, ap, ◌∙◌, subst, inl, append_assoc, append-nil, true}
+use Rattle.std.proofs.Common.{◌≡◌, ℕ, List, [], ◌∷◌, ◌++◌, map, refl, sym, ap, ◌∙◌, subst, inl, inr, append_assoc, append-nil, Bool, true, false}
 use Rattle.std.specs.Prelude.{Option, Some, None, IfSome}
 use Rattle.std.proofs.lemmas.List.{map-append}
 use Rattle.std.proofs.lemmas.List.Concat.{flat_map-append}
-use Rattle.std.proofs.lemmas.List.Elements.{All-nil, All-push}
 use Rattle.m3_model.specs.Limits.{KeepsLimits}
 use Rattle.m3_model.specs.Members.{IsIn}
 use Rattle.m3_model.proofs.MemberLemmas.{IsIn-append_right}
+use Rattle.m3_model.proofs.SplitLemmas.{not_empty, split_push}
 use Rattle.m3_model.specs.declared.answer.Answer.TheVariants as answer
 use Rattle.m3_model.specs.declared.turn.Reply.{Reply}
 use Rattle.m3_model.specs.declared.turn.Reply.TheVariants as reply
@@ -15,46 +15,63 @@ use Rattle.m3_model.specs.declared.turn.Turn.{Turn}
 use Rattle.m3_outside.specs.DiskState.{DiskState}
 use Rattle.m3_outside.specs.declared.disk.Disk.{Ghosts}
 use Rattle.m3_outside.specs.Depots.{Depot}
-use Rattle.served_acts.specs.NotYet.{IsServed}
 use Rattle.transcripts.specs.Record.{IsAnsweredBy}
 use Rattle.load_gen.specs.Script.{script}
 use Rattle.load_gen.specs.Summaries.{Counts}
 use Rattle.load_gen.specs.declared.summary.Summary.{Summary}
 use Rattle.load_gen.proofs.LimitLemmas.{script_keeps}
-use Rattle.served_cluster.specs.Owned.{TracksTurns}
+use Rattle.served_cluster.specs.Owned.{TracksTurns, place_of}
+use Rattle.m3_program.specs.Exchanges.{known_place}
+use Rattle.m3_program.specs.Joining.{is_put_off_by}
 use Rattle.m3_program.specs.Rounds.{Broken, Continues, Goes, Going, IsWithin}
-use Rattle.m3_program.specs.Scripts.{Deferred, Part, IsPart, Served, reply_of, request_of, turns_of_part, turns_of_parts}
+use Rattle.m3_program.specs.Scripts.{AreParts, Deferred, Part, IsPart, Served, reply_of, request_of, turns_of_part, turns_of_parts}
 use Rattle.m3_program.specs.Streams.{IsFresh, Stage}
-use Rattle.m3_program.proofs.ExchangeLemmas.{Follows}
+use Rattle.m3_program.proofs.ExchangeLemmas.{Follows, IsLeftBy}
 
 -- ---- one request
 
 turns_of-push : (parts : List Part) (part : Part) → turns_of_parts (parts ++ part ∷ []) ≡ turns_of_parts parts ++ turns_of_part part
 turns_of-push parts part = flat_map-append turns_of_part parts (part ∷ []) ∙ ap (λ ts. turns_of_parts parts ++ ts) (append-nil (turns_of_part part))
 
+-- nothing came yet
+pub no_parts : AreParts None []
+no_parts before part after is = absurd (not_empty before part after is)
+
+-- one more part after the others
+parts_push : (parts : List Part) (part : Part) → AreParts None parts → IsPart (known_place None (turns_of_parts parts)) part → AreParts None (parts ++ part ∷ [])
+parts_push parts part each last before y after e =
+    elim (split_push parts part before y after e) as (λ _. IsPart (known_place None (turns_of_parts before)) y) [
+      | inl here ↦ subst (λ ys. IsPart (known_place None (turns_of_parts ys)) y) (sym here.0) (subst (IsPart (known_place None (turns_of_parts parts))) (sym here.1) last)
+      | inr there ↦ each before y there.0 there.1
+    ]
+
+-- the turns of the parts left the placement that stands, whatever its disks tell
+known : {D : Type 0} {G : Ghosts D} (state : D → DiskState) (now : Stage D G) (first : Depot D) (parts : List Part) → IsLeftBy state now → Going state first parts now → known_place None (turns_of_parts parts) ≡ place_of now.cluster
+known state now first parts left g = left false first now.depot (turns_of_parts parts) (g.tracks false (λ is. let clash : false ≡ true = is in cc))
+
 -- it is put off
-pub defers : {D : Type 0} {G : Ghosts D} (state : D → DiskState) (now : Stage D G) (r : Request) → ¬ IsServed r → Continues state now r (reply.One answer.Later) now
-defers state now r unserved = λ first parts g.
+pub defers : {D : Type 0} {G : Ghosts D} (state : D → DiskState) (now : Stage D G) (r : Request) → IsPart (place_of now.cluster) (Deferred r) → IsLeftBy state now → Continues state now r (reply.One answer.Later) now
+defers state now r due left = λ first parts g.
     let same : turns_of_parts parts ≡ turns_of_parts (parts ++ Deferred r ∷ []) = sym (turns_of-push parts (Deferred r) ∙ append-nil (turns_of_parts parts)) in (
       Deferred r,
       refl,
       refl,
       record {
-        each = All-push IsPart parts (Deferred r) g.each unserved;
+        each = parts_push parts (Deferred r) g.each (subst (λ place. IsPart place (Deferred r)) (sym (known state now first parts left g)) due);
         tracks = λ tells empty. subst (λ ts. TracksTurns state tells first now.depot ts now.cluster) same (g.tracks tells empty);
       },
     )
 
 -- it is served
-pub serves : {D : Type 0} {G : Ghosts D} (state : D → DiskState) (old new : Stage D G) (r : Request) (answered : Reply) → IsAnsweredBy r answered → Follows state old (record { request = r; reply = answered }) new → Continues state old r answered new
-serves state old new r answered is goes = λ first parts g.
+pub serves : {D : Type 0} {G : Ghosts D} (state : D → DiskState) (old new : Stage D G) (r : Request) (answered : Reply) → is_put_off_by (place_of old.cluster) r ≡ false → IsAnsweredBy r answered → IsLeftBy state old → Follows state old (record { request = r; reply = answered }) new → Continues state old r answered new
+serves state old new r answered due is left goes = λ first parts g.
     let turn : Turn = record { request = r; reply = answered } in
     let same : turns_of_parts parts ++ turn ∷ [] ≡ turns_of_parts (parts ++ Served turn ∷ []) = sym (turns_of-push parts (Served turn)) in (
       Served turn,
       refl,
       refl,
       record {
-        each = All-push IsPart parts (Served turn) g.each is;
+        each = parts_push parts (Served turn) g.each (ap (λ place. is_put_off_by place r) (known state old first parts left g) ∙ due, is);
         tracks = λ tells empty. subst (λ ts. TracksTurns state tells first new.depot ts new.cluster) same (goes tells first (turns_of_parts parts) (g.tracks tells empty));
       },
     )
@@ -71,7 +88,7 @@ pub goes_begins : {D : Type 0} {G : Ghosts D} (state : D → DiskState) (number 
     → Goes state now.depot number later summary now
 goes_begins state number later summary now fresh all counts = record {
   parts = [];
-  within = record { of_script = sym all; going = record { each = All-nil IsPart; tracks = λ tells empty. fresh.tracks tells now.depot empty } };
+  within = record { of_script = sym all; going = record { each = no_parts; tracks = λ tells empty. fresh.tracks tells now.depot empty } };
   counts = counts;
 }
 

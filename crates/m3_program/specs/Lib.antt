@@ -1,4 +1,5 @@
 pub mod Codes
+pub mod Joining
 pub mod Exchanges
 pub mod Faults
 pub mod FaultLaws

@@ -1,6 +1,5 @@
 -- How far a run of a script has come.
-use Rattle.std.specs.Prelude.{◌≡◌, List, [], ◌∷◌, ◌++◌, map, ℕ, Bool, true}
-use Rattle.std.specs.List.{All}
+use Rattle.std.specs.Prelude.{◌≡◌, List, [], ◌∷◌, ◌++◌, map, ℕ, None, Bool, true}
 use Rattle.m3_model.specs.declared.turn.Reply.{Reply}
 use Rattle.m3_model.specs.declared.turn.Request.{Request}
 use Rattle.m3_outside.specs.DiskState.{DiskState}
@@ -11,13 +10,13 @@ use Rattle.load_gen.specs.Summaries.{Counts}
 use Rattle.load_gen.specs.declared.summary.Summary.{Summary}
 use Rattle.served_cluster.specs.Owned.{TracksTurns}
 use Rattle.m3_program.specs.Faults.{AreEmpty}
-use Rattle.m3_program.specs.Scripts.{Part, PlayedTo, IsPart, reply_of, request_of, turns_of_parts}
+use Rattle.m3_program.specs.Scripts.{AreParts, Part, PlayedTo, reply_of, request_of, turns_of_parts}
 use Rattle.m3_program.specs.Streams.{Stage}
 use Rattle.m3_program.specs.declared.status.Status.{Status}
 
 -- These parts came of the requests so far, and the cluster tracks their turns.
 pub record Going {D : Type 0} {G : Ghosts D} (state : D → DiskState) (first : Depot D) (parts : List Part) (now : Stage D G) : Type 0 where
-  pub each : All IsPart parts
+  pub each : AreParts None parts
   pub tracks : (tells : Bool) → (tells ≡ true → AreEmpty state first.held) → TracksTurns state tells first now.depot (turns_of_parts parts) now.cluster
 
 -- the request got this reply, after the parts that came before it

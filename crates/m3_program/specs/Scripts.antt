@@ -1,7 +1,8 @@
 -- What a run of a script promises.
-use Rattle.std.specs.Prelude.{◌≡◌, List, [], ◌∷◌, ◌++◌, map, ℕ, Option, None, Bool, true}
-use Rattle.std.specs.List.{All, flat_map}
+use Rattle.std.specs.Prelude.{◌≡◌, ◌⊎◌, List, [], ◌∷◌, ◌++◌, map, ℕ, Option, None, Bool, true, false, IsTrue}
+use Rattle.std.specs.List.{flat_map}
 use Rattle.m3_model.specs.declared.answer.Answer.TheVariants as answer
+use Rattle.m3_model.specs.declared.placement.Placement.{Placement}
 use Rattle.m3_model.specs.declared.rules.MetaState.{MetaState}
 use Rattle.m3_model.specs.declared.turn.Reply.{Reply}
 use Rattle.m3_model.specs.declared.turn.Reply.TheVariants as reply
@@ -14,7 +15,9 @@ use Rattle.m3_outside.specs.DiskState.{DiskState}
 use Rattle.m3_outside.specs.Depots.{Depot}
 use Rattle.load_gen.specs.Script.{script}
 use Rattle.load_gen.specs.Summaries.{summary_line}
+use Rattle.m3_program.specs.Exchanges.{known_place}
 use Rattle.m3_program.specs.Faults.{AreEmpty, Counts, counts_of}
+use Rattle.m3_program.specs.Joining.{is_put_off_by}
 use Rattle.m3_program.specs.Runs.{HasCauses}
 use Rattle.m3_program.specs.declared.status.Status.{Status}
 use Rattle.m3_program.specs.declared.status.Status.TheVariants as status
@@ -40,17 +43,21 @@ turns_of_part (Served turn) = turn ∷ []
 abbrev pub turns_of_parts : List Part → List Turn
 turns_of_parts parts = flat_map turns_of_part parts
 
--- a request is put off only where no part of the program serves it, and a served one is answered in its own shape
-abbrev pub IsPart : Part → Type 0
-IsPart (Deferred request) = ¬ IsServed request
-IsPart (Served turn) = IsAnsweredBy turn.request turn.reply
+-- Where this placement stands a request is put off only if no part of the program serves it, or none by this placement; and a served one is answered in its own shape.
+abbrev pub IsPart : Option Placement → Part → Type 0
+IsPart place (Deferred request) = ¬ IsServed request ⊎ IsTrue (is_put_off_by place request)
+IsPart place (Served turn) = (is_put_off_by place turn.request ≡ false) × IsAnsweredBy turn.request turn.reply
 
--- The course of a run of a number's script: what came of its requests in their order, as far as it got.
-pub record Play (number : ℕ) : Type 0 where
+-- each part comes after the turns of those before it
+abbrev pub AreParts : Option MetaState → List Part → Type 0
+AreParts start parts = (before : List Part) (part : Part) (after : List Part) → parts ≡ before ++ part ∷ after → IsPart (known_place start (turns_of_parts before)) part
+
+-- The course of a run of a number's script that opened with this state: what came of its requests in their order, as far as it got.
+pub record Play (start : Option MetaState) (number : ℕ) : Type 0 where
   pub parts : List Part
   pub later : List Request
   pub of_script : script number ≡ map request_of parts ++ later
-  pub each : All IsPart parts
+  pub each : AreParts start parts
 
 -- how far a run got that ended so: to the end of the script, and then its summary is written, or a front of that; or memory was wanted before
 abbrev pub PlayedTo : Status → List Part → List Request → List ℕ → Type 0
@@ -70,7 +77,7 @@ life_of_parts past start parts = record { past = past; present = record_of_parts
 -- What a run of a number's script did that ended so and wrote this, over disks that were so when it began and whose faults are counted so now: the answers have their
 -- causes, of which more is said where the disks tell what they hold and were empty; and there the reads keep what they must.
 pub record HasGenerated {D : Type 0} (state : D → DiskState) (first : Depot D) (now : Counts) (past : List Record) (start : Option MetaState) (number : ℕ) (ended : Status) (written : List ℕ) : Type 0 where
-  pub course : Play number
+  pub course : Play start number
   pub played_to : PlayedTo ended course.parts course.later written
   pub kept : AreEmpty state first.held → Kept (life_of_parts past start course.parts)
   pub causes : (tells : Bool) → (tells ≡ true → AreEmpty state first.held) → HasCauses tells (counts_of first) now (life_of_parts past start course.parts)

@@ -4,6 +4,7 @@ ghost use Rattle.served_cluster.specs.Owned.{MayServeCluster};
 ghost use Rattle.m3_program.specs.Exchanges.{is_blank, reply_line};
 ghost use Rattle.m3_program.specs.Streams.{Advances, Drops, stage};
 
+use crate::joining::is_put_off_by;
 use line_fields::LineErr;
 use m3_json::read_line;
 use m3_model::{Answer, Memory, Placement, Reply};
@@ -67,6 +68,11 @@ pub fn answer_line<X: Disks>(
     }
     match read_line(alloc, line) {
         Ok(request) => {
+            if is_put_off_by(cluster.place(), &request) {
+                drop(request);
+                let later = Reply::One(Answer::Later);
+                return put_reply(alloc, replies, &later, cluster.place());
+            }
             let reply = cluster.serve(alloc, disks, request);
             put_reply(alloc, replies, &reply, cluster.place())
         }

@@ -3,6 +3,7 @@
 
 mod exchange;
 mod input;
+mod joining;
 pub mod laws;
 mod output;
 pub mod run;

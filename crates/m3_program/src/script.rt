@@ -5,6 +5,7 @@ ghost use Rattle.m3_program.specs.Causes.{EndsScript};
 ghost use Rattle.m3_program.specs.Rounds.{Broken, Continues, Goes, HasPlayed};
 ghost use Rattle.m3_program.specs.Streams.{IsFresh, stage};
 
+use crate::joining::is_put_off_by;
 use crate::output::write_all;
 use crate::status::Status;
 use load_gen::{Script, Summary};
@@ -14,7 +15,7 @@ use m3_outside::{Disks, Sink};
 use served_cluster::Cluster;
 use std::alloc::Global;
 
-// Serves a request, or answers that no part of the program serves it yet.
+// Serves a request, or answers that no part of the program serves it yet, or not by the placement that stands.
 fn serve_request<X: Disks>(
     alloc: Global,
     cluster: &mut Cluster<X::D>,
@@ -28,6 +29,10 @@ fn serve_request<X: Disks>(
     ensures owned { MayServeCluster cluster.new (X.held disks.new) }
 {
     if !is_served(&request) {
+        drop(request);
+        return Reply::One(Answer::Later);
+    }
+    if is_put_off_by(cluster.place(), &request) {
         drop(request);
         return Reply::One(Answer::Later);
     }

@@ -1,12 +1,8 @@
-//! Tests over several crates: lines go through `run`, over a source, a sink and disks in memory, and points through a buffer.
+//! Tests over several crates: words and lines go through `run`, over a source, a sink and disks in memory, and points through a buffer.
 #![tactic(auto)]
 
 #[cfg(test)]
 mod buffers;
-#[cfg(test)]
-mod calls;
-#[cfg(test)]
-mod disks;
 #[cfg(test)]
 mod generated;
 #[cfg(test)]

@@ -2,37 +2,15 @@
 use crate::messages::{LATE, LEVELS, LOST, NUMBERED, OUTLASTING, STOPS};
 use crate::nodes::{OUTAGE, RESTARTS, UNSTARTED};
 use crate::stories::{
-    BEFORE_INIT, EXPIRY, FETCH_RETURNS_WRITE, HIGHER_VALUE_STAYS, INITS, MATCHES, NAMESPACES,
-    RANGES, REFUSALS, WINDOW,
+    BEFORE_INIT, EXPIRY, FETCH_RETURNS_WRITE, HIGHER_VALUE_STAYS, INITS, MATCHES, MORE_NODES,
+    NAMESPACES, ONE_EACH, RANGES, REFUSALS, WINDOW,
 };
-use line_runs::{INIT, NAMESPACE, PLACED, Status, ended, told};
-use std::alloc::Global;
-use std::process::Abort;
+use line_runs::{INIT, PLACED, Status, ended, first_wrong, first_wrong_after_init};
 use std::test::Fail;
-
-// A run over the lines of the story answers as it tells.
-fn answers(
-    rt: &impl Abort,
-    alloc: Global,
-    input: &str,
-    output: &str,
-    story: &str,
-) -> Result<(), Fail> {
-    let (requests, replies) = told(alloc, input, output, story)?;
-    let (status, written) = ended(alloc, &["run"], requests.as_str(), &[], &[])?;
-    assert_eq!(rt; status, Status::Done);
-    assert_eq!(rt; written.as_str(), replies.as_str());
-    Ok(())
-}
 
 #[test]
 fn stories_after_init(rt: HostRuntime) -> Result<(), Fail> {
-    let alloc = rt.alloc();
-    let mut input = String::from_str(alloc, INIT)?;
-    input.push_str(NAMESPACE)?;
-    let mut output = String::from_str(alloc, PLACED)?;
-    output.push_str("{\"ok\":true}\n")?;
-    for story in [
+    let stories = [
         FETCH_RETURNS_WRITE,
         HIGHER_VALUE_STAYS,
         RANGES,
@@ -49,17 +27,17 @@ fn stories_after_init(rt: HostRuntime) -> Result<(), Fail> {
         RESTARTS,
         OUTAGE,
         UNSTARTED,
-    ] {
-        answers(&rt, alloc, input.as_str(), output.as_str(), story)?;
-    }
+    ];
+    let wrong = first_wrong_after_init(rt.alloc(), &stories)?;
+    assert_eq!(rt; wrong.as_str(), "");
     Ok(())
 }
 
 #[test]
 fn stories_from_the_start(rt: HostRuntime) -> Result<(), Fail> {
-    for story in [BEFORE_INIT, INITS, MATCHES] {
-        answers(&rt, rt.alloc(), "", "", story)?;
-    }
+    let stories = [BEFORE_INIT, INITS, ONE_EACH, MORE_NODES, MATCHES];
+    let wrong = first_wrong(rt.alloc(), "", "", &stories)?;
+    assert_eq!(rt; wrong.as_str(), "");
     Ok(())
 }
 

@@ -80,24 +80,3 @@ pub const UNSTARTED: &str = r#"{"op":"restart","node":"a"}
 {"available":[],"ok":true,"placement":{"instances":[["a","g1",false],["b","g2",false],["c","g3",false]],"rf":3,"shards":[[["a","available",1],["b","available",1],["c","available",1]]]},"version":1}
 {"op":"bootstrap","node":"a"}
 {"available":[],"ok":true,"placement":{"instances":[["a","g1",false],["b","g2",false],["c","g3",false]],"rf":3,"shards":[[["a","available",1],["b","available",1],["c","available",1]]]},"version":1}"#;
-
-// A node of a disk that fails from its first call on is down from `init` on; a bootstrap passes it over, and a restart opens
-// the way to one.
-pub const FAILED_AT_ONCE: &str = r#"{"op":"now","now":100}
-{"ok":true}
-{"op":"write","ns":"m","id":"hello","t":100,"v":5,"level":"all"}
-{"code":7,"error":"consistency","got":2,"needed":3,"ok":false,"reasons":[["c","down"]],"shard":0}
-{"op":"bootstrap","node":"c"}
-{"available":[],"ok":true,"placement":{"instances":[["a","g1",false],["b","g2",false],["c","g3",false]],"rf":3,"shards":[[["a","available",1],["b","available",1],["c","available",1]]]},"version":1}
-{"op":"write","ns":"m","id":"hello","t":100,"v":5,"level":"all"}
-{"code":7,"error":"consistency","got":2,"needed":3,"ok":false,"reasons":[["c","down"]],"shard":0}
-{"op":"restart","node":"c"}
-{"code":12,"error":"state","node":"c","ok":false}
-{"op":"stop","node":"c"}
-{"ok":true}
-{"op":"restart","node":"c"}
-{"ok":true}
-{"op":"bootstrap","node":"c"}
-{"available":[],"ok":true,"placement":{"instances":[["a","g1",false],["b","g2",false],["c","g3",false]],"rf":3,"shards":[[["a","available",1],["b","available",1],["c","available",1]]]},"version":1}
-{"op":"write","ns":"m","id":"hello","t":100,"v":5,"level":"all"}
-{"acks":["a","b","c"],"ok":true}"#;

@@ -152,8 +152,8 @@ pub const REFUSALS: &str = r#"{"op":"now","now":100}
 {"code":4,"error":"unknown","name":"x","ok":false}
 {"op":"repair"}
 {"code":16,"error":"later","ok":false}
-{"op":"write","ns":"m","id":"hello","t":100,"v":1,"version":1}
-{"code":16,"error":"later","ok":false}
+{"op":"write","ns":"m","id":"hello","t":100,"v":1,"version":2}
+{"code":4,"error":"unknown","name":"2","ok":false}
 {"op":"write","ns":"m","id":"{","t":100,"v":1}
 {"code":1,"error":"form","ok":false}
 {"op":"namespace","name":"m","block":200,"past":100,"future":50,"retention":500}
@@ -238,13 +238,11 @@ pub const MATCHES: &str =
 {"op":"write","ns":"m","id":"{host=\"h1\",dc=\"x\"}","t":100,"v":1}
 {"code":1,"error":"form","ok":false}"#;
 
-// Which nodes an `init` takes, and nodes that aren't named in order.
+// Nodes in too few groups, and nodes that aren't named in order.
 pub const INITS: &str = r#"{"op":"match","ns":"m","where":[],"from":0,"to":1}
 {"code":3,"error":"order","ok":false}
-{"op":"init","rf":1,"shards":1,"seed":0,"nodes":[["a","g1"],["b","g2"]]}
-{"code":16,"error":"later","ok":false}
 {"op":"init","rf":2,"shards":1,"seed":0,"nodes":[["a","g1"],["b","g1"]]}
-{"code":16,"error":"later","ok":false}
+{"code":9,"error":"group","ok":false,"shard":0}
 {"op":"init","rf":2,"shards":2,"seed":4294967295,"nodes":[["b","g1"],["a","g2"]]}
 {"ok":true,"placement":{"instances":[["a","g2",false],["b","g1",false]],"rf":2,"shards":[[["a","available",1],["b","available",1]],[["a","available",1],["b","available",1]]]},"version":1}
 {"op":"namespace","name":"m","block":200,"past":100,"future":50,"retention":500}
@@ -255,3 +253,37 @@ pub const INITS: &str = r#"{"op":"match","ns":"m","where":[],"from":0,"to":1}
 {"acks":["a","b"],"ok":true}
 {"op":"match","ns":"m","where":[],"from":0,"to":2}
 {"ok":true,"series":[{"id":"hello","points":[[1,1]]},{"id":"hello, world","points":[[1,2]]}],"short":false}"#;
+
+// Fewer groups than replicas; and a second `init` that has enough, with a shard on each node.
+pub const ONE_EACH: &str =
+    r#"{"op":"init","rf":5,"shards":1,"seed":0,"nodes":[["a","g1"],["b","g2"],["c","g3"]]}
+{"code":9,"error":"group","ok":false,"shard":0}
+{"op":"init","rf":1,"shards":2,"seed":0,"nodes":[["a","g1"],["b","g2"]]}
+{"ok":true,"placement":{"instances":[["a","g1",false],["b","g2",false]],"rf":1,"shards":[[["a","available",1]],[["b","available",1]]]},"version":1}
+{"op":"init","rf":5,"shards":1,"seed":0,"nodes":[["a","g1"],["b","g2"],["c","g3"]]}
+{"code":3,"error":"order","ok":false}"#;
+
+// More nodes than replicas: each shard is on two of five, and e has none. It is listed, and stops and starts as the others do.
+pub const MORE_NODES: &str =
+    r#"{"op":"init","rf":2,"shards":2,"seed":0,"nodes":[["d","g2"],["c","g1"],["b","g1"],["a","g2"],["e","g3"]]}
+{"ok":true,"placement":{"instances":[["a","g2",false],["b","g1",false],["c","g1",false],["d","g2",false],["e","g3",false]],"rf":2,"shards":[[["a","available",1],["b","available",1]],[["c","available",1],["d","available",1]]]},"version":1}
+{"op":"namespace","name":"m","block":200,"past":100,"future":50,"retention":500}
+{"ok":true}
+{"op":"fates","list":[[0,0,"e","lose"]]}
+{"ok":true}
+{"op":"write","ns":"m","id":"hello","t":1,"v":1,"level":"all"}
+{"acks":["c","d"],"ok":true}
+{"op":"stop","node":"a"}
+{"ok":true}
+{"op":"stop","node":"e"}
+{"ok":true}
+{"op":"write","ns":"m","id":"host","t":1,"v":2}
+{"code":7,"error":"consistency","got":1,"needed":2,"ok":false,"reasons":[["a","down"]],"shard":0}
+{"op":"match","ns":"m","where":[],"from":0,"to":2,"level":"unstrict"}
+{"ok":true,"series":[{"id":"hello","points":[[1,1]]},{"id":"host","points":[[1,2]]}],"short":true}
+{"op":"restart","node":"e"}
+{"ok":true}
+{"op":"bootstrap","node":"e"}
+{"available":[],"ok":true,"placement":{"instances":[["a","g2",false],["b","g1",false],["c","g1",false],["d","g2",false],["e","g3",false]],"rf":2,"shards":[[["a","available",1],["b","available",1]],[["c","available",1],["d","available",1]]]},"version":1}
+{"op":"status"}
+{"now":0,"ok":true,"replicas":[{"buffered":0,"fence":0,"node":"a","segments":0,"shard":0,"snapshot":0,"standing":"down","state":"available","volumes":0},{"buffered":1,"fence":1,"node":"b","segments":1,"shard":0,"snapshot":0,"standing":"open","state":"available","volumes":0},{"buffered":1,"fence":1,"node":"c","segments":1,"shard":1,"snapshot":0,"standing":"open","state":"available","volumes":0},{"buffered":1,"fence":1,"node":"d","segments":1,"shard":1,"snapshot":0,"standing":"open","state":"available","volumes":0}],"version":1}"#;

@@ -102,24 +102,24 @@ fn call<D: Disk>(alloc: Global, members: &mut Members<D>, id: CallId, act: Act) 
             t,
             v,
             level,
-            ..
-        } => members.write(alloc, id, ns, name, t, v, level),
+            version,
+        } => members.write(alloc, id, ns, name, t, v, level, version),
         Act::Fetch {
             ns,
             id: name,
             from,
             to,
             level,
-            ..
-        } => members.fetch(alloc, id, ns, name, Range { from, to }, level),
+            version,
+        } => members.fetch(alloc, id, ns, name, Range { from, to }, level, version),
         Act::Match {
             ns,
             wanted,
             from,
             to,
             level,
-            ..
-        } => members.find(alloc, id, ns, wanted, Range { from, to }, level),
+            version,
+        } => members.find(alloc, id, ns, wanted, Range { from, to }, level, version),
         _ => change(alloc, members, act),
     }
 }

@@ -4,4 +4,3 @@ pub mod NodeActs
 pub mod ResultLemmas
 pub mod RowLemmas
 pub mod RunLemmas
-pub mod SameMembers

@@ -35,6 +35,7 @@ pub record KeepsButFates {D : Type 0} {G : Ghosts D} (old new : Members D G) : T
   pub replicas : new.net.replicas ≡ old.net.replicas
   pub bag : new.net.bag ≡ old.net.bag
   pub slots : new.slots.items ≡ old.slots.items
+  pub past : new.past.items ≡ old.past.items
   pub stopped : new.stopped.items ≡ old.stopped.items
 
 -- fates are set in place of all earlier ones, unless a node isn't there
@@ -51,6 +52,7 @@ pub record KeepsButReplicas {D : Type 0} {G : Ghosts D} (old new : Members D G) 
   pub state : new.net.state ≡ old.net.state
   pub fates : new.net.fates ≡ old.net.fates
   pub slots : new.slots.items ≡ old.slots.items
+  pub past : new.past.items ≡ old.past.items
   pub stopped : new.stopped.items ≡ old.stopped.items
 
 -- the late writes are delivered, unless memory is wanted or the list lacks room for what they add
@@ -78,6 +80,7 @@ pub record KeepsButNodes {D : Type 0} {G : Ghosts D} (old new : Members D G) : T
   pub fates : new.net.fates ≡ old.net.fates
   pub bag : new.net.bag ≡ old.net.bag
   pub slots : new.slots.items ≡ old.slots.items
+  pub past : new.past.items ≡ old.past.items
 
 -- the list lacks room for so many events for each slot of the node, and nothing changed
 pub record LacksRoom {D : Type 0} {G : Ghosts D} (each node : ℕ) (old new : Members D G) : Type 0 where

@@ -44,6 +44,7 @@ pub fn restart<D: Disk>(members: &mut Members<D>, name: Text, pick: u64) -> Answ
     requires manned { AreManned members.old.slots.items members.old.net.replicas }
     ensures restarted { IsRestarted D.state members.old name result members.new }
     ensures ready { IsReady members.new.net.state members.new.net.replicas members.new.net.bag }
+    ensures past { members.new.past.items ≡ members.old.past.items }
     ensures same_slots { HaveSameSlots members.old.net.replicas members.new.net.replicas }
 {
     let instances = members.net.state.place.instances.as_slice();
@@ -82,6 +83,7 @@ pub fn bootstrap<D: Disk>(
     requires ready { IsReady members.old.net.state members.old.net.replicas members.old.net.bag }
     ensures bootstrapped { IsBootstrapAnswer D.state members.old name asked result members.new }
     ensures ready { IsReady members.new.net.state members.new.net.replicas members.new.net.bag }
+    ensures past { members.new.past.items ≡ members.old.past.items }
     ensures same_slots { HaveSameSlots members.old.net.replicas members.new.net.replicas }
 {
     let instances = members.net.state.place.instances.as_slice();

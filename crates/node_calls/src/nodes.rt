@@ -69,6 +69,7 @@ pub fn deliver<D: Disk>(members: &mut Members<D>, alloc: Global) -> Answer
     requires ready { IsReady members.old.net.state members.old.net.replicas members.old.net.bag }
     ensures delivered { IsDeliverAnswer D.state members.old result members.new }
     ensures ready { IsReady members.new.net.state members.new.net.replicas members.new.net.bag }
+    ensures past { members.new.past.items ≡ members.old.past.items }
     ensures same_slots { HaveSameSlots members.old.net.replicas members.new.net.replicas }
 {
     match cluster_members::deliver(&mut members.net, alloc) {
@@ -85,6 +86,7 @@ pub fn stop<D: Disk>(members: &mut Members<D>, name: Text) -> Answer
     requires manned { AreManned members.old.slots.items members.old.net.replicas }
     ensures stopped { IsStopped D.state members.old name result members.new }
     ensures ready { IsReady members.new.net.state members.new.net.replicas members.new.net.bag }
+    ensures past { members.new.past.items ≡ members.old.past.items }
     ensures same_slots { HaveSameSlots members.old.net.replicas members.new.net.replicas }
 {
     let instances = members.net.state.place.instances.as_slice();

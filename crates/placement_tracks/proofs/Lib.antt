@@ -1,2 +1,3 @@
-mod ServeLemmas
-mod StandLemmas
+mod MadeLemmas
+pub mod ServeLemmas
+pub mod StandLemmas

@@ -1,4 +1,4 @@
--- A cluster that stands is one from which a line may make a placement; and it stands still where a line is to make one and doesn't.
+-- A cluster that stands is one from which a line may make a placement, and it stands after it.
 use Rattle.std.proofs.Common.{◌≡◌, ◌<◌, ◌∙◌, ℕ, List, [], ◌∷◌, ◌++◌, length, refl, sym, ap, subst, inl, inr, arith, true}
 use Rattle.std.specs.Prelude.{◌⊎◌, Option, Some, None, slice_get}
 use Rattle.std.specs.FinMap.{get}
@@ -23,7 +23,7 @@ use Rattle.cluster_core.specs.declared.event.Event.TheVariants as event
 use Rattle.cluster_core.proofs.ListLemmas.{at_any}
 use Rattle.replica_exchange.specs.declared.slot.Slot.{Slot}
 use Rattle.replica_calls.specs.Calls.{Tracked}
-use Rattle.session_net.specs.Ready.{IsReady}
+use Rattle.session_net.specs.Ready.{IsCallable, IsReady}
 use Rattle.session_net.specs.Runs.{slot_at}
 use Rattle.told_by.specs.Hears.{HasReplica, IsNamedBy}
 use Rattle.told_by.specs.Steps.{IsUnmoved}
@@ -36,12 +36,14 @@ use Rattle.transcripts.specs.Placements.{HadReplica, has_replica}
 use Rattle.transcripts.specs.Record.{inner_turns, line_of}
 use Rattle.transcripts.specs.Refusals.{kept_versions}
 use Rattle.call_lines.specs.Left.{AreSlots, AreStoppedBy, FareAsSet, HoldsBack}
+use Rattle.cluster_members.specs.Kept.{IsKept}
 use Rattle.cluster_members.specs.declared.members.Members.{Members}
 use Rattle.act_lines.specs.Quiet.{DeliversNone, SetsNone}
-use Rattle.act_lines.specs.Stands.{ClusterStands}
+use Rattle.act_lines.specs.Stands.{AreKept, ClusterStands, KnowsNodes}
 use Rattle.act_lines.proofs.StandLemmas.{stands_unchanged}
-use Rattle.cluster_placements.specs.Steps.{IsAsItWas, IsChanged, MakesNext, kept_from}
-use Rattle.placement_tracks.specs.Stands.{ComesNext, StandsOrMade}
+use Rattle.cluster_placements.specs.Steps.{IsAsItWas, IsChanged, MakesNext, MayChange}
+use Rattle.placement_tracks.specs.Stands.{ChangesStand, ComesNext}
+use Rattle.placement_tracks.proofs.MadeLemmas.{given_by, next_stands}
 
 -- ---- what a line needs
 
@@ -50,31 +52,18 @@ opened [] place e = let bad : None ≡ Some place = e in cc
 opened (x ∷ events) place e = omega arith
 
 module _ {D : Type 0} {G : Ghosts D} (start : Option MetaState) (turns : List Turn) (m : Members D G) (told : ToldBy start turns m.net.replicas.events) (stands : ClusterStands start turns m) where
-  abbrev events : List Event
-  events = m.net.replicas.events
-
-  -- a Place gave the slot a tenure
-  given : (place : Placement) (i : ℕ) (done : List (ℕ × ℕ)) (n s : ℕ) → At events i (event.Place place done) → has_replica (Some place) s n ≡ true → (tenure : ℕ) × HasTenure events n s tenure
-  given place i done n s there member =
-      let a = member_at place s n member in
-      let tenure = (a.assigned).tenure in
-      (tenure, at_any (GivesTenure n s tenure) events i (event.Place place done) there (a.shard, a.there, Any-from_IsIn (λ (x : Assignment). (x.node ≡ n) × (x.tenure ≡ tenure)) a.shard a.assigned a.among (a.of_node, refl)))
-
   pub had_none : (s : Slot) → get m.net.replicas.members s ≡ None → ¬ HadReplica start (inner_turns turns) s.shard s.node
   had_none s none had =
-      let p = placed start turns events told had.place had.known in
-      let has = given had.place p.0 p.1 s.node s.shard p.2 had.member in
+      let p = placed start turns m.net.replicas.events told had.place had.known in
+      let has = given_by m.net.replicas.events had.place p.0 p.1 s.node s.shard p.2 had.member in
       stands.slots.are.there s (stands.slots.all s.node s.shard (inl has)) none
 
-  pub kept_here : (oldest : ℕ) (rest : List ℕ) → versions_after start (inner_turns turns) ≡ oldest ∷ rest → kept_from oldest m.net.state.place ≡ kept_after start (inner_turns turns) m.net.state.place
-  kept_here oldest rest first = sym (ap (kept_versions (Some m.net.state.place)) first)
-
 pub comes_next : {D : Type 0} {G : Ghosts D} (m : Members D G) → ComesNext m
-comes_next m start turns told stands oldest rest first = record {
+comes_next m start turns told stands = record {
   opened = opened m.net.replicas.events m.net.state.place stands.ready.place;
   left = stands.left.place;
   lawful = stands.ready.lawful;
-  kept_is = kept_here start turns m told stands oldest rest first;
+  kept_is = sym stands.kept.count;
   had_none = had_none start turns m told stands;
 }
 
@@ -115,6 +104,11 @@ same_stands {D} start turns old new same stands =
         fates = subst (λ (state : MetaState). FareAsSet turns state.place new.net.fates) state_is (subst (λ fates. FareAsSet turns old.net.state.place fates) (sym same.fates) stands.left.fates);
         late = subst (λ bag. HoldsBack start turns bag) (sym same.bag) stands.left.late;
       };
+      kept = subst (λ (state : MetaState). AreKept start turns state.place new.past.items) state_is (subst (λ xs. AreKept start turns old.net.state.place xs) (sym same.past) stands.kept);
+      serves = λ p i. subst (λ (state : MetaState). IsCallable (record state { place = p }) new.net.replicas new.net.bag) state_is (subst (λ (t : Tracked D). IsCallable (record old.net.state { place = p }) t new.net.bag) replicas
+          (subst (λ bag. IsCallable (record old.net.state { place = p }) old.net.replicas bag) (sym same.bag) (stands.serves p (subst (λ xs. IsIn xs p) same.past i))));
+      placed = λ p done i. subst (λ (state : MetaState). IsKept state.place new.past.items p) state_is (subst (λ xs. IsKept old.net.state.place xs p) (sym same.past) (stands.placed p done (subst (λ (t : Tracked D). IsIn t.events (event.Place p done)) same.replicas i)));
+      known = subst (λ (state : MetaState). KnowsNodes turns state.place new.net.fates) state_is (subst (KnowsNodes turns old.net.state.place) (sym same.fates) stands.known);
       ready = subst (λ (state : MetaState). IsReady state new.net.replicas new.net.bag) state_is (subst (λ (t : Tracked D). IsReady old.net.state t new.net.bag) replicas (subst (λ bag. IsReady old.net.state old.net.replicas bag) (sym same.bag) stands.ready));
       slots = record {
         are = subst (λ slots. AreSlots slots new.net.replicas) (sym same.slots) (subst (λ (t : Tracked D). AreSlots old.slots.items t) replicas stands.slots.are);
@@ -130,19 +124,23 @@ same_stands {D} start turns old new same stands =
     was_in : (s : Slot) → IsIn new.slots.items s → IsIn old.slots.items s
     was_in s i = subst (λ slots. IsIn slots s) same.slots i
 
-module _ {D : Type 0} {G : Ghosts D} (state : D → DiskState) (old : Members D G) (start : Option MetaState) (turns : List Turn) (kept : ℕ) (a : Act) (depot : Depot D) (answered : Answer) (after : Depot D) (new : Members D G) (stands : ClusterStands start turns old) (step : is_step_act a ≡ true) where
+module _ {D : Type 0} {G : Ghosts D} (state : D → DiskState) (old : Members D G) (start : Option MetaState) (turns : List Turn) (kept : ℕ) (a : Act) (depot : Depot D) (answered : Answer) (after : Depot D) (new : Members D G) (stands : ClusterStands start turns old) (step : is_step_act a ≡ true) (may : MayChange new after.held) where
   abbrev Stands : Type 0
   Stands = ClusterStands start (turns ++ line_of a answered ∷ []) new
 
   unmoved_stands : IsAsItWas old new → IsUnmoved answered → Stands
   unmoved_stands same unmoved = same_stands start (turns ++ line_of a answered ∷ []) old new same (stands_unchanged old start turns a answered stands (sets_none answered unmoved) (delivers_none answered unmoved))
 
-  made_or_stands : IsChanged state kept a depot old answered after new → MakesNext state kept a depot old answered after new ⊎ Stands
-  made_or_stands (inl made) = inl made
-  made_or_stands (inr (inl none)) = inr (unmoved_stands none.same (nowhere_unmoved old.net.state.place kept a answered step none.nowhere))
-  made_or_stands (inr (inr (inl disk))) = inr (unmoved_stands disk.same (subst IsUnmoved (sym disk.answer_is) tt))
-  made_or_stands (inr (inr (inr (inl room)))) = inr (unmoved_stands room.same (subst IsUnmoved (sym room.answer_is) tt))
-  made_or_stands (inr (inr (inr (inr memory)))) = inr (unmoved_stands memory.same (subst IsUnmoved (sym memory.answer_is) tt))
+  made_stands : MakesNext state kept a depot old answered after new → Stands
+  made_stands h =
+      subst (λ b. ClusterStands start (turns ++ line_of a b ∷ []) new) (sym h.answer_is) (next_stands state old new start turns stands a step h.next kept h.leads depot after h.placed may)
 
-pub stands_or_made : {D : Type 0} {G : Ghosts D} (state : D → DiskState) (old : Members D G) → StandsOrMade state old
-stands_or_made state old start turns kept a depot answered after new stands step changed = made_or_stands state old start turns kept a depot answered after new stands step changed
+  stands_changed : IsChanged state kept a depot old answered after new → Stands
+  stands_changed (inl made) = made_stands made
+  stands_changed (inr (inl none)) = unmoved_stands none.same (nowhere_unmoved old.net.state.place kept a answered step none.nowhere)
+  stands_changed (inr (inr (inl disk))) = unmoved_stands disk.same (subst IsUnmoved (sym disk.answer_is) tt)
+  stands_changed (inr (inr (inr (inl room)))) = unmoved_stands room.same (subst IsUnmoved (sym room.answer_is) tt)
+  stands_changed (inr (inr (inr (inr memory)))) = unmoved_stands memory.same (subst IsUnmoved (sym memory.answer_is) tt)
+
+pub changes_stand : {D : Type 0} {G : Ghosts D} (state : D → DiskState) (old : Members D G) → ChangesStand state old
+changes_stand state old start turns kept a depot answered after new stands step may changed = stands_changed state old start turns kept a depot answered after new stands step may changed

@@ -1,5 +1,5 @@
--- A cluster that stands: a line may make a placement from it, and where one is to and doesn't, it stands still.
-use Rattle.std.specs.Prelude.{◌≡◌, ◌⊎◌, ℕ, List, [], ◌∷◌, ◌++◌, Option, true}
+-- A cluster that stands: a line may make a placement from it, and it stands after it.
+use Rattle.std.specs.Prelude.{◌≡◌, ℕ, List, [], ◌∷◌, ◌++◌, Option, true}
 use Rattle.m3_model.specs.declared.act.Act.{Act}
 use Rattle.m3_model.specs.declared.answer.Answer.{Answer}
 use Rattle.m3_model.specs.declared.rules.MetaState.{MetaState}
@@ -9,22 +9,20 @@ use Rattle.m3_outside.specs.DiskState.{DiskState}
 use Rattle.m3_outside.specs.declared.disk.Disk.{Ghosts}
 use Rattle.placement_acts.specs.Acts.{is_step_act}
 use Rattle.told_by.specs.Told.{ToldBy}
-use Rattle.transcripts.specs.Caused.{versions_after}
-use Rattle.transcripts.specs.Record.{inner_turns, line_of}
+use Rattle.transcripts.specs.Record.{line_of}
 use Rattle.cluster_members.specs.declared.members.Members.{Members}
 use Rattle.act_lines.specs.Stands.{ClusterStands}
-use Rattle.cluster_placements.specs.Steps.{IsChanged, MakesNext, kept_from}
+use Rattle.cluster_placements.specs.Steps.{IsChanged, MayChange, kept_in}
 use Rattle.placement_tracks.specs.Serves.{MayComeNext}
 
--- Where the list tells of the turns, after which the cluster stands, and this is the version of the first placement, a line may make one.
+-- Where the list tells of the turns, after which the cluster stands, a line may make a placement.
 abbrev pub ComesNext : {D : Type 0} {G : Ghosts D} → Members D G → Type 0
 ComesNext m =
-    (start : Option MetaState) (turns : List Turn) → ToldBy start turns m.net.replicas.events → ClusterStands start turns m → (oldest : ℕ) (rest : List ℕ) → versions_after start (inner_turns turns) ≡ oldest ∷ rest
-    → MayComeNext start turns (kept_from oldest m.net.state.place) m
+    (start : Option MetaState) (turns : List Turn) → ToldBy start turns m.net.replicas.events → ClusterStands start turns m → MayComeNext start turns (kept_in m) m
 
--- After such a line the next placement was made, or the cluster stands as it did.
-abbrev pub StandsOrMade : {D : Type 0} {G : Ghosts D} → (D → DiskState) → Members D G → Type 0
-StandsOrMade {D} {G} state old =
+-- After such a line the cluster stands, whatever it was answered.
+abbrev pub ChangesStand : {D : Type 0} {G : Ghosts D} → (D → DiskState) → Members D G → Type 0
+ChangesStand {D} {G} state old =
     (start : Option MetaState) (turns : List Turn) (kept : ℕ) (a : Act) (depot : Depot D) (answered : Answer) (after : Depot D) (new : Members D G)
-    → ClusterStands start turns old → is_step_act a ≡ true → IsChanged state kept a depot old answered after new
-    → MakesNext state kept a depot old answered after new ⊎ ClusterStands start (turns ++ line_of a answered ∷ []) new
+    → ClusterStands start turns old → is_step_act a ≡ true → MayChange new after.held → IsChanged state kept a depot old answered after new
+    → ClusterStands start (turns ++ line_of a answered ∷ []) new

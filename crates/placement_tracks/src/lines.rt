@@ -1,6 +1,6 @@
 //! What lines that make a placement leave of the list, and of a cluster that stands.
 ghost use Rattle.placement_tracks.specs.Serves.{ChangesServe};
-ghost use Rattle.placement_tracks.specs.Stands.{ComesNext, StandsOrMade};
+ghost use Rattle.placement_tracks.specs.Stands.{ChangesStand, ComesNext};
 
 use cluster_members::Members;
 use m3_outside::Disk;
@@ -12,9 +12,9 @@ pub fn changes_serve<D: Disk>(members: &Members<D>)
     ensures { ChangesServe D.state members.now }
 {}
 
-/// A cluster that stands has what such a line needs: the placement that the turns left, all versions from the first one on, and for no
-/// slot without a replica a placement that had one there. Where the line makes no placement, the cluster stands after it as before.
+/// A cluster that stands has what such a line needs: the placement that the turns left, as many versions as were made, and for no slot
+/// without a replica a placement that had one there. After the line it stands, with the next placement where one was made.
 pub fn changes_stand<D: Disk>(members: &Members<D>)
     ensures next { ComesNext members.now }
-    ensures still { StandsOrMade D.state members.now }
+    ensures stands { ChangesStand D.state members.now }
 {}

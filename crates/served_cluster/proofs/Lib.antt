@@ -1,4 +1,5 @@
 pub mod ActLemmas
 pub mod OwnLemmas
+pub mod KeptLemmas
 pub mod TrackLemmas
 pub use Rattle.cluster_tracks.proofs.EndLemmas

@@ -1,5 +1,5 @@
 -- Whose the disks are that are out.
-use Rattle.std.proofs.Common.{◌≡◌, ℕ, List, refl, sym, subst, ◌∙◌, false, inl, inr}
+use Rattle.std.proofs.Common.{◌≡◌, ℕ, List, refl, sym, subst, ◌∙◌, true, false, inl, inr}
 use Rattle.std.specs.Prelude.{◌≢◌, ◌⊎◌, Option, Some, None}
 use Rattle.std.specs.FinMap as finite
 use Rattle.std.specs.Option.{is_some}
@@ -18,13 +18,16 @@ use Rattle.replica_exchange.specs.declared.slot.Slot.{Slot}
 use Rattle.replica_calls.specs.Slots.{MemberMap}
 use Rattle.session_net.specs.Runs.{slot_at}
 use Rattle.cluster_members.specs.declared.members.Members.{Members}
+use Rattle.placement_acts.specs.Acts.{is_step_act}
 use Rattle.first_cluster.specs.First.{IsRefusedInit}
 use Rattle.first_cluster.specs.Depots.{AreOut, OwnedBy, disk_slot_of}
 use Rattle.first_cluster.specs.Lending.{HasGivenBack, HasReturned, IsBack, IsGivenBack, IsKept, IsUntouched}
-use Rattle.cluster_tracks.specs.Acts.{Does, IsServedBy, OnMembers, next_call}
+use Rattle.first_cluster.proofs.GiveAll.{returned_none}
+use Rattle.cluster_placements.specs.Steps.{IsChanged, kept_in}
+use Rattle.cluster_tracks.specs.Acts.{Does, IsServedBy, IsStepAnswer, OnMembers, next_call}
 use Rattle.cluster_tracks.specs.Slots.{KeepsSlots}
 use Rattle.cluster_tracks.proofs.SlotLemmas.{acts_keep_slots}
-use Rattle.served_cluster.specs.Acts.{Answers, Serves}
+use Rattle.served_cluster.specs.Acts.{Answers, Serves, is_init}
 use Rattle.served_cluster.specs.declared.cluster.Cluster.{Cluster}
 
 -- ---- `init`
@@ -34,9 +37,14 @@ pub none_stood : {X : Type 0} (o : Option X) → false ≡ is_some o → o ≡ N
 none_stood None none = refl
 none_stood (Some x) none = cc
 
+pub not_some : {X : Type 0} (o : Option X) → ((x : X) → o ≡ Some x → ⊥) → o ≡ None
+not_some None other = refl
+not_some (Some x) other = absurd (other x refl)
+
 -- one that was refused gave all disks back
 pub refused_returned : {D : Type 0} (state : D → DiskState) (rf shards seed : ℕ) (nodes : List (List ℕ × List ℕ)) (old new : Depot D) (b : Answer) → IsRefusedInit state rf shards seed nodes old new b → HasReturned state old finite.empty new
 refused_returned state rf shards seed nodes old new (answer.Disk name shard) h = h.1
+refused_returned state rf shards seed nodes old new (answer.Group shard) h = subst (HasReturned state old finite.empty) (sym h.1) (returned_none state old)
 refused_returned state rf shards seed nodes old new answer.Memory h = h
 refused_returned state rf shards seed nodes old new _ h = absurd h
 
@@ -69,7 +77,7 @@ module _ {D : Type 0} (state : D → DiskState) where
       by (inl kept) = own.there s (none_left (finite.get members s) refl kept.member) (sym kept.held ∙ out)
       by (inr back) = (let clash = sym back.held ∙ out in cc)
 
--- ---- acts other than `init`
+-- ---- acts
 
 module _ {D : Type 0} {G : Ghosts D} (state : D → DiskState) (held : DiskSlot → Held D) where
   owned_on : (m g : Members D G) → KeepsSlots m g → OwnedBy (Some m) held → OwnedBy (Some g) held
@@ -88,20 +96,42 @@ module _ {D : Type 0} {G : Ghosts D} (state : D → DiskState) (held : DiskSlot 
   owned_after None a b calls new did own = subst (λ (o : Option (Members D G)). OwnedBy o held) (sym did.1) own
   owned_after (Some m) a b calls new did own = subst (λ (o : Option (Members D G)). OwnedBy o held) (sym did.1) (owned_on m did.0 (acts_keep_slots state m (next_call calls) a b did.0 did.2) own)
 
--- what is answered an act other than `init` serves it
-pub serves_so : {D : Type 0} {G : Ghosts D} (state : D → DiskState) (depot : Depot D) (old : Cluster D G) (a : Act) (b : Answer) (new : Cluster D G) → ((rf shards seed : _) (nodes : _) → a ≡ act.Init rf shards seed nodes → ⊥) → Answers state old a b new → Serves state depot old a b depot new
-serves_so {D} {G} state depot old a b new other h = record { members = by a other h.members; calls = h.calls }
+-- what is answered an act that makes no placement serves it
+pub serves_so : {D : Type 0} {G : Ghosts D} (state : D → DiskState) (depot : Depot D) (old : Cluster D G) (a : Act) (b : Answer) (new : Cluster D G) → is_init a ≡ false → is_step_act a ≡ false → Answers state old a b new → Serves state depot old a b depot new
+serves_so {D} {G} state depot old a b new other no_step h = record { members = by a other no_step h.members; calls = h.calls }
   where
-    by : (x : Act) → ((rf shards seed : _) (nodes : _) → x ≡ act.Init rf shards seed nodes → ⊥) → OnMembers old.members (λ m g. Does state (next_call old.calls) m x b g) b new.members → IsServedBy state old.calls depot old.members x b depot new.members
-    by (act.Init rf shards seed nodes) away it = absurd (away rf shards seed nodes refl)
-    by (act.Namespace name block past future retention) away it = (it, refl)
-    by (act.Now now) away it = (it, refl)
-    by (act.Write ns id t v level version) away it = (it, refl)
-    by (act.Fetch ns id from to level version) away it = (it, refl)
-    by (act.Match ns wanted from to level version) away it = (it, refl)
-    by (act.Fates list) away it = (it, refl)
-    by act.Deliver away it = (it, refl)
-    by (act.Stop node) away it = (it, refl)
-    by (act.Restart node pick) away it = (it, refl)
-    by (act.Bootstrap node asked) away it = (it, refl)
-    by _ away it = (it, refl)
+    by : (x : Act) → is_init x ≡ false → is_step_act x ≡ false → OnMembers old.members (λ m g. Does state (next_call old.calls) m x b g) b new.members → IsServedBy state old.calls depot old.members x b depot new.members
+    by (act.Init rf shards seed nodes) no_init no_step it = cc
+    by (act.Add node group) no_init no_step it = cc
+    by (act.Drain node) no_init no_step it = cc
+    by (act.Cancel node) no_init no_step it = cc
+    by (act.Remove node) no_init no_step it = cc
+    by (act.Replace node with_ group) no_init no_step it = cc
+    by (act.Namespace name block past future retention) no_init no_step it = (it, refl)
+    by (act.Now now) no_init no_step it = (it, refl)
+    by (act.Write ns id t v level version) no_init no_step it = (it, refl)
+    by (act.Fetch ns id from to level version) no_init no_step it = (it, refl)
+    by (act.Match ns wanted from to level version) no_init no_step it = (it, refl)
+    by (act.Fates list) no_init no_step it = (it, refl)
+    by act.Deliver no_init no_step it = (it, refl)
+    by (act.Stop node) no_init no_step it = (it, refl)
+    by (act.Restart node pick) no_init no_step it = (it, refl)
+    by (act.Bootstrap node asked) no_init no_step it = (it, refl)
+    by _ no_init no_step it = (it, refl)
+
+-- what is answered a line that makes a placement serves its act
+pub serves_step : {D : Type 0} {G : Ghosts D} (state : D → DiskState) (depot : Depot D) (old : Cluster D G) (a : Act) (b : Answer) (after : Depot D) (new : Cluster D G) → is_step_act a ≡ true → IsStepAnswer state depot old.members a b after new.members → new.calls ≡ old.calls → Serves state depot old a b after new
+serves_step state depot old (act.Add node group) b after new step h calls = record { members = h; calls = calls }
+serves_step state depot old (act.Drain node) b after new step h calls = record { members = h; calls = calls }
+serves_step state depot old (act.Cancel node) b after new step h calls = record { members = h; calls = calls }
+serves_step state depot old (act.Remove node) b after new step h calls = record { members = h; calls = calls }
+serves_step state depot old (act.Replace node with_ group) b after new step h calls = record { members = h; calls = calls }
+serves_step state depot old _ b after new step h calls = cc
+
+-- where none stands it is out of order
+pub none_changed : {D : Type 0} {G : Ghosts D} (state : D → DiskState) (depot : Depot D) (old : Option (Members D G)) (a : Act) → old ≡ None → IsStepAnswer state depot old a answer.Order depot old
+none_changed {D} {G} state depot old a none = subst (λ (o : Option (Members D G)). IsStepAnswer state depot o a answer.Order depot o) (sym none) (refl, refl, refl)
+
+-- where one stands
+pub changed_so : {D : Type 0} {G : Ghosts D} (state : D → DiskState) (depot : Depot D) (old : Option (Members D G)) (m : Members D G) (a : Act) (b : Answer) (after : Depot D) (g : Members D G) → old ≡ Some m → IsChanged state (kept_in m) a depot m b after g → IsStepAnswer state depot old a b after (Some g)
+changed_so {D} {G} state depot old m a b after g stands h = subst (λ (o : Option (Members D G)). IsStepAnswer state depot o a b after (Some g)) (sym stands) (g, refl, h)

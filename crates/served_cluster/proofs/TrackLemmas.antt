@@ -10,19 +10,24 @@ use Rattle.m3_model.specs.declared.turn.Request.TheVariants as request
 use Rattle.m3_model.specs.declared.turn.Turn.{Turn}
 use Rattle.m3_outside.specs.Depots.{Depot, TellAll}
 use Rattle.m3_outside.specs.DiskState.{DiskState, IsLawfulDisk}
+use Rattle.m3_outside.specs.Slots.{Held}
 use Rattle.m3_outside.specs.declared.disk.Disk.{Ghosts}
+use Rattle.m3_outside.specs.declared.slot.DiskSlot.{DiskSlot}
 use Rattle.event_trail.specs.Trails.{IsLegalOver}
 use Rattle.replica_calls.specs.Calls.{AreMembersOf}
 use Rattle.transcripts.specs.Placements.{placement_after}
 use Rattle.transcripts.specs.Record.{inner_turns, line_of}
 use Rattle.cluster_members.specs.declared.members.Members.{Members}
+use Rattle.first_cluster.specs.Depots.{OwnedBy}
+use Rattle.cluster_placements.specs.Steps.{MayChange}
 use Rattle.cluster_tracks.proofs.StandLemmas.{no_placement}
 use Rattle.cluster_tracks.specs.Tracks.{MayStandSo, events_of}
 use Rattle.cluster_tracks.specs.Lines.{EachMember, IsLeft}
 use Rattle.cluster_tracks.proofs.LineLemmas.{lines_are_tracked}
 use Rattle.served_cluster.specs.Acts.{Serves}
-use Rattle.served_cluster.specs.Owned.{AreReady, TracksTurns, place_of}
+use Rattle.served_cluster.specs.Owned.{AreReady, MayServeCluster, TracksTurns, place_of}
 use Rattle.served_cluster.specs.declared.cluster.Cluster.{Cluster}
+use Rattle.served_cluster.proofs.KeptLemmas.{may_change}
 
 module _ {D : Type 0} {G : Ghosts D} (state : D → DiskState) where
   -- they left the placement that stands
@@ -36,13 +41,18 @@ module _ {D : Type 0} {G : Ghosts D} (state : D → DiskState) where
   -- what is left where one stands
   each_left : (tells : Bool) → (tells ≡ true → TellAll state) → (o : Option (Members D G)) → IsLegalOver state (events_of o) → AreReady o → EachMember o (λ m. IsLeft tells m)
   each_left tells tell None legal ready = tt
-  each_left tells tell (Some m) legal ready = record { legal = legal tells tell; ready = ready.0 }
+  each_left tells tell (Some m) legal ready = record { legal = legal tells tell; ready = ready.0.0 }
+
+  -- and what the next line needs
+  each_may : (held : DiskSlot → Held D) (o : Option (Members D G)) → OwnedBy o held → AreReady o → EachMember o (λ m. MayChange m held)
+  each_may held None own ready = tt
+  each_may held (Some m) own ready = may_change m held own ready
 
   -- and with one more line they are tracked
   pub tracks_on : ((d : D) → IsLawfulDisk (state d)) → (old new : Cluster D G) (before after : Depot D) (asked : Request) (a : Act) (b : Answer) → asked ≡ request.One a → IsServedAct a → EachMember old.members (λ m. AreMembersOf state m.net.replicas)
-      → Serves state before old a b after new → IsLegalOver state (events_of new.members) → AreReady new.members → (tells : Bool) (first : Depot D) (turns : List Turn) → TracksTurns state tells first before turns old
+      → Serves state before old a b after new → IsLegalOver state (events_of new.members) → MayServeCluster new after.held → (tells : Bool) (first : Depot D) (turns : List Turn) → TracksTurns state tells first before turns old
       → TracksTurns state tells first after (turns ++ record { request = asked; reply = reply.One b } ∷ []) new
-  tracks_on lawful old new before after asked a b is served are h legal ready tells first turns t =
+  tracks_on lawful old new before after asked a b is served are h legal may tells first turns t =
       subst (λ (r : Request). TracksTurns state tells first after (turns ++ record { request = r; reply = reply.One b } ∷ []) new) (sym is)
       (subst (λ (calls : List ℕ). TracksTurns state tells first after (turns ++ line_of a b ∷ []) (record { members = new.members; calls = calls })) (sym h.calls)
-      (lines_are_tracked state lawful old.members tells first before after turns old.calls a b new.members served t are (each_left tells t.tell new.members legal ready) h.members))
+      (lines_are_tracked state lawful old.members tells first before after turns old.calls a b new.members served t are (each_left tells t.tell new.members legal may.ready) (each_may after.held new.members may.owned may.ready) h.members))

@@ -20,7 +20,7 @@ abbrev pub sets_fates : Act → Bool
 sets_fates (act.Fates list) = true
 sets_fates _ = false
 
--- what an act other than `init` is answered, and what it leaves
+-- what an act that makes no placement is answered, and what it leaves
 pub record Answers {D : Type 0} {G : Ghosts D} (state : D → DiskState) (old : Cluster D G) (a : Act) (answered : Answer) (new : Cluster D G) : Type 0 where
   pub members : OnMembers old.members (λ m g. Does state (next_call old.calls) m a answered g) answered new.members
   pub calls : new.calls ≡ numbers_by a answered old.calls

@@ -1,5 +1,6 @@
 -- What a cluster needs to serve a request: the disks that are out are its own, its calls may be made, and its slots have their replicas.
-use Rattle.std.specs.Prelude.{⊤, List, Option, Some, None, Bool, option_map}
+use Rattle.std.specs.Prelude.{◌≡◌, ⊤, List, [], Option, Some, None, Bool, option_map}
+use Rattle.std.specs.FinMap.{get}
 use Rattle.m3_model.specs.declared.placement.Placement.{Placement}
 use Rattle.m3_outside.specs.Depots.{Depot}
 use Rattle.m3_outside.specs.DiskState.{DiskState}
@@ -7,17 +8,30 @@ use Rattle.m3_outside.specs.Slots.{Held}
 use Rattle.m3_outside.specs.declared.disk.Disk.{Ghosts}
 use Rattle.m3_outside.specs.declared.slot.DiskSlot.{DiskSlot}
 use Rattle.m3_model.specs.declared.turn.Turn.{Turn}
+use Rattle.replica_exchange.specs.declared.slot.Slot.{Slot}
 use Rattle.session_net.specs.Ready.{IsReady}
+use Rattle.session_net.specs.Runs.{steps_of}
+use Rattle.cluster_members.specs.Kept.{PastServes}
 use Rattle.cluster_members.specs.declared.members.Members.{Members}
 use Rattle.node_calls.specs.Halts.{AreManned}
 use Rattle.first_cluster.specs.Depots.{OwnedBy}
+use Rattle.cluster_placements.specs.Slots.{AreSlotsIn}
 use Rattle.cluster_tracks.specs.Tracks.{Tracks}
 use Rattle.served_cluster.specs.declared.cluster.Cluster.{Cluster}
 
--- where one stands, its calls may be made, and each of its slots has a replica
+-- calls may be made, and each slot has a replica
+abbrev pub MayGo : {D : Type 0} {G : Ghosts D} → Members D G → Type 0
+MayGo m = IsReady m.net.state m.net.replicas m.net.bag × AreManned m.slots.items m.net.replicas
+
+-- each slot stands there once and is one of the placement's nodes and shards, and a slot without a replica has no step in the list
+pub record HasItsSlots {D : Type 0} {G : Ghosts D} (m : Members D G) : Type 0 where
+  pub slots : AreSlotsIn m.net.state.place m.slots.items
+  pub unstepped : (s : Slot) → get m.net.replicas.members s ≡ None → steps_of s m.net.replicas.events ≡ []
+
+-- where one stands, so it is, and calls may go by each placement that is kept
 abbrev pub AreReady : {D : Type 0} {G : Ghosts D} → Option (Members D G) → Type 0
 AreReady None = ⊤
-AreReady (Some m) = IsReady m.net.state m.net.replicas m.net.bag × AreManned m.slots.items m.net.replicas
+AreReady (Some m) = MayGo m × PastServes m × HasItsSlots m
 
 -- and the disks that are out are those of its replicas
 pub record MayServeCluster {D : Type 0} {G : Ghosts D} (c : Cluster D G) (held : DiskSlot → Held D) : Type 0 where

@@ -1,16 +1,18 @@
-ghost use Rattle.std.specs.Prelude.{◌≡◌, ◌≢◌, ◌<◌, ◌≤◌, [], ◌∷◌, ◌++◌, List, Some, None, Bool, true, false, IsTrue};
+ghost use Rattle.std.specs.Prelude.{◌≡◌, ◌≢◌, ◌<◌, ◌≤◌, [], ◌∷◌, ◌++◌, List, Some, None, Bool, true, false};
 ghost use Rattle.std.specs.Option.{option_copied};
 ghost use Rattle.m3_model.specs.declared.turn.Turn.{Turn};
 ghost use Rattle.m3_model.specs.declared.act.Act.TheVariants as act;
 ghost use Rattle.m3_model.specs.Calls.{is_call};
 ghost use Rattle.m3_model.specs.Limits.{IsInit, MeetsLimits, KeepsLimits};
-ghost use Rattle.served_acts.specs.NotYet.{fills_its_nodes, IsServedAct, IsServed};
+ghost use Rattle.served_acts.specs.NotYet.{IsServedAct, IsServed};
 ghost use Rattle.m3_outside.specs.Depots.{Depot, TellAll};
 ghost use Rattle.m3_outside.specs.Slots.{Out};
 ghost use Rattle.m3_outside.specs.declared.slot.DiskSlot.{DiskSlot};
+ghost use Rattle.placement_acts.specs.Acts.{is_step_act};
 ghost use Rattle.event_trail.specs.Trails.{IsLegalOver};
 ghost use Rattle.replica_exchange.specs.declared.slot.Slot.{Slot as AtSlot};
 ghost use Rattle.replica_calls.specs.Calls.{AreMembersOf};
+ghost use Rattle.session_net.specs.Ready.{IsReady};
 ghost use Rattle.transcripts.specs.Placements.{placement_after};
 ghost use Rattle.transcripts.specs.Record.{IsAnsweredBy, inner_turns};
 ghost use Rattle.first_cluster.specs.Bare.{AreBare};
@@ -25,6 +27,7 @@ ghost use Rattle.served_cluster.specs.Acts.{Answers, Serves, is_init, sets_fates
 ghost use Rattle.served_cluster.specs.Owned.{AreReady, MayServeCluster, TracksTurns, place_of};
 
 use cluster_members::{Members, Range};
+use cluster_placements::change_placement;
 use cluster_upkeep::{flush, snapshot, status, tick};
 use first_cluster::{first_members, give_all};
 use m3_model::{Act, Answer, Fate, Placement, Reply, Request, Seq, Space, Text};
@@ -52,6 +55,20 @@ fn call_of(number: u64) -> CallId
     CallId { client: 0, number }
 }
 
+// Whether the act asks for a placement after the one that stands.
+fn is_step_act(act: &Act) -> bool
+    ensures { result ≡ is_step_act act.now }
+{
+    match act {
+        Act::Add { .. }
+        | Act::Drain { .. }
+        | Act::Cancel { .. }
+        | Act::Remove { .. }
+        | Act::Replace { .. } => true,
+        _ => false,
+    }
+}
+
 // Makes a write, a fetch or a match as this call.
 fn make_call<D: Disk>(members: &mut Members<D>, alloc: Global, id: CallId, act: Act) -> Answer
     requires limits { MeetsLimits act }
@@ -59,7 +76,7 @@ fn make_call<D: Disk>(members: &mut Members<D>, alloc: Global, id: CallId, act: 
     requires call { is_call act ≡ true }
     requires number { id.number < last_number }
     requires ready { AreReady (Some members.old) }
-    ensures ready { AreReady (Some members.new) }
+    ensures ready { IsReady members.new.net.state members.new.net.replicas members.new.net.bag }
     ensures does { Does D.state id members.old act result members.new }
 {
     match act {
@@ -69,24 +86,24 @@ fn make_call<D: Disk>(members: &mut Members<D>, alloc: Global, id: CallId, act: 
             t,
             v,
             level,
-            ..
-        } => members.write(alloc, id, ns, name, t, v, level),
+            version,
+        } => members.write(alloc, id, ns, name, t, v, level, version),
         Act::Fetch {
             ns,
             id: name,
             from,
             to,
             level,
-            ..
-        } => members.fetch(alloc, id, ns, name, Range { from, to }, level),
+            version,
+        } => members.fetch(alloc, id, ns, name, Range { from, to }, level, version),
         Act::Match {
             ns,
             wanted,
             from,
             to,
             level,
-            ..
-        } => members.find(alloc, id, ns, wanted, Range { from, to }, level),
+            version,
+        } => members.find(alloc, id, ns, wanted, Range { from, to }, level, version),
         _ => unreachable!(),
     }
 }
@@ -96,10 +113,11 @@ fn make_change<D: Disk>(members: &mut Members<D>, alloc: Global, act: Act) -> An
     requires limits { MeetsLimits act }
     requires served { IsServedAct act }
     requires no_init { is_init act ≡ false }
+    requires no_step { is_step_act act ≡ false }
     requires change { is_call act ≡ false }
     requires no_fates { sets_fates act ≡ false }
     requires ready { AreReady (Some members.old) }
-    ensures ready { AreReady (Some members.new) }
+    ensures ready { IsReady members.new.net.state members.new.net.replicas members.new.net.bag }
     ensures does { (id : CallName) → Does D.state id members.old act result members.new }
 {
     match act {
@@ -177,7 +195,6 @@ impl<D: Disk> Cluster<D> {
         nodes: Seq<(Text, Text)>,
     ) -> Answer
         requires limits { IsInit rf shards seed nodes }
-        requires apart { IsTrue (fills_its_nodes rf nodes) }
         requires owned { MayServeCluster self.old (X.held disks.old) }
         ensures owned { MayServeCluster self.new (X.held disks.new) }
         ensures made { IsInitAnswer D.state (depot_by X.held X.counted X.all_faults disks.old) self.old.members rf shards seed nodes result (depot_by X.held X.counted X.all_faults disks.new) self.new.members }
@@ -239,6 +256,7 @@ impl<D: Disk> Cluster<D> {
         requires limits { MeetsLimits act }
         requires served { IsServedAct act }
         requires no_init { is_init act ≡ false }
+        requires no_step { is_step_act act ≡ false }
         requires change { is_call act ≡ false }
         requires no_fates { sets_fates act ≡ false }
         requires ready { AreReady self.old.members }
@@ -252,11 +270,12 @@ impl<D: Disk> Cluster<D> {
         make_change(members, alloc, act)
     }
 
-    // Answers an act other than `init`. No disk is taken or given back.
+    // Answers an act that makes no placement. No disk is taken or given back.
     fn answer(&mut self, alloc: Global, act: Act) -> Answer
         requires limits { MeetsLimits act }
         requires served { IsServedAct act }
         requires no_init { is_init act ≡ false }
+        requires no_step { is_step_act act ≡ false }
         requires ready { AreReady self.old.members }
         ensures ready { AreReady self.new.members }
         ensures answers { Answers D.state self.old act result self.new }
@@ -268,6 +287,38 @@ impl<D: Disk> Cluster<D> {
             Act::Fates { list } => self.set_fates(alloc, list),
             _ => self.answer_change(alloc, act),
         }
+    }
+
+    // Makes the next placement. Without members there is none that it could come after.
+    fn change<X: Disks<D = D>>(&mut self, alloc: Global, disks: &mut X, act: Act) -> Answer
+        requires limits { MeetsLimits act }
+        requires step { is_step_act act ≡ true }
+        requires owned { MayServeCluster self.old (X.held disks.old) }
+        ensures owned { MayServeCluster self.new (X.held disks.new) }
+        ensures answers { Serves D.state (depot_by X.held X.counted X.all_faults disks.old) self.old act result (depot_by X.held X.counted X.all_faults disks.new) self.new }
+    {
+        let Some(members) = &mut self.members else {
+            drop(act);
+            return Answer::Order;
+        };
+        let answer = change_placement(members, alloc, disks, &act);
+        drop(act);
+        answer
+    }
+
+    // Answers an act other than `init`.
+    fn serve_other<X: Disks<D = D>>(&mut self, alloc: Global, disks: &mut X, act: Act) -> Answer
+        requires limits { MeetsLimits act }
+        requires served { IsServedAct act }
+        requires no_init { is_init act ≡ false }
+        requires owned { MayServeCluster self.old (X.held disks.old) }
+        ensures owned { MayServeCluster self.new (X.held disks.new) }
+        ensures answers { Serves D.state (depot_by X.held X.counted X.all_faults disks.old) self.old act result (depot_by X.held X.counted X.all_faults disks.new) self.new }
+    {
+        if is_step_act(&act) {
+            return self.change(alloc, disks, act);
+        }
+        self.answer(alloc, act)
     }
 
     // Answers an act.
@@ -287,7 +338,7 @@ impl<D: Disk> Cluster<D> {
         {
             return self.init(alloc, disks, rf, shards, seed, nodes);
         }
-        self.answer(alloc, act)
+        self.serve_other(alloc, disks, act)
     }
 
     /// Answers one request. The turns so far that are tracked are so with this one.

@@ -67,6 +67,25 @@ i1 nm t100 wmuA119=5 sa sb bb t170 l k u ba oa ob l u rmuA|v1[abc]:ok:ok:abc:ok:
 i1 nm t100 wmuA119=5 t170 l t180 k sa ba oa u rmuA l u k u|v1[abc]:ok:ok:abc:ok:a1b1c1/:ok:a1b1c1/:ok:ok:v1[abc]:a1.2.0b0.1.0c0.1.0:.:a1b0c0/:a0.2.1b0.1.0c0.1.0:a1b0c0/:a0.2.0b0.1.0c0.1.0:
 i2 nm t100 wmuA119=5 wmxA118=6 wmxA119=7 u sb t170 l u qm=M rmuM|v1[abc][abc]:ok:ok:abc:abc:abc:a2.1.0b2.1.0c2.1.0a1.1.0b1.1.0c1.1.0:ok:ok:a1c1a1c1/b-b-:a0.1.1b-c0.1.1a0.1.1b-c0.1.1:x118=6,119=7,.:u119=5,.:";
 
+// Lines that make a placement: out of order before `init`, and refused by names; what an addition moves; a move that is in the way, is
+// cancelled and comes again; groups of their own; a node that is removed while it is stopped and named again; and a replica that joins.
+const PLACEMENTS: &str =
+    "+d4 -a ~a /a %ad1 i1 +a1 %ab2 -x ~x /x %xd1 +d4 +d4 p|order:order:order:order:order:v1[abc]:order:order:?x:?x:?x:?x:v2[abc]:order:v2[abc]:
+i4 +d4 p|v1[abc][abc][abc][abc]:v2[a-bcd+][ab-cd+][abc-d+][abc]:v2[a-bcd+][ab-cd+][abc-d+][abc]:
+i1 nm t100 %ad1 -b /d /a wmuM100=5 wmuA101=6 ~d rmuA /d /d +d1 -a|v1[abc]:ok:ok:v2[a-bcd+]:!d0:!d0:!a0:bc:2/3:v3[abc]:u100=5,101=6,.:v4[abc]:?d:v5[abc]:v6[a-bcd+]:
+i1 -a +d2 -a +e4 -a|v1[abc]:group0:v2[abc]:group0:v3[abc]:v4[a-bce+]:
+i1 %ad2 %ad4 ~d|v1[abc]:group0:v2[a-bcd+]:v3[abc]:
+i1 %ad1 sd ~d /d +d1 sd bd bd|v1[abc]:v2[a-bcd+]:ok:v3[abc]:v4[abc]:v5[abc]:=d:ok:=d:
+i1 %ad1 u k|v1[abc]:v2[a-bcd+]:a0.1.0b0.1.0c0.1.0d^:a0b0c0/d^:";
+
+#[test]
+fn placements_are_told(rt: HostRuntime) -> Result<(), Fail> {
+    let mut out = String::new(rt.alloc());
+    tell_rows(rt.alloc(), PLACEMENTS, &mut out)?;
+    assert_eq!(rt; out.as_str().trim_end(), PLACEMENTS);
+    Ok(())
+}
+
 #[test]
 fn upkeep_is_told(rt: HostRuntime) -> Result<(), Fail> {
     let mut out = String::new(rt.alloc());

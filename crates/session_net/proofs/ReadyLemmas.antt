@@ -19,7 +19,7 @@ use Rattle.cluster_core.specs.declared.event.Event.TheVariants as event
 use Rattle.cluster_core.specs.declared.event.StepCall.{StepCall}
 use Rattle.cluster_core.specs.declared.event.StepReply.{StepReply}
 use Rattle.cluster_core.proofs.ExtendLemmas.{any_more}
-use Rattle.cluster_core.proofs.ListLemmas.{some_same, in_at, at_any}
+use Rattle.cluster_core.proofs.ListLemmas.{some_same, in_at, at_any, any_at}
 use Rattle.net_plan.specs.Fates.{FateMap}
 use Rattle.net_plan.specs.declared.late_write.LateWrite.{LateWrite}
 use Rattle.replica_calls.specs.MachineCalls.{HasRoom}
@@ -28,7 +28,7 @@ use Rattle.replica_calls.specs.Member.{Member}
 use Rattle.replica_calls.specs.Slot.{Slot}
 use Rattle.replica_calls.specs.Calls.{Tracked}
 use Rattle.session_net.specs.Messages.{exchange, IsDelivery, IsHeard, Heard, AreHeard}
-use Rattle.session_net.specs.Ready.{IsReady, IsLateSend}
+use Rattle.session_net.specs.Ready.{IsReady, IsCallable, Places, IsLateSend}
 use Rattle.session_net.specs.Runs.{steps_of, IsStepped, Ran, slot_at}
 
 -- ---- what was there
@@ -80,6 +80,20 @@ pub ready_after : {D : Type 0} (disk : D → DiskState) (state : MetaState) (old
 ready_after disk state old new bag later more was ran quiet kept = record {
   clock = ap last_clock ran.grew ∙ fold-append clock_after None old.events more ∙ clocks_kept (last_clock old.events) more quiet ∙ was.clock;
   place = ap last_place ran.grew ∙ fold-append place_after None old.events more ∙ places_kept (last_place old.events) more quiet ∙ was.place;
+  lawful = was.lawful;
+  there = λ n s m. there_after disk old new more (slot_at n s) ran (was.there n s m);
+  late = λ one m. elim (kept one m) as (λ _. IsLateSend new one) [
+    | inl before ↦ let sent = was.late one before in record { sent = any_after disk _ old new more ran sent.sent; there = there_after disk old new more (slot_at one.node one.shard) ran sent.there }
+    | inr sent ↦ sent
+  ];
+}
+
+-- so they may by any placement of the list
+pub calls_after : {D : Type 0} (disk : D → DiskState) (state : MetaState) (old new : Tracked D) (bag later : List LateWrite) (more : List Event) → IsCallable state old bag → Ran disk old more new → AreQuiet more
+    → ((one : LateWrite) → IsIn later one → IsIn bag one ⊎ IsLateSend new one) → IsCallable state new later
+calls_after disk state old new bag later more was ran quiet kept = record {
+  clock = ap last_clock ran.grew ∙ fold-append clock_after None old.events more ∙ clocks_kept (last_clock old.events) more quiet ∙ was.clock;
+  place = any_after disk (Places state.place) old new more ran was.place;
   lawful = was.lawful;
   there = λ n s m. there_after disk old new more (slot_at n s) ran (was.there n s m);
   late = λ one m. elim (kept one m) as (λ _. IsLateSend new one) [
@@ -155,3 +169,21 @@ place_in was (e ∷ events) place set = elim (place_in (place_after was e) event
 -- the last placement is one of the list
 pub place_there : (P : Event → Type 0) (events : List Event) (place : Placement) → last_place events ≡ Some place → ((done : List (ℕ × ℕ)) → P (event.Place place done)) → Any P events
 place_there P events place is holds = elim (place_in None events place is) as (λ _. Any P events) [ inl none ↦ cc | inr m ↦ any_in P events (event.Place place m.0) m.1 (holds m.0) ]
+
+-- what holds of each Place of a placement of the list holds of one in it
+pub placed_there : (P : Event → Type 0) (events : List Event) (place : Placement) → Any (Places place) events → ((done : List (ℕ × ℕ)) → P (event.Place place done)) → Any P events
+placed_there P events place is holds = let a = any_at (Places place) events is in at_any P events a.0 a.1 a.2 (by a.1 a.3)
+  where
+    by : (e : Event) → Places place e → P e
+    by (event.Place placed done) same = subst (λ p. P (event.Place p done)) (sym same) (holds done)
+    by _ none = absurd none
+
+-- where calls may be made, they may by the placement that stands
+pub may_call : {D : Type 0} (state : MetaState) (replicas : Tracked D) (bag : List LateWrite) → IsReady state replicas bag → IsCallable state replicas bag
+may_call state replicas bag ready = record {
+  clock = ready.clock;
+  place = place_there (Places state.place) replicas.events state.place ready.place (λ done. refl);
+  lawful = ready.lawful;
+  there = ready.there;
+  late = ready.late;
+}

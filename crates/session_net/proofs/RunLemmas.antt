@@ -36,7 +36,7 @@ module _ {D : Type 0} (state : D → DiskState) where
   takes_then [] next a b c same h = subst (λ m. TakesSteps state next m c) same h
   takes_then (step ∷ first) next a b c g h = (g.0, g.1, takes_then first next g.0 b c g.2 h)
 
-  stepped_then : (first next : List Step) (a b c : Option (Member D)) → IsStepped state first a b → IsStepped state next b c → IsStepped state (first ++ next) a c
+  pub stepped_then : (first next : List Step) (a b c : Option (Member D)) → IsStepped state first a b → IsStepped state next b c → IsStepped state (first ++ next) a c
   stepped_then first next None b c gone h = subst (λ o. IsStepped state next o c) gone h
   stepped_then first next (Some m) b c g h =
       let k = subst (λ o. IsStepped state next o c) g.1 h in

@@ -10,11 +10,11 @@ use Rattle.net_plan.specs.declared.late_write.LateWrite.{LateWrite}
 use Rattle.replica_exchange.specs.declared.call_id.CallId.{CallId}
 use Rattle.session_net.specs.Calls.{Tracked}
 use Rattle.session_net.specs.Reads.{Wish, ShardRead, read_of, start_of, done_of, ended_of, AreRead, IsUnfound}
-use Rattle.session_net.specs.Ready.{IsReady}
+use Rattle.session_net.specs.Ready.{IsReady, IsCallable}
 use Rattle.session_net.specs.Runs.{Ran}
 use Rattle.session_net.specs.declared.session_err.SessionErr.{SessionErr}
 use Rattle.session_net.specs.declared.session_err.SessionErr.TheVariants as err
-use Rattle.session_net.proofs.ReadyLemmas.{IsQuiet, AreQuiet, quiet_between, quiet_messages, ready_after}
+use Rattle.session_net.proofs.ReadyLemmas.{IsQuiet, AreQuiet, quiet_between, quiet_messages, ready_after, calls_after}
 
 -- ---- calls may still be made
 
@@ -61,3 +61,6 @@ module _ (state : MetaState) (fates : FateMap) (id : CallId) (w : Wish) (needed 
 
 pub ready_left : {D : Type 0} (disk : D → DiskState) (state : MetaState) (old new : Tracked D) (bag : List LateWrite) → IsReady state old bag → Left disk old new → IsReady state new bag
 ready_left disk state old new bag was h = ready_after disk state old new bag bag h.events was h.ran h.quiet (λ one m. inl m)
+
+pub callable_left : {D : Type 0} (disk : D → DiskState) (state : MetaState) (old new : Tracked D) (bag : List LateWrite) → IsCallable state old bag → Left disk old new → IsCallable state new bag
+callable_left disk state old new bag was h = calls_after disk state old new bag bag h.events was h.ran h.quiet (λ one m. inl m)

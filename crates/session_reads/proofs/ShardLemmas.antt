@@ -47,11 +47,11 @@ use Rattle.session_net.specs.Calls.{Tracked}
 use Rattle.session_net.specs.Messages.{IsDelivery, IsHeard, Heard, AreHeard, fate_to}
 use Rattle.session_net.specs.Outcomes.{AreCountedOnce, told_of, answering, refusing, IsShortOf}
 use Rattle.session_net.specs.Reads.{Wish, AreForms, read_of, start_of}
-use Rattle.session_net.specs.Ready.{IsReady}
+use Rattle.session_net.specs.Ready.{IsCallable}
 use Rattle.session_net.specs.Runs.{Ran}
 use Rattle.session_net.specs.declared.session_err.SessionErr.{SessionErr}
 use Rattle.session_net.specs.declared.session_err.SessionErr.TheVariants as err
-use Rattle.session_net.proofs.ReadyLemmas.{any_after, place_there}
+use Rattle.session_net.proofs.ReadyLemmas.{any_after, placed_there}
 use Rattle.session_net.proofs.RunLemmas.{ran_then}
 use Rattle.series_merge.proofs.OrderLemmas.{content_in, ordered_has}
 use Rattle.session_reads.specs.Gathering.{IsContentOf, WereAsked, IsShardRead, IsHalfRead, IsUnread}
@@ -162,15 +162,15 @@ drop_past [] x ys = refl
 drop_past (z ∷ xs) x ys = drop_past xs x ys
 
 -- the shard has a Place
-pub has_shard : {D : Type 0} (state : MetaState) (old : Tracked D) (s : ℕ) → IsReady state old [] → s < length state.place.shards → HasShard old.events state.place.version s
-has_shard state old s ready below = let there = at_some state.place.shards s below in place_there (PlacesShard state.place.version s) old.events state.place ready.place (λ done. (refl, there.0, there.1))
+pub has_shard : {D : Type 0} (state : MetaState) (old : Tracked D) (s : ℕ) → IsCallable state old [] → s < length state.place.shards → HasShard old.events state.place.version s
+has_shard state old s ready below = let there = at_some state.place.shards s below in placed_there (PlacesShard state.place.version s) old.events state.place ready.place (λ done. (refl, there.0, there.1))
 
 shard_same : {X : Type 0} (xs : List X) (s : ℕ) (x d : X) → slice_get xs s ≡ Some x → slice_index_or xs s d ≡ x
 shard_same [] s x d e = cc
 shard_same (y ∷ ys) zero x d e = some_same y x e
 shard_same (y ∷ ys) (suc s) x d e = shard_same ys s x d e
 
-module _ {D : Type 0} (disk : D → DiskState) (state : MetaState) (fates : FateMap) (id : CallId) (w : Wish) (s : ℕ) (nodes : List ℕ) (old mid after : Tracked D) (heard : List (Heard (List Series))) (ready : IsReady state old []) (within : s < length state.place.shards)
+module _ {D : Type 0} (disk : D → DiskState) (state : MetaState) (fates : FateMap) (id : CallId) (w : Wish) (s : ℕ) (nodes : List ℕ) (old mid after : Tracked D) (heard : List (Heard (List Series))) (ready : IsCallable state old []) (within : s < length state.place.shards)
     (counts : AreCountedOnce state.place s nodes) (began : Ran disk old (start_of state w s ∷ []) mid) (told : WereAsked disk fates id s (read_of id state.rules state.place.version w) nodes heard mid after) where
   -- its start and what came of it
   ran_start : Ran disk old (start_of state w s ∷ told.reads) after
@@ -188,7 +188,7 @@ module _ {D : Type 0} (disk : D → DiskState) (state : MetaState) (fates : Fate
   counted_then some sub =
       let there = at_some state.place.shards s within in
       any_after disk (CountsNodes state.place.version s some) old after (start_of state w s ∷ told.reads) ran_start
-      (place_there (CountsNodes state.place.version s some) old.events state.place ready.place
+      (placed_there (CountsNodes state.place.version s some) old.events state.place ready.place
       (λ done. (refl, there.0, there.1, All-from_each (λ n. IsIn (counted there.0) n) some (λ n m. subst (λ (shard : Shard). IsIn (counted shard) n) (shard_same state.place.shards s there.0 [] there.1) (counted_in state.place s nodes counts n (sub n m))))))
 
   -- those that answered may be named by its end

@@ -3,7 +3,7 @@ ghost use Rattle.std.specs.Prelude.{◌≡◌, ◌<◌, ◌^◌, List, [], lengt
 ghost use Rattle.m3_model.specs.Reads.{space_picked};
 ghost use Rattle.m3_model.specs.declared.point.Matcher.{Matcher};
 ghost use Rattle.m3_model.specs.declared.point.Pick.TheVariants as picked;
-ghost use Rattle.session_net.specs.Ready.{IsReady};
+ghost use Rattle.session_net.specs.Ready.{IsCallable};
 ghost use Rattle.session_net.specs.Reads.{asked_shards, IsUnfound};
 ghost use Rattle.session_reads.specs.Gathering.{wish_of, IsGathered};
 
@@ -25,7 +25,7 @@ fn gather_all<D: Disk>(
     asking: &Asking,
     pick: &Pick,
 ) -> Result<Gave, SessionErr>
-    requires ready { IsReady state.now replicas.old [] }
+    requires ready { IsCallable state.now replicas.old [] }
     requires known { space_picked pick.now < length state.now.rules.spaces }
     requires few_shards { length state.now.place.shards < 2 ^ 32 }
     requires all { (wanted : List Matcher) × (pick.now ≡ picked.Match (space_picked pick.now) wanted) }
@@ -59,7 +59,7 @@ pub(crate) fn gather<D: Disk>(
     asking: &Asking,
     pick: &Pick,
 ) -> Result<Gave, SessionErr>
-    requires ready { IsReady state.now replicas.old [] }
+    requires ready { IsCallable state.now replicas.old [] }
     requires known { space_picked pick.now < length state.now.rules.spaces }
     requires some_shards { 0 < length state.now.place.shards }
     requires few_shards { length state.now.place.shards < 2 ^ 32 }

@@ -1,7 +1,8 @@
 ghost use Rattle.std.specs.Prelude.{◌≡◌, ◌<◌, length, true, false, IfOk, IfErr};
 ghost use Rattle.m3_model.specs.Reads.{space_picked};
 ghost use Rattle.m3_model.specs.declared.act.ReadLevel.TheVariants as read;
-ghost use Rattle.session_net.specs.Ready.{IsReady};
+ghost use Rattle.m3_model.specs.declared.rules.MetaState.{MetaState as State};
+ghost use Rattle.session_net.specs.Ready.{IsReady, IsCallable};
 ghost use Rattle.session_net.specs.Reads.{IsReadFound, IsRefusedRead};
 
 use crate::ask::{Asking, Quorum};
@@ -56,9 +57,10 @@ pub fn fetch<D: Disk>(
     to: u64,
     level: ReadLevel,
 ) -> Result<Found, SessionErr>
-    requires ready { IsReady net.old.state net.old.replicas net.old.bag }
+    requires ready { IsCallable net.old.state net.old.replicas net.old.bag }
     requires known { space_picked pick.now < length net.old.state.rules.spaces }
-    ensures ready { IsReady net.new.state net.new.replicas net.new.bag }
+    ensures callable { (s : State) → IsCallable s net.old.replicas net.old.bag → IsCallable s net.new.replicas net.new.bag }
+    ensures ready { (s : State) → IsReady s net.old.replicas net.old.bag → IsReady s net.new.replicas net.new.bag }
     ensures ok { IfOk result (λ found. IsReadFound D.state net.old id (record { pick = pick.now; from = from; to = to }) level found.series found.short net.new) }
     ensures err { IfErr result (IsRefusedRead D.state net.old id (record { pick = pick.now; from = from; to = to }) level net.new) }
     ensures state { net.new.state ≡ net.old.state }

@@ -9,7 +9,7 @@ ghost use Rattle.replica_exchange.specs.MachineCalls.{HasRoom};
 ghost use Rattle.session_net.specs.Outcomes.{AreCountedOnce, IsShortOf};
 ghost use Rattle.session_net.specs.Reads.{most_added};
 ghost use Rattle.session_net.specs.Tallies.{HasRoom as Counts};
-ghost use Rattle.session_net.specs.Ready.{IsReady};
+ghost use Rattle.session_net.specs.Ready.{IsCallable};
 ghost use Rattle.session_net.specs.Runs.{Ran};
 ghost use Rattle.session_reads.specs.Gathering.{wish_of, IsShardRead, IsUnread};
 
@@ -105,7 +105,7 @@ fn read_nodes<D: Disk>(
     nodes: &[u8],
     mut tally: Tally,
 ) -> Result<Gave, SessionErr>
-    requires ready { IsReady state.now replicas.old [] }
+    requires ready { IsCallable state.now replicas.old [] }
     requires known { space_picked pick.now < length state.now.rules.spaces }
     requires shard { shard < length state.now.place.shards }
     requires counted { AreCountedOnce state.now.place shard nodes.now }
@@ -144,7 +144,7 @@ pub(crate) fn ask_shard<D: Disk>(
     pick: &Pick,
     shard: u32,
 ) -> Result<Gave, SessionErr>
-    requires ready { IsReady state.now replicas.old [] }
+    requires ready { IsCallable state.now replicas.old [] }
     requires known { space_picked pick.now < length state.now.rules.spaces }
     requires shard { shard < length state.now.place.shards }
     ensures ok { IfOk result (λ gave. IsShardRead D.state state.entry.now fates.now asking.now.id (wish_of pick.now asking.now) shard asking.now.quorum.needed asking.now.quorum.majority gave.series gave.whole replicas.old replicas.new) }

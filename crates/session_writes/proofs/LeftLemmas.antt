@@ -22,12 +22,12 @@ use Rattle.placement_core.proofs.ListLemmas.{IsIn-filter, All-from_each, each-fr
 use Rattle.replica_exchange.specs.declared.call_id.CallId.{CallId}
 use Rattle.session_net.specs.Calls.{Tracked}
 use Rattle.session_net.specs.Messages.{fate_to}
-use Rattle.session_net.specs.Ready.{IsReady, IsLateSend}
+use Rattle.session_net.specs.Ready.{IsReady, IsLateSend, IsCallable}
 use Rattle.session_net.specs.Runs.{Ran, slot_at}
 use Rattle.session_net.specs.Writes.{Putting, Sent, HasSent, put_of, is_late, late_to, late_among, kept_in, filled, IsSettled, IsUnsettled}
 use Rattle.session_net.specs.declared.session_err.SessionErr.{SessionErr}
 use Rattle.session_net.specs.declared.session_err.SessionErr.TheVariants as err
-use Rattle.session_net.proofs.ReadyLemmas.{IsQuiet, AreQuiet, any_in, there_after, ready_after, quiet_none, quiet_between, quiet_messages}
+use Rattle.session_net.proofs.ReadyLemmas.{IsQuiet, AreQuiet, any_in, there_after, ready_after, calls_after, quiet_none, quiet_between, quiet_messages}
 use Rattle.session_net.proofs.RunLemmas.{ran_nothing}
 
 -- ---- a bag after late messages
@@ -119,21 +119,28 @@ module _ {D : Type 0} (disk : D → DiskState) (fates : FateMap) (w : Putting) (
   left needed (Err err.Full) h e = absurd e
 
   -- then calls may go on
-  pub left_ready : (state : MetaState) → IsReady state old bag → ((a : Assignment) → IsIn members a → finite.get old.members (slot_at a.node w.shard) ≢ None) → IsLeft → IsReady state new later
-  left_ready state was there h = ready_after disk state old new bag later h.more was h.ran h.quiet (λ one m. by_case one (filled_cases bag sent_late one (subst (λ b. IsIn b one) h.held_back m)))
-    where
-      sent_late : List LateWrite
-      sent_late = late_among fates w.id w.shard w.version w.point h.nodes
+  module _ (there : (a : Assignment) → IsIn members a → finite.get old.members (slot_at a.node w.shard) ≢ None) (h : IsLeft) where
+    abbrev sent_late : List LateWrite
+    sent_late = late_among fates w.id w.shard w.version w.point h.nodes
 
-      by_case : (one : LateWrite) → IsIn bag one ⊎ IsIn sent_late one → IsIn bag one ⊎ IsLateSend new one
-      by_case one (inl before) = inl before
-      by_case one (inr late) =
-          let from = late_from fates w.id w.shard w.version w.point h.nodes one late in
-          let member = IsIn-map (λ (a : Assignment). a.node) members from.0 (h.within from.0 from.1) in
-          inr (subst (IsLateSend new) from.2 (record {
-            sent = h.sent from.0 from.1;
-            there = there_after disk old new h.more (slot_at from.0 w.shard) h.ran (subst (λ n. finite.get old.members (slot_at n w.shard) ≢ None) member.2 (there member.0 member.1));
-          }))
+    late_sent : (one : LateWrite) → IsIn later one → IsIn bag one ⊎ IsLateSend new one
+    late_sent one m = by_case (filled_cases bag sent_late one (subst (λ b. IsIn b one) h.held_back m))
+      where
+        by_case : IsIn bag one ⊎ IsIn sent_late one → IsIn bag one ⊎ IsLateSend new one
+        by_case (inl before) = inl before
+        by_case (inr late) =
+            let from = late_from fates w.id w.shard w.version w.point h.nodes one late in
+            let member = IsIn-map (λ (a : Assignment). a.node) members from.0 (h.within from.0 from.1) in
+            inr (subst (IsLateSend new) from.2 (record {
+              sent = h.sent from.0 from.1;
+              there = there_after disk old new h.more (slot_at from.0 w.shard) h.ran (subst (λ n. finite.get old.members (slot_at n w.shard) ≢ None) member.2 (there member.0 member.1));
+            }))
+
+    pub left_ready : (state : MetaState) → IsReady state old bag → IsReady state new later
+    left_ready state was = ready_after disk state old new bag later h.more was h.ran h.quiet late_sent
+
+    pub left_callable : (state : MetaState) → IsCallable state old bag → IsCallable state new later
+    left_callable state was = calls_after disk state old new bag later h.more was h.ran h.quiet late_sent
 
   -- and late writes are within their bounds
   pub left_bounded : IsBounded w.point → All IsBoundedLate bag → IsLeft → All IsBoundedLate later

@@ -18,11 +18,11 @@ use Rattle.cluster_core.specs.Lists.{At}
 use Rattle.placement_core.specs.Shards.{Shard, shard_at, is_available, counts, counted}
 use Rattle.placement_core.proofs.ListLemmas.{IsIn-from_index, index-from_IsIn, filter-IsIn, at_index, All-from_each}
 use Rattle.placement_core.proofs.OrderLemmas.{came, apart_of, apart_permutation, ascends-from_at}
-use Rattle.session_net.specs.Ready.{IsReady}
+use Rattle.session_net.specs.Ready.{IsCallable}
 use Rattle.session_net.specs.Runs.{slot_at}
 use Rattle.session_net.specs.Writes.{shard_of_point, AreMembers}
 use Rattle.session_net.specs.declared.net.Net.{Net}
-use Rattle.session_net.proofs.ReadyLemmas.{place_there}
+use Rattle.session_net.proofs.ReadyLemmas.{placed_there}
 
 -- the shard of an identifier is one of them
 shard_low : (id : List ℕ) (seed shards : ℕ) → 0 < shards → shard_of id seed shards < shards
@@ -61,7 +61,7 @@ goes_to state p s made members is are same =
     let given : AreMembers state.place s members = subst (AreMembers state.place s) (sym same) are in
     record { shard = is; are = given; here = subst (λ k. AreMembers state.place k members) is given }
 
-module _ {D : Type 0} {G : Ghosts D} (net : Net D G) (ready : IsReady net.state net.replicas net.bag) (p : Point) (s : ℕ) (members : Shard) (to : GoesTo net.state p s members) where
+module _ {D : Type 0} {G : Ghosts D} (net : Net D G) (ready : IsCallable net.state net.replicas net.bag) (p : Point) (s : ℕ) (members : Shard) (to : GoesTo net.state p s members) where
   low : s < length net.state.place.shards
   low = subst (λ k. k < length net.state.place.shards) (sym to.shard) (shard_low p.id net.state.seed (length net.state.place.shards) net.some_shards)
 
@@ -73,11 +73,11 @@ module _ {D : Type 0} {G : Ghosts D} (net : Net D G) (ready : IsReady net.state 
 
   -- its placement stands
   pub has_shard : HasShard net.replicas.events net.state.place.version s
-  has_shard = place_there (PlacesShard net.state.place.version s) net.replicas.events net.state.place ready.place (λ done. (refl, shard_at net.state.place s, shard_is))
+  has_shard = placed_there (PlacesShard net.state.place.version s) net.replicas.events net.state.place ready.place (λ done. (refl, shard_at net.state.place s, shard_is))
 
   -- and in it count the members that do
   pub are_counted : (nodes : List ℕ) → ((n : ℕ) → IsIn nodes n → (a : Assignment) × IsIn members a × (counts a.state ≡ true) × (a.node ≡ n)) → AreCounted net.replicas.events net.state.place.version s nodes
-  are_counted nodes each = place_there (CountsNodes net.state.place.version s nodes) net.replicas.events net.state.place ready.place (λ done. (
+  are_counted nodes each = placed_there (CountsNodes net.state.place.version s nodes) net.replicas.events net.state.place ready.place (λ done. (
     refl,
     shard_at net.state.place s,
     shard_is,

@@ -9,7 +9,8 @@ ghost use Rattle.cluster_core.specs.Earlier.{HasClock, HasSend};
 ghost use Rattle.cluster_core.specs.declared.event.Event.{Event as Entry};
 ghost use Rattle.net_plan.specs.declared.late_write.LateWrite.{LateWrite as Late};
 ghost use Rattle.replica_exchange.specs.MachineCalls.{HasRoom};
-ghost use Rattle.session_net.specs.Ready.{IsReady};
+ghost use Rattle.session_net.specs.Ready.{IsReady, IsCallable};
+ghost use Rattle.m3_model.specs.declared.rules.MetaState.{MetaState as State};
 ghost use Rattle.session_net.specs.Runs.{Ran, slot_at};
 ghost use Rattle.session_net.specs.Deliveries.{known, outcome_of, AreDelivered, HasDelivered, IsUndelivered};
 
@@ -77,6 +78,7 @@ pub fn deliver<D: Disk>(
     alloc: Global,
 ) -> Result<Seq<(u8, u32, Option<Reason>)>, SessionErr>
     requires ready { IsReady net.old.state net.old.replicas net.old.bag }
+    ensures callable { (s : State) → IsCallable s net.old.replicas net.old.bag → IsCallable s net.new.replicas net.new.bag }
     ensures ready { IsReady net.new.state net.new.replicas net.new.bag }
     ensures ok { IfOk result (λ outcomes. HasDelivered D.state net.old outcomes net.new) }
     ensures err { IfErr result (IsUndelivered net.old net.new) }

@@ -13,7 +13,8 @@ ghost use Rattle.placement_core.specs.Shards.{counts, nodes_of};
 ghost use Rattle.replica_exchange.specs.MachineCalls.{HasRoom};
 ghost use Rattle.session_net.specs.Messages.{Heard, AreHeard};
 ghost use Rattle.session_net.specs.Outcomes.{NodeOutcome, told_of, answering, refusing, IsShortOf};
-ghost use Rattle.session_net.specs.Ready.{IsReady};
+ghost use Rattle.session_net.specs.Ready.{IsReady, IsCallable};
+ghost use Rattle.m3_model.specs.declared.rules.MetaState.{MetaState as State};
 ghost use Rattle.session_net.specs.Runs.{Ran, slot_at};
 ghost use Rattle.session_net.specs.Tallies.{HasRoom as Counts};
 ghost use Rattle.session_net.specs.Writes.{shard_of_point, AreMembers, put_of, late_to, late_among, filled, told_if_counted, counted_among, most_added, IsSettled, IsUnsettled, IsAcknowledged, IsRefused};
@@ -256,10 +257,11 @@ pub fn write<D: Disk>(
     point: &Point,
     level: WriteLevel,
 ) -> Result<Seq<u8>, SessionErr>
-    requires ready { IsReady net.old.state net.old.replicas net.old.bag }
+    requires ready { IsCallable net.old.state net.old.replicas net.old.bag }
     requires known { point.now.ns < length net.old.state.rules.spaces }
     requires bounded { IsBounded point.now }
-    ensures ready { IsReady net.new.state net.new.replicas net.new.bag }
+    ensures callable { (s : State) → IsCallable s net.old.replicas net.old.bag → IsCallable s net.new.replicas net.new.bag }
+    ensures ready { (s : State) → IsReady s net.old.replicas net.old.bag → IsReady s net.new.replicas net.new.bag }
     ensures ok { IfOk result (λ acks. IsAcknowledged D.state net.old id point.now level acks net.new) }
     ensures err { IfErr result (IsRefused D.state net.old id point.now level net.new) }
     ensures state { net.new.state ≡ net.old.state }

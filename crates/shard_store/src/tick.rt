@@ -152,8 +152,8 @@ impl Opened {
         ensures sound { (D.state disk.old).tells ≡ true → IfErr result IsUndamaged }
     {
         let mut lost: u64 = 0;
-        for (place, space) in rules.spaces.as_slice().iter().enumerate() {
-            let Ok(ns) = u8::try_from(place) else {
+        for (position, space) in rules.spaces.as_slice().iter().enumerate() {
+            let Ok(ns) = u8::try_from(position) else {
                 return Err(FileErr::Memory);
             };
             let Some(end) = first_live(space.retention, rules.now) else {

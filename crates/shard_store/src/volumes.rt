@@ -49,13 +49,13 @@ fn is_before(one: &Head, other: &Head) -> bool
 }
 
 // How many volumes stand before the one of this head.
-fn place_of(listed: &[ListedVolume], head: &Head) -> usize
+fn position_of(listed: &[ListedVolume], head: &Head) -> usize
     ensures inside { result ≤ length listed.now }
     ensures before { (rows : List Series) → known_in (take result listed.now) ++ (record { head = head_of head.now; rows = rows } ∷ known_in (drop result listed.now)) ≡ with_volume (record { head = head_of head.now; rows = rows }) (known_in listed.now) }
 {
-    for (place, volume) in listed.iter().enumerate() {
+    for (position, volume) in listed.iter().enumerate() {
         if !is_before(&volume.head, head) {
-            return place;
+            return position;
         }
     }
     listed.len()
@@ -66,8 +66,8 @@ pub(crate) fn add(listed: &mut Vec<ListedVolume>, volume: ListedVolume)
     requires { vec_len listed.old < vec_capacity listed.old }
     ensures { known_in listed.new.items ≡ with_volume (known_as volume) (known_in listed.old.items) }
 {
-    let place = place_of(listed, &volume.head);
-    listed.insert(place, volume).unwrap();
+    let position = position_of(listed, &volume.head);
+    listed.insert(position, volume).unwrap();
 }
 
 // Whether it is one of these volumes.

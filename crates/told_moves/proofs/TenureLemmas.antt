@@ -65,9 +65,9 @@ pub settled_had : (gone stays : ℕ) (old next : Shard) (x : Assignment) → nex
 settled_had gone stays old next x is m = let w = settled_was gone stays old x (subst (λ z. IsIn z x) is m) in turned_was stays Available old x w.0 w.1 w.3
 
 -- the node comes with this version
-record IsNewIn (old : Shard) (version : ℕ) (x : Assignment) : Type 0 where
-  tenure_is : x.tenure ≡ version
-  free : ¬ IsIn (nodes_of old) x.node
+pub record IsNewIn (old : Shard) (version : ℕ) (x : Assignment) : Type 0 where
+  pub tenure_is : x.tenure ≡ version
+  pub free : ¬ IsIn (nodes_of old) x.node
 
 begun_had : (version : ℕ) (old next : Shard) (x : Assignment) → Begins version old next → IsIn next x → HasTenure old x.node x.tenure ⊎ IsNewIn old version x
 begun_had version old next x b m =
@@ -77,7 +77,7 @@ begun_had version old next x b m =
     ]
 
 -- a step keeps the tenures of the nodes that stay, and a node that comes has the new version
-step_had : (version : ℕ) (old next : Shard) (done : Option ℕ) (x : Assignment) → IsShardStep version old next done → IsIn next x → HasTenure old x.node x.tenure ⊎ IsNewIn old version x
+pub step_had : (version : ℕ) (old next : Shard) (done : Option ℕ) (x : Assignment) → IsShardStep version old next done → IsIn next x → HasTenure old x.node x.tenure ⊎ IsNewIn old version x
 step_had version old next None x s m =
     elim s as (λ _. HasTenure old x.node x.tenure ⊎ IsNewIn old version x) [
       | inl e ↦ inl (record { assigned = x; among = subst (λ z. IsIn z x) e m; of_node = refl; tenure_is = refl })

@@ -49,6 +49,7 @@ use Rattle.act_lines.specs.Stands.{ClusterStands}
 use Rattle.act_lines.specs.Stays.{HaveNoPlace}
 use Rattle.act_lines.proofs.DueLemmas.{refused_by}
 use Rattle.act_lines.proofs.HaltLemmas.{IsHaltOf, halt_no_place, halt_step}
+use Rattle.act_lines.proofs.KnownLemmas.{known_kept}
 use Rattle.act_lines.proofs.QuietLemmas.{delivers_nothing_so, keeps_stops_so, sets_nothing_so}
 use Rattle.act_lines.proofs.StandLemmas.{flags_stay, stands_on}
 use Rattle.upkeep_lines.specs.Upkeep.{IsUpkeepAct, UpkeepIsDue}
@@ -167,9 +168,10 @@ module _ {D : Type 0} {G : Ghosts D} (state : D → DiskState) (start : Option M
   stands_so : AreQuiet more → ClusterStands start (turns ++ line_of a b ∷ []) new
   stands_so quiet =
       let place = ap (λ (s : MetaState). s.place) keeps.keeps.state in
-      stands_on state start turns old stands a b new place more ran no_place (λ n s c r m. halt_step Kind old.slots.items n s c r (each (event.Step n s c r) m)) keeps.keeps.slots
+      stands_on state start turns old stands a b new place more ran no_place (λ n s c r m. halt_step Kind old.slots.items n s c r (each (event.Step n s c r) m)) keeps.keeps.slots keeps.keeps.past (λ p is. let clash : None ≡ Some p = sym (sets_nothing_so a b sets).place ∙ is in cc)
       (left_as_before old.net start turns new.net a b stands.left (record { state = keeps.keeps.state; fates = keeps.keeps.fates }) (sets_nothing_so a b sets) (delivers_nothing_so a b delivers) keeps.keeps.bag) (ready_so quiet)
       (flags_stay turns a b old new (keeps_stops_so a b sets) place keeps.stopped stands.stopped)
+      (known_kept turns a b old.net.state.place new.net.state.place old.net.fates new.net.fates place keeps.keeps.fates (sets_nothing_so a b sets).fates (keeps_stops_so a b sets) stands.known)
 
   pub leaves_standing : HearsBy start events (InStretch whole (length events) (length whole)) p a b → length more ≤ MOST_REQUEST_EVENTS → HearsOf start (InStretch whole (length events) (length whole)) p [] b → IsOfKind [] start p a b → AreQuiet more
       → LeavesStanding start turns old a b new

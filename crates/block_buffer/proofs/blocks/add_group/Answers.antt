@@ -2,7 +2,7 @@ use Rattle.std.proofs.Common.{◌≡◌, sym, subst, inl, inr, true, arith}
 use Rattle.std.specs.Prelude.{◌⊎◌}
 use Rattle.std.specs.BTreeSet.{contains}
 use Rattle.block_buffer.specs.Blocks.{block_cmp, HasStartsAt, IsStartOf}
-use Rattle.block_buffer.proofs.PlaceLemmas.{eq_or_not}
+use Rattle.block_buffer.proofs.PositionLemmas.{eq_or_not}
 use Rattle.block_buffer.proofs.EntryLemmas.{entry_at}
 use Rattle.block_buffer.proofs.GroupLemmas.{end_within}
 use Rattle.block_buffer.proofs.BlockLemmas.{still_starts, group_starts}

@@ -6,7 +6,7 @@ use Rattle.series_slots.specs.Points.{slot_at}
 use Rattle.series_slots.specs.SeriesEntries.{slots_of}
 use Rattle.block_buffer.specs.Blocks.{block_cmp, HasStartsAt, IsStartOf}
 use Rattle.block_buffer.specs.Spots.{group_of}
-use Rattle.block_buffer.proofs.PlaceLemmas.{eq_or_not}
+use Rattle.block_buffer.proofs.PositionLemmas.{eq_or_not}
 use Rattle.block_buffer.proofs.ContentLemmas.{value_some}
 use Rattle.block_buffer.proofs.BlockLemmas.{still_starts, late_starts, all_starts}
 use Rattle.block_buffer.proofs.blocks.add_starts.Goals as goal

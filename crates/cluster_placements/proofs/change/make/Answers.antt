@@ -1,4 +1,4 @@
-use Rattle.std.proofs.Common.{ap, refl, subst, ◌∙◌}
+use Rattle.std.proofs.Common.{[], ◌∷◌, ◌++◌, ap, refl, subst, ◌∙◌}
 use Rattle.std.specs.List.{flat_map}
 use Rattle.m3_model.specs.declared.placement.Placement.{Placement}
 use Rattle.m3_model.specs.declared.rules.MetaState.{MetaState}
@@ -7,7 +7,7 @@ use Rattle.session_net.proofs.ReadyLemmas.{there_after}
 use Rattle.session_net.proofs.RunLemmas.{ran_then}
 use Rattle.cluster_placements.specs.Steps.{end_at, place_events, step_events}
 use Rattle.cluster_placements.proofs.ChangeLemmas.{left_there, room_first}
-use Rattle.cluster_placements.proofs.PlacedLemmas.{next_place, ready_placed}
+use Rattle.cluster_placements.proofs.PlacedLemmas.{next_place, ready_placed, serves_placed}
 use Rattle.cluster_placements.proofs.change.make.Goals as goal
 
 pub place-requires-clause-next : goal.place-requires-clause-next
@@ -25,16 +25,20 @@ pub returns : goal.returns
 returns g c =
     let net = (c.args.members.now).net in
     let was : MetaState = net.state in
-    let later : MetaState = record was { place = c.replace.new.dest } in
-    let is = ap (λ (p : Placement). record was { place = p }) c.replace.ensures.after in
+    let later : MetaState = record was { place = c.replace-stood.new.dest } in
+    let is = ap (λ (p : Placement). record was { place = p }) c.replace-stood.ensures.after in
+    let past = c.push_reserved.ensures.items ∙ ap (λ (p : Placement). (c.args.members.now).past.items ++ p ∷ []) c.replace-stood.ensures.value in
+    let ready = ready_placed g.D.Disk.state was later net.replicas c.place.new.replicas c.end_all.new.replicas net.bag c.args.change.next c.as_slice.result.now c.requires.ready c.requires.lawful c.requires.there c.place.ensures c.end_all.ensures is in
     record {
       answer_is = refl;
-      ready = ready_placed g.D.Disk.state was later net.replicas c.place.new.replicas c.end_all.new.replicas net.bag c.args.change.next c.as_slice.result.now c.requires.ready c.requires.lawful c.requires.there c.place.ensures c.end_all.ensures is;
+      ready = ready;
+      serves = serves_placed g.D.Disk.state was later net.replicas c.place.new.replicas c.end_all.new.replicas net.bag (c.args.members.now).past.items c.push_reserved.new.self.items c.args.change.next c.as_slice.result.now c.requires.ready c.requires.serves c.place.ensures c.end_all.ensures ready is past;
+      past = past;
       ran = subst (λ left. Ran g.D.Disk.state net.replicas (step_events c.args.change.next left) c.end_all.new.replicas) c.as_slice.ensures.value
           (ran_then g.D.Disk.state (place_events c.args.change.next) (flat_map end_at c.as_slice.result.now) net.replicas c.place.new.replicas c.end_all.new.replicas c.place.ensures c.end_all.ensures);
       state_is = is;
       fates = refl;
       bag = refl;
-      slots = ap (λ v. v.items) c.replace-2.ensures.after;
-      stopped = ap (λ v. v.items) c.replace-3.ensures.after;
+      slots = ap (λ v. v.items) c.replace.ensures.after;
+      stopped = ap (λ v. v.items) c.replace-2.ensures.after;
     }

@@ -3,7 +3,7 @@ use Rattle.std.specs.List.{flat_map}
 use Rattle.std.proofs.lemmas.List.{length-map}
 use Rattle.m3_model.specs.Members.{IsIn}
 use Rattle.node_calls.proofs.RunLemmas.{has_room, no_room, ready_still, same_slots}
-use Rattle.node_calls.proofs.SameMembers.{same_state}
+use Rattle.cluster_members.proofs.SameMembers.{same_state}
 use Rattle.cluster_upkeep.specs.Rows.{AreRowsBelow, slot_in}
 use Rattle.cluster_upkeep.specs.Status.{told_at}
 use Rattle.cluster_upkeep.proofs.RowLemmas.{all_members, rows_few}
@@ -11,7 +11,7 @@ use Rattle.cluster_upkeep.proofs.SweepLemmas.{lines_few, lines_members, lines_st
 use Rattle.cluster_upkeep.proofs.reports.status.Goals as goal
 
 pub returns-in_default-clause-told : goal.returns-in_default-clause-told
-returns-in_default-clause-told g c = same_state c.args.members.now _ refl _ _ _ _ _ _ _ _ _
+returns-in_default-clause-told g c = same_state c.args.members.now _ refl _ _ _ _ _ _ _ _ _ _
 
 pub returns-then-not-has_room-clause-told : goal.returns-then-not-has_room-clause-told
 returns-then-not-has_room-clause-told g c =
@@ -22,11 +22,11 @@ returns-then-not-has_room-clause-told g c =
       members = all_members place c.requires.ready.lawful rows c.in-Ok.ensures;
       few = slots_few place c.requires.ready.lawful rows c.in-Ok.ensures;
       room = no_room (c.args.members.now).net.replicas.events _ _ c.has_room.result (let long = c.len.ensures in let count = (c.in-Ok.rows).ok.0 in let same = length-map rows slot_in in omega (arith, long, count, same)) c.has_room.ensures c.if-not-has_room.true;
-      same = same_state c.args.members.now _ refl _ _ _ _ _ _ _ _ _;
+      same = same_state c.args.members.now _ refl _ _ _ _ _ _ _ _ _ _;
     }
 
 pub returns-in_default-with_capacity-clause-told : goal.returns-in_default-with_capacity-clause-told
-returns-in_default-with_capacity-clause-told g c = same_state c.args.members.now _ refl _ _ _ _ _ _ _ _ _
+returns-in_default-with_capacity-clause-told g c = same_state c.args.members.now _ refl _ _ _ _ _ _ _ _ _ _
 
 pub report_all-requires-clause-there : goal.report_all-requires-clause-there
 report_all-requires-clause-there g c κs within r m =
@@ -52,7 +52,7 @@ returns-clause-told g c =
       few = lines_few place c.requires.ready.lawful rows c.in-Ok.ensures lines same;
       states = lines_states place c.requires.ready.lawful rows c.in-Ok.ensures lines same;
       ran = h.ran;
-      keeps = record { keeps = record { state = refl; fates = refl; bag = refl; slots = refl }; stopped = refl };
+      keeps = record { keeps = record { state = refl; fates = refl; bag = refl; slots = refl; past = refl }; stopped = refl };
     })
 
 pub returns-clause-ready : goal.returns-clause-ready

@@ -3,7 +3,7 @@ use Rattle.std.specs.List.{flat_map}
 use Rattle.std.proofs.lemmas.List.{length-map}
 use Rattle.m3_model.specs.Members.{IsIn}
 use Rattle.node_calls.proofs.RunLemmas.{has_room, no_room, ready_still, same_slots}
-use Rattle.node_calls.proofs.SameMembers.{same_state}
+use Rattle.cluster_members.proofs.SameMembers.{same_state}
 use Rattle.session_net.proofs.ReadyLemmas.{clock_there}
 use Rattle.cluster_upkeep.specs.Rows.{AreRowsBelow, slot_in}
 use Rattle.cluster_upkeep.specs.Sweeps.{asked_at, call_by}
@@ -12,7 +12,7 @@ use Rattle.cluster_upkeep.proofs.SweepLemmas.{asked_quiet, entries_few, entries_
 use Rattle.cluster_upkeep.proofs.sweeps.sweep.Goals as goal
 
 pub returns-in_default-clause-swept : goal.returns-in_default-clause-swept
-returns-in_default-clause-swept g c = same_state c.args.members.now _ refl _ _ _ _ _ _ _ _ _
+returns-in_default-clause-swept g c = same_state c.args.members.now _ refl _ _ _ _ _ _ _ _ _ _
 
 pub overflow_mul-len : goal.overflow_mul-len
 overflow_mul-len g c =
@@ -30,11 +30,11 @@ returns-then-not-has_room-clause-swept g c =
       members = all_members place c.requires.ready.lawful rows c.in-Ok.ensures;
       few = slots_few place c.requires.ready.lawful rows c.in-Ok.ensures;
       room = no_room (c.args.members.now).net.replicas.events _ _ c.has_room.result (let long = c.len.ensures in let count = (c.in-Ok.rows).ok.0 in let same = length-map rows slot_in in omega (arith, long, count, same)) c.has_room.ensures c.if-not-has_room.true;
-      same = same_state c.args.members.now _ refl _ _ _ _ _ _ _ _ _;
+      same = same_state c.args.members.now _ refl _ _ _ _ _ _ _ _ _ _;
     }
 
 pub returns-in_default-with_room-clause-swept : goal.returns-in_default-with_room-clause-swept
-returns-in_default-with_room-clause-swept g c = same_state c.args.members.now _ refl _ _ _ _ _ _ _ _ _
+returns-in_default-with_room-clause-swept g c = same_state c.args.members.now _ refl _ _ _ _ _ _ _ _ _ _
 
 pub run_all-requires-clause-clock : goal.run_all-requires-clause-clock
 run_all-requires-clause-clock g c κs within = clock_there (c.args.members.now).net.replicas.events (c.args.members.now).net.state.rules c.requires.ready.clock
@@ -65,7 +65,7 @@ returns-clause-swept g c =
       files = h.files;
       done_are = h.done_are;
       failed_are = h.failed_are;
-      keeps = record { keeps = record { state = refl; fates = refl; bag = refl; slots = refl }; stopped = refl };
+      keeps = record { keeps = record { state = refl; fates = refl; bag = refl; slots = refl; past = refl }; stopped = refl };
     })
 
 pub returns-clause-ready : goal.returns-clause-ready

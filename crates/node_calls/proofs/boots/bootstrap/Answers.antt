@@ -4,7 +4,7 @@ use Rattle.node_calls.specs.Begins.{assigned_all}
 use Rattle.node_calls.proofs.BeginLemmas.{begun_quiet, unbegun_quiet}
 use Rattle.node_calls.proofs.NodeActs.{node_is, has_shard, held_answer}
 use Rattle.node_calls.proofs.RunLemmas.{has_room, no_room, ready_still, same_slots}
-use Rattle.node_calls.proofs.SameMembers.{same_members, same_state}
+use Rattle.cluster_members.proofs.SameMembers.{same_members, same_state}
 use Rattle.node_calls.proofs.boots.bootstrap.Goals as goal
 
 pub returns-then-index-clause-bootstrapped : goal.returns-then-index-clause-bootstrapped
@@ -13,7 +13,7 @@ returns-then-index-clause-bootstrapped g c = (
       c.if-index.true,
   has_shard c.args.members.now c.args.asked c.len-shards.result c.len-shards.ensures c.in_default-missing_shard.ensures.none,
   refl,
-  same_members c.args.members.now _ _ _ _ _ _,
+  same_members c.args.members.now _ _ _ _ _ _ _,
 )
 
 pub returns-then-not-has_room-clause-bootstrapped : goal.returns-then-not-has_room-clause-bootstrapped
@@ -26,12 +26,12 @@ returns-then-not-has_room-clause-bootstrapped g c = (
   },
   record {
     room = no_room (c.args.members.now).net.replicas.events _ _ c.has_room.result (ap (λ n. 2 * n) c.len-shards.ensures) c.has_room.ensures c.if-not-has_room.true;
-    same = same_state c.args.members.now _ refl _ _ _ _ _ _ _ _ _;
+    same = same_state c.args.members.now _ refl _ _ _ _ _ _ _ _ _ _;
   },
 )
 
 pub returns-in_default-copy-clause-bootstrapped : goal.returns-in_default-copy-clause-bootstrapped
-returns-in_default-copy-clause-bootstrapped g c = inl (same_state c.args.members.now _ refl _ _ _ _ _ _ _ _ _)
+returns-in_default-copy-clause-bootstrapped g c = inl (same_state c.args.members.now _ refl _ _ _ _ _ _ _ _ _ _)
 
 pub begin_all-requires-clause-room : goal.begin_all-requires-clause-room
 begin_all-requires-clause-room g c κs within = has_room (c.args.members.now).net.replicas.events _ _ c.has_room.result (ap (λ n. 2 * n) c.len-shards.ensures) c.has_room.ensures c.if-not-has_room.false
@@ -52,7 +52,7 @@ returns-in-Ok-begin_all-clause-bootstrapped g c =
         begins = h.events;
         begun = h.begun;
         ran = h.ran;
-        keeps = record { keeps = record { state = refl; fates = refl; bag = refl; slots = refl }; stopped = refl };
+        keeps = record { keeps = record { state = refl; fates = refl; bag = refl; slots = refl; past = refl }; stopped = refl };
       },
     )
 
@@ -80,7 +80,7 @@ returns-in-Err-clause-bootstrapped g c =
       begins = h.events;
       refused = h.unbegun;
       ran = h.ran;
-      keeps = record { keeps = record { state = refl; fates = refl; bag = refl; slots = refl }; stopped = refl };
+      keeps = record { keeps = record { state = refl; fates = refl; bag = refl; slots = refl; past = refl }; stopped = refl };
     })
 
 pub returns-in-Err-clause-ready : goal.returns-in-Err-clause-ready

@@ -7,7 +7,7 @@ use Rattle.session_net.proofs.RunLemmas.{ran_then}
 use Rattle.node_calls.specs.Halts.{IsUnrestarted, restart_at, slots_of_node, stop_at}
 use Rattle.node_calls.proofs.NodeActs.{node_is, unstarted_answer}
 use Rattle.node_calls.proofs.RunLemmas.{has_room, no_room, ready_still, restarts_quiet, room_again, same_slots, stops_quiet, unrestarted_quiet}
-use Rattle.node_calls.proofs.SameMembers.{same_members, same_state}
+use Rattle.cluster_members.proofs.SameMembers.{same_members, same_state}
 use Rattle.node_calls.proofs.boots.restart.Goals as goal
 
 pub returns-then-not-index-clause-restarted : goal.returns-then-not-index-clause-restarted
@@ -15,7 +15,7 @@ returns-then-not-index-clause-restarted g c = (
   node_is c.args.members.now c.args.name c.as_str.result.now c.as_slice-instances.result.now c.in-Some.node false c.index.result.now c.as_str.ensures c.as_slice-instances.ensures c.in-Some.ensures.found c.in-Some.ensures.below c.index.ensures
       c.if-not-index.true,
   refl,
-  same_members c.args.members.now _ _ _ _ _ _,
+  same_members c.args.members.now _ _ _ _ _ _ _,
 )
 
 pub overflow_mul-slots_of : goal.overflow_mul-slots_of
@@ -31,7 +31,7 @@ returns-then-not-has_room-clause-restarted g c = (
       c.if-not-index.false,
   record {
     room = no_room (c.args.members.now).net.replicas.events _ _ c.has_room.result (ap (λ n. 4 * n) (c.slots_of.ensures.count ∙ ap (λ xs. length (slots_of_node c.in-Some.node xs)) c.as_slice-slots.ensures.value)) c.has_room.ensures c.if-not-has_room.true;
-    same = same_state c.args.members.now _ refl _ _ _ _ _ _ _ _ _;
+    same = same_state c.args.members.now _ refl _ _ _ _ _ _ _ _ _ _;
   },
 )
 
@@ -64,7 +64,7 @@ returns-in-Err-clause-restarted g c =
           ran_then g.D.Disk.state h.tried (flat_map stop_at (slots_of_node c.in-Some.node (c.args.members.now).slots.items)) (c.args.members.now).net.replicas c.restart_all.new.replicas c.stop_all.new.replicas h.ran
           (subst (λ slots. Ran g.D.Disk.state c.restart_all.new.replicas (flat_map stop_at (slots_of_node c.in-Some.node slots)) c.stop_all.new.replicas) c.as_slice-slots.ensures.value c.stop_all.ensures);
       stays = refl;
-      keeps = record { state = refl; fates = refl; bag = refl; slots = refl };
+      keeps = record { state = refl; fates = refl; bag = refl; slots = refl; past = refl };
     })
 
 pub returns-in-Err-clause-ready : goal.returns-in-Err-clause-ready
@@ -90,7 +90,7 @@ returns-clause-restarted g c = record {
   stopped_now = refl;
   restarted =
       subst (λ slots. Ran g.D.Disk.state (c.args.members.now).net.replicas (flat_map restart_at (slots_of_node c.in-Some.node slots)) c.restart_all.new.replicas) c.as_slice-slots.ensures.value c.in_default-restart_all.ensures.ok;
-  keeps = record { state = refl; fates = refl; bag = refl; slots = refl };
+  keeps = record { state = refl; fates = refl; bag = refl; slots = refl; past = refl };
 }
 
 pub returns-clause-ready : goal.returns-clause-ready

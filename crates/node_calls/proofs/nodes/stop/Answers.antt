@@ -4,7 +4,7 @@ use Rattle.session_net.specs.Runs.{Ran}
 use Rattle.node_calls.specs.Halts.{slots_of_node, stop_at}
 use Rattle.node_calls.proofs.NodeActs.{node_is}
 use Rattle.node_calls.proofs.RunLemmas.{no_room, ready_still, stops_quiet}
-use Rattle.node_calls.proofs.SameMembers.{same_members, same_state}
+use Rattle.cluster_members.proofs.SameMembers.{same_members, same_state}
 use Rattle.node_calls.proofs.nodes.stop.Goals as goal
 
 pub returns-then-index-clause-stopped : goal.returns-then-index-clause-stopped
@@ -12,7 +12,7 @@ returns-then-index-clause-stopped g c = (
   node_is c.args.members.now c.args.name c.as_str.result.now c.as_slice-instances.result.now c.in-Some.node true c.index.result.now c.as_str.ensures c.as_slice-instances.ensures c.in-Some.ensures.found c.in-Some.ensures.below c.index.ensures
       c.if-index.true,
   refl,
-  same_members c.args.members.now _ _ _ _ _ _,
+  same_members c.args.members.now _ _ _ _ _ _ _,
 )
 
 pub overflow_mul-slots_of : goal.overflow_mul-slots_of
@@ -28,7 +28,7 @@ returns-then-not-has_room-clause-stopped g c = (
       c.if-index.false,
   record {
     room = no_room (c.args.members.now).net.replicas.events _ _ c.has_room.result (ap (λ n. 2 * n) (c.slots_of.ensures.count ∙ ap (λ xs. length (slots_of_node c.in-Some.node xs)) c.as_slice-slots.ensures.value)) c.has_room.ensures c.if-not-has_room.true;
-    same = same_state c.args.members.now _ refl _ _ _ _ _ _ _ _ _;
+    same = same_state c.args.members.now _ refl _ _ _ _ _ _ _ _ _ _;
   },
 )
 
@@ -40,7 +40,7 @@ returns-clause-stopped g c = record {
   stopped_now = refl;
   stopped =
       subst (λ slots. Ran g.D.Disk.state (c.args.members.now).net.replicas (flat_map stop_at (slots_of_node c.in-Some.node slots)) c.stop_all.new.replicas) c.as_slice-slots.ensures.value c.stop_all.ensures;
-  keeps = record { state = refl; fates = refl; bag = refl; slots = refl };
+  keeps = record { state = refl; fates = refl; bag = refl; slots = refl; past = refl };
 }
 
 pub returns-clause-ready : goal.returns-clause-ready

@@ -7,7 +7,7 @@ use Rattle.session_net.specs.Reads.{count_from, asked_shards, IsUnfound}
 use Rattle.session_net.specs.declared.session_err.SessionErr.TheVariants as err
 use Rattle.session_reads.specs.Gathering.{wish_of, IsGathered}
 use Rattle.session_reads.proofs.AskLemmas.{ordered_none}
-use Rattle.session_reads.proofs.FetchLemmas.{left_reads, ready_left}
+use Rattle.session_reads.proofs.FetchLemmas.{left_reads, callable_left}
 use Rattle.session_reads.proofs.GatherLemmas.{SoFar, count_in, count_more, count_rest, gap, so_far_none, so_far_more, stopped_past, unread, gathered_all, shard_ordered, nothing_there}
 use Rattle.session_reads.proofs.ShardLemmas.{passed_on}
 use Rattle.session_reads.proofs.gather.gather_all.Goals as goal
@@ -24,7 +24,7 @@ pub ask_shard-requires-clause-ready : goal.ask_shard-requires-clause-ready
 ask_shard-requires-clause-ready g c κs within =
     let state = c.args.state.now in
     let was = c.loop-shard.invariant.so_far in
-    ready_left g.D.Disk.state state c.args.replicas.now c.loop-shard.replicas [] c.requires.ready
+    callable_left g.D.Disk.state state c.args.replicas.now c.loop-shard.replicas [] c.requires.ready
     (left_reads state c.args.fates.now c.args.asking.now.id (wish_of c.args.pick.now c.args.asking.now) c.args.asking.now.quorum.needed g.D.Disk.state c.args.replicas.now c.loop-shard.replicas (count_from 0 c.loop-shard.shard) was.reads was.events was.are was.ran)
 
 pub returns-in_err-gave-clause-err : goal.returns-in_err-gave-clause-err

@@ -1,6 +1,6 @@
 use Rattle.std.proofs.Common.{rules, refl}
 use Rattle.session_net.proofs.ReadyLemmas.{clock_there}
-use Rattle.session_writes.proofs.LeftLemmas.{left, left_ready, left_bounded}
+use Rattle.session_writes.proofs.LeftLemmas.{left, left_ready, left_callable, left_bounded}
 use Rattle.session_writes.proofs.ShardLemmas.{GoesTo, goes_to, has_shard, are_counted, members_differ, member_there}
 use Rattle.session_writes.proofs.WriteLemmas.{same_net, putting, wanted, acknowledged, refused}
 use Rattle.session_writes.proofs.write.write.Goals as goal
@@ -48,7 +48,17 @@ returns-clause-ready g c =
     let s = c.in_ok-to.to.shard in
     let members = c.as_slice.result.now in
     let to : GoesTo net.state p s members = goes_to net.state p s c.in_ok-to.to.members members c.in_ok-to.ensures.shard c.in_ok-to.ensures.members c.as_slice.ensures in
-    left_ready g.D.Disk.state net.fates (putting net c.args.id p s) members net.replicas c.send_all.new.replicas net.bag c.send_all.new.bag net.state c.requires.ready (member_there net c.requires.ready p s members to)
+    left_ready g.D.Disk.state net.fates (putting net c.args.id p s) members net.replicas c.send_all.new.replicas net.bag c.send_all.new.bag (member_there net c.requires.ready p s members to)
+    (left g.D.Disk.state net.fates (putting net c.args.id p s) members net.replicas c.send_all.new.replicas net.bag c.send_all.new.bag c.needed_write-needed.result c.send_all.result c.send_all.ensures.ok c.send_all.ensures.err)
+
+pub returns-clause-callable : goal.returns-clause-callable
+returns-clause-callable g c =
+    let net = c.args.net.now in
+    let p = c.args.point.now in
+    let s = c.in_ok-to.to.shard in
+    let members = c.as_slice.result.now in
+    let to : GoesTo net.state p s members = goes_to net.state p s c.in_ok-to.to.members members c.in_ok-to.ensures.shard c.in_ok-to.ensures.members c.as_slice.ensures in
+    left_callable g.D.Disk.state net.fates (putting net c.args.id p s) members net.replicas c.send_all.new.replicas net.bag c.send_all.new.bag (member_there net c.requires.ready p s members to)
     (left g.D.Disk.state net.fates (putting net c.args.id p s) members net.replicas c.send_all.new.replicas net.bag c.send_all.new.bag c.needed_write-needed.result c.send_all.result c.send_all.ensures.ok c.send_all.ensures.err)
 
 pub returns-clause-ok : goal.returns-clause-ok

@@ -5,7 +5,7 @@ use Rattle.series_slots.specs.declared.series_key.SeriesKey.{SeriesKey}
 use Rattle.series_slots.specs.Points.{slot_at}
 use Rattle.series_slots.specs.SeriesEntries.{SeriesEntries, slots_of}
 use Rattle.block_buffer.specs.AllSeries.{TimesFit, SpacesBelow, AreNoted}
-use Rattle.block_buffer.proofs.PlaceLemmas.{last_at}
+use Rattle.block_buffer.proofs.PositionLemmas.{last_at}
 use Rattle.block_buffer.proofs.SetLemmas.{came}
 use Rattle.block_buffer.proofs.EntryLemmas.{times_added, spaces_added}
 use Rattle.block_buffer.proofs.SpotLemmas.{noted_added}

@@ -1,7 +1,7 @@
 use Rattle.std.proofs.Common.{◌≡◌, Some, None, sym, subst, ◌∙◌, inl, inr, rules, arith}
 use Rattle.series_slots.specs.Points.{slot_at, value_of}
 use Rattle.series_slots.specs.SeriesEntries.{SeriesEntries, slots_of}
-use Rattle.block_buffer.proofs.PlaceLemmas.{eq_or_not}
+use Rattle.block_buffer.proofs.PositionLemmas.{eq_or_not}
 use Rattle.block_buffer.proofs.ContentLemmas.{value_some}
 use Rattle.block_buffer.proofs.FirstLemmas.{none_or_value}
 use Rattle.block_buffer.proofs.all_series.AllSeries.any_expired.Goals as goal

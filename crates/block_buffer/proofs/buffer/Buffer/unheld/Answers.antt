@@ -2,7 +2,7 @@ use Rattle.std.proofs.Common.{◌≡◌, false, true, inl, inr, ap, sym, ◌∙�
 use Rattle.std.specs.Prelude.{is_some}
 use Rattle.std.specs.FinMap as finite
 use Rattle.m3_model.specs.declared.point.Key.{Key}
-use Rattle.block_buffer.proofs.PlaceLemmas.{eq_or_not}
+use Rattle.block_buffer.proofs.PositionLemmas.{eq_or_not}
 use Rattle.series_slots.specs.Points.{slot_at}
 use Rattle.series_slots.specs.SeriesEntries.{slots_of}
 use Rattle.series_slots.proofs.PointLemmas.{get-points}

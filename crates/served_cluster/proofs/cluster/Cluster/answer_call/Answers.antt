@@ -1,4 +1,7 @@
+use Rattle.std.proofs.Common.{subst}
+use Rattle.served_cluster.specs.Owned.{AreReady}
 use Rattle.served_cluster.proofs.ActLemmas.{made, wanted}
+use Rattle.served_cluster.proofs.KeptLemmas.{ready_on}
 use Rattle.served_cluster.proofs.cluster.Cluster.answer_call.Goals as goal
 
 pub returns-then-number-clause-answers : goal.returns-then-number-clause-answers
@@ -11,3 +14,8 @@ returns-clause-answers g c =
     let next = c.next-number in
     made g.D.Disk.state c.args.self.now c.in-Some.members c.in-Some.is c.args.act c.make_call.result c.make_call.new.members next.result c.call_of.result next.new.self c.requires.call next.ensures.number next.ensures.raised c.call_of.ensures
     c.make_call.ensures.does
+
+pub returns-clause-ready : goal.returns-clause-ready
+returns-clause-ready g c =
+    let call = c.make_call in
+    ready_on g.D.Disk.state c.in-Some.members call.new.members c.call_of.result c.args.act call.result call.ensures.does (subst AreReady c.in-Some.is c.requires.ready) call.ensures.ready

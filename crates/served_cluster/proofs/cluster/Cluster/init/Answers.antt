@@ -1,5 +1,6 @@
 use Rattle.std.proofs.Common.{refl, sym, subst}
 use Rattle.first_cluster.specs.Depots.{OwnedBy, depot_by}
+use Rattle.served_cluster.proofs.KeptLemmas.{first_ready, first_serves}
 use Rattle.served_cluster.proofs.OwnLemmas.{none_returned, none_stood, refused_returned}
 use Rattle.served_cluster.proofs.cluster.Cluster.init.Goals as goal
 
@@ -7,6 +8,13 @@ pub returns-in-Ok-clause-made : goal.returns-in-Ok-clause-made
 returns-in-Ok-clause-made g c =
     let made = c.in-Ok.ensures in
     (none_stood c.args.self.now.members c.if-is_some.ensures, c.in-Ok.members, c.replace.ensures.after, made.members, made.placement, refl)
+
+pub returns-in-Ok-clause-owned : goal.returns-in-Ok-clause-owned
+returns-in-Ok-clause-owned g c =
+    let made = c.in-Ok.ensures in
+    let before = depot_by g.X.Disks.held g.X.Disks.counted g.X.Disks.all_faults c.args.disks.now in
+    let after = depot_by g.X.Disks.held g.X.Disks.counted g.X.Disks.all_faults c.first_members.new.disks in
+    first_serves _ c.in-Ok.members _ c.replace.ensures.after made.owned (first_ready g.D.Disk.state c.args.rf c.args.shards c.args.seed c.args.nodes before after c.in-Ok.members made.members made.ready made.owned)
 
 pub returns-in-Err-clause-owned : goal.returns-in-Err-clause-owned
 returns-in-Err-clause-owned g c =

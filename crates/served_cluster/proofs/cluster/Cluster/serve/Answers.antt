@@ -10,4 +10,4 @@ returns-clause-tracks g c =
     let before = depot_by g.X.Disks.held g.X.Disks.counted g.X.Disks.all_faults c.args.disks.now in
     let after = depot_by g.X.Disks.held g.X.Disks.counted g.X.Disks.all_faults act.new.disks in
     tracks_on g.D.Disk.state (g.met.D.Disk g.world.𝓛 g.world.𝓜 g.world.𝓡 ((λ s x. x), (λ x. x), (λ x. x), (λ x. x))).lawful c.args.self.now act.new.self before after c.args.request c.in-One.act act.result c.in-One.is (subst IsServed c.in-One.is c.requires.served)
-    c.know.ensures.members act.ensures.answers c.know-in-One.ensures.legal act.ensures.owned.ready
+    c.know.ensures.members act.ensures.answers c.know-in-One.ensures.legal act.ensures.owned

@@ -1,6 +1,6 @@
 -- Members are the same where all that isn't a fact of them is.
 use Rattle.std.proofs.Common.{◌≡◌, ◌<◌, ◌≤◌, ◌^◌, ◌*◌, length, refl, sym, subst}
-use Rattle.m3_model.specs.declared.limits.TheConstants.{MOST_NAMESPACES, MOST_NODES, MOST_SHARDS, TIME_END}
+use Rattle.m3_model.specs.declared.limits.TheConstants.{MOST_NAMESPACES, MOST_NODES, MOST_SHARDS, MOST_VERSIONS, TIME_END}
 use Rattle.std.specs.List.{All}
 use Rattle.std.proofs.Props.{props}
 use Rattle.m3_outside.specs.declared.disk.Disk.{Ghosts}
@@ -12,9 +12,10 @@ use Rattle.cluster_members.specs.declared.members.Members.{Members}
 
 -- the same members, with other proofs of their facts
 pub same_state : {D : Type 0} {G : Ghosts D} (m : Members D G) (state : MetaState) → state ≡ m.net.state → (some : 0 < length state.place.shards) (few_shards : length state.place.shards < 2 ^ 32) (bounded : All (λ (one : LateWrite). IsBounded one.point) m.net.bag)
-    (few : length state.rules.spaces ≤ MOST_NAMESPACES) (sizes : All (λ (space : Space). 0 < space.block) state.rules.spaces) (moment : state.rules.now < TIME_END) (few_nodes : length state.place.instances ≤ MOST_NODES) (few_slots : length m.slots.items ≤ MOST_NODES * MOST_SHARDS) (one_each : length m.stopped.items ≡ length state.place.instances)
+    (few : length state.rules.spaces ≤ MOST_NAMESPACES) (sizes : All (λ (space : Space). 0 < space.block) state.rules.spaces) (moment : state.rules.now < TIME_END) (few_nodes : length state.place.instances ≤ MOST_NODES) (few_slots : length m.slots.items ≤ MOST_NODES * MOST_SHARDS) (few_past : length m.past.items < MOST_VERSIONS) (one_each : length m.stopped.items ≡ length state.place.instances)
     → ◌≡◌ {A = Members D G} (record {
       net = record { state = state; replicas = m.net.replicas; fates = m.net.fates; bag = m.net.bag; some_shards = some; few_shards = few_shards; bounded_late = bounded };
+      past = m.past;
       slots = m.slots;
       stopped = m.stopped;
       few = few;
@@ -22,6 +23,7 @@ pub same_state : {D : Type 0} {G : Ghosts D} (m : Members D G) (state : MetaStat
       moment = moment;
       few_nodes = few_nodes;
       few_slots = few_slots;
+      few_past = few_past;
       one_each = one_each;
     }) m
 same_state {D} {G} m state is = subst Same (sym is) own
@@ -29,9 +31,10 @@ same_state {D} {G} m state is = subst Same (sym is) own
     Same : MetaState → Type 0
     Same s =
         (some : 0 < length s.place.shards) (few_shards : length s.place.shards < 2 ^ 32) (bounded : All (λ (one : LateWrite). IsBounded one.point) m.net.bag) (few : length s.rules.spaces ≤ MOST_NAMESPACES) (sizes : All (λ (space : Space). 0 < space.block) s.rules.spaces) (moment : s.rules.now < TIME_END)
-        (few_nodes : length s.place.instances ≤ MOST_NODES) (few_slots : length m.slots.items ≤ MOST_NODES * MOST_SHARDS) (one_each : length m.stopped.items ≡ length s.place.instances)
+        (few_nodes : length s.place.instances ≤ MOST_NODES) (few_slots : length m.slots.items ≤ MOST_NODES * MOST_SHARDS) (few_past : length m.past.items < MOST_VERSIONS) (one_each : length m.stopped.items ≡ length s.place.instances)
         → ◌≡◌ {A = Members D G} (record {
           net = record { state = s; replicas = m.net.replicas; fates = m.net.fates; bag = m.net.bag; some_shards = some; few_shards = few_shards; bounded_late = bounded };
+          past = m.past;
           slots = m.slots;
           stopped = m.stopped;
           few = few;
@@ -39,6 +42,7 @@ same_state {D} {G} m state is = subst Same (sym is) own
           moment = moment;
           few_nodes = few_nodes;
           few_slots = few_slots;
+          few_past = few_past;
           one_each = one_each;
         }) m
 
@@ -66,11 +70,14 @@ same_state {D} {G} m state is = subst Same (sym is) own
     slots_prop : IsProp (length m.slots.items ≤ MOST_NODES * MOST_SHARDS)
     slots_prop = Prim.hlevel props
 
+    past_prop : IsProp (length m.past.items < MOST_VERSIONS)
+    past_prop = Prim.hlevel props
+
     each_prop : IsProp (length m.stopped.items ≡ length m.net.state.place.instances)
     each_prop = Prim.hlevel props
 
     own : Same m.net.state
-    own some few_shards bounded few sizes moment few_nodes few_slots one_each = λ i. record {
+    own some few_shards bounded few sizes moment few_nodes few_slots few_past one_each = λ i. record {
       net = record {
         state = m.net.state;
         replicas = m.net.replicas;
@@ -80,6 +87,7 @@ same_state {D} {G} m state is = subst Same (sym is) own
         few_shards = shards_prop few_shards m.net.few_shards i;
         bounded_late = bounded_prop bounded m.net.bounded_late i;
       };
+      past = m.past;
       slots = m.slots;
       stopped = m.stopped;
       few = few_prop few m.few i;
@@ -87,10 +95,11 @@ same_state {D} {G} m state is = subst Same (sym is) own
       moment = moment_prop moment m.moment i;
       few_nodes = nodes_prop few_nodes m.few_nodes i;
       few_slots = slots_prop few_slots m.few_slots i;
+      few_past = past_prop few_past m.few_past i;
       one_each = each_prop one_each m.one_each i;
     }
 
 pub same_members : {D : Type 0} {G : Ghosts D} (m : Members D G) (few : length m.net.state.rules.spaces ≤ MOST_NAMESPACES) (sizes : All (λ (space : Space). 0 < space.block) m.net.state.rules.spaces) (moment : m.net.state.rules.now < TIME_END) (few_nodes : length m.net.state.place.instances ≤ MOST_NODES)
-    (few_slots : length m.slots.items ≤ MOST_NODES * MOST_SHARDS) (one_each : length m.stopped.items ≡ length m.net.state.place.instances)
-    → ◌≡◌ {A = Members D G} (record { net = m.net; slots = m.slots; stopped = m.stopped; few = few; sizes = sizes; moment = moment; few_nodes = few_nodes; few_slots = few_slots; one_each = one_each }) m
-same_members m few sizes moment few_nodes few_slots one_each = same_state m m.net.state refl m.net.some_shards m.net.few_shards m.net.bounded_late few sizes moment few_nodes few_slots one_each
+    (few_slots : length m.slots.items ≤ MOST_NODES * MOST_SHARDS) (few_past : length m.past.items < MOST_VERSIONS) (one_each : length m.stopped.items ≡ length m.net.state.place.instances)
+    → ◌≡◌ {A = Members D G} (record { net = m.net; past = m.past; slots = m.slots; stopped = m.stopped; few = few; sizes = sizes; moment = moment; few_nodes = few_nodes; few_slots = few_slots; few_past = few_past; one_each = one_each }) m
+same_members m few sizes moment few_nodes few_slots few_past one_each = same_state m m.net.state refl m.net.some_shards m.net.few_shards m.net.bounded_late few sizes moment few_nodes few_slots few_past one_each

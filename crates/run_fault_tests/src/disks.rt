@@ -1,11 +1,31 @@
 // Runs over disks of which one fails, and what is given back.
-use crate::nodes::FAILED_AT_ONCE;
 use line_runs::{INIT, NAMESPACE, OF_C, PLACED, Status, disks_with, ended_over, told};
 use m3_model::Memory;
 use m3_outside::{Disk, Disks};
 use mem_disk::{MemDisk, MemDisks};
 use std::alloc::Global;
 use std::test::Fail;
+
+// A node of a disk that fails from its first call on is down from `init` on; a bootstrap passes it over, and a restart opens
+// the way to one.
+const FAILED_AT_ONCE: &str = r#"{"op":"now","now":100}
+{"ok":true}
+{"op":"write","ns":"m","id":"hello","t":100,"v":5,"level":"all"}
+{"code":7,"error":"consistency","got":2,"needed":3,"ok":false,"reasons":[["c","down"]],"shard":0}
+{"op":"bootstrap","node":"c"}
+{"available":[],"ok":true,"placement":{"instances":[["a","g1",false],["b","g2",false],["c","g3",false]],"rf":3,"shards":[[["a","available",1],["b","available",1],["c","available",1]]]},"version":1}
+{"op":"write","ns":"m","id":"hello","t":100,"v":5,"level":"all"}
+{"code":7,"error":"consistency","got":2,"needed":3,"ok":false,"reasons":[["c","down"]],"shard":0}
+{"op":"restart","node":"c"}
+{"code":12,"error":"state","node":"c","ok":false}
+{"op":"stop","node":"c"}
+{"ok":true}
+{"op":"restart","node":"c"}
+{"ok":true}
+{"op":"bootstrap","node":"c"}
+{"available":[],"ok":true,"placement":{"instances":[["a","g1",false],["b","g2",false],["c","g3",false]],"rf":3,"shards":[[["a","available",1],["b","available",1],["c","available",1]]]},"version":1}
+{"op":"write","ns":"m","id":"hello","t":100,"v":5,"level":"all"}
+{"acks":["a","b","c"],"ok":true}"#;
 
 #[test]
 fn disk_that_fails_at_once(rt: HostRuntime) -> Result<(), Fail> {

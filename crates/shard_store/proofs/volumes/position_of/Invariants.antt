@@ -1,0 +1,10 @@
+use Rattle.std.proofs.Common.{◌≡◌, ◌++◌, List, take, drop}
+use Rattle.m3_model.specs.declared.point.Series.{Series}
+use Rattle.volume_bytes.specs.Heads.{head_of}
+use Rattle.volume_steps.specs.KnownLists.{with_volume}
+use Rattle.listed_volumes.specs.Listed.{known_in}
+use Rattle.shard_store.proofs.volumes.position_of.Given as goal
+
+-- the volume comes behind those so far
+abbrev pub invariant-loop-position : goal.invariant-loop-position
+invariant-loop-position l = (rows : List Series) → with_volume (record { head = head_of l.head; rows = rows }) (known_in l.listed) ≡ known_in (take l.position l.listed) ++ with_volume (record { head = head_of l.head; rows = rows }) (known_in (drop l.position l.listed))
