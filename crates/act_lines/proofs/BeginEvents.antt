@@ -21,23 +21,23 @@ use Rattle.cluster_core.specs.declared.event.StepCall.{StepCall}
 use Rattle.cluster_core.specs.declared.event.StepCall.TheVariants as call
 use Rattle.cluster_core.specs.declared.event.StepReply.{StepReply}
 use Rattle.cluster_core.specs.declared.event.StepReply.TheVariants as reply
-use Rattle.replica_machine.specs.Boots.{IsBootReason}
-use Rattle.replica_machine.specs.Machines.{first_machine}
-use Rattle.replica_machine.specs.declared.machine.Began.{Began}
-use Rattle.replica_exchange.specs.Exchanges.{ask_of}
-use Rattle.replica_exchange.specs.Promises.{Begins}
-use Rattle.replica_exchange.specs.declared.member.Member.{Member}
-use Rattle.replica_exchange.specs.declared.slot.Slot.{Slot}
-use Rattle.replica_calls.specs.Calls.{first_member}
-use Rattle.session_net.specs.Runs.{slot_at}
-use Rattle.cluster_members.specs.declared.members.Members.{Members}
+use Rattle.node_calls.specs.replica_machine.Boots.{IsBootReason}
+use Rattle.node_calls.specs.replica_machine.Machines.{first_machine}
+use Rattle.node_calls.specs.replica_machine.declared.machine.Began.{Began}
+use Rattle.node_calls.specs.replica_exchange.Exchanges.{ask_of}
+use Rattle.node_calls.specs.replica_exchange.Promises.{Begins}
+use Rattle.node_calls.specs.replica_exchange.declared.member.Member.{Member}
+use Rattle.node_calls.specs.replica_exchange.declared.slot.Slot.{Slot}
+use Rattle.node_calls.specs.replica_calls.Calls.{first_member}
+use Rattle.node_calls.specs.session_net.Runs.{slot_at}
+use Rattle.node_calls.specs.cluster_members.declared.members.Members.{Members}
 use Rattle.first_cluster.specs.Begins.{Said, begin_of, begin_reply, begins_of, WantedMemory}
 use Rattle.first_cluster.specs.First.{IsFirst}
 use Rattle.first_cluster.specs.Slots.{start_at, starts_of}
 use Rattle.first_cluster.specs.declared.start.Start.{Start}
 use Rattle.first_cluster.proofs.PlacedSlots.{from_start, start_from, start_slot}
-use Rattle.told_by.specs.Hears.{IsFirstBegun}
-use Rattle.told_by.specs.Makes.{IsAssigned}
+use Rattle.call_lines.specs.told_by.Hears.{IsFirstBegun}
+use Rattle.call_lines.specs.told_by.Makes.{IsAssigned}
 
 -- ---- an event of begins
 

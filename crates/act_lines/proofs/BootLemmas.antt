@@ -26,14 +26,14 @@ use Rattle.cluster_core.specs.declared.event.StepCall.TheVariants as call
 use Rattle.cluster_core.specs.declared.event.StepReply.{StepReply}
 use Rattle.cluster_core.specs.declared.event.StepReply.TheVariants as reply
 use Rattle.cluster_core.proofs.ListLemmas.{at_in}
-use Rattle.replica_machine.specs.Damages.{IsFileDamage}
-use Rattle.replica_exchange.specs.Exchanges.{ask_of}
-use Rattle.replica_calls.specs.Calls.{Tracked}
-use Rattle.replica_calls.specs.Slots.{MemberMap}
-use Rattle.session_net.specs.Messages.{exchange}
-use Rattle.session_net.specs.Runs.{slot_at}
-use Rattle.told_by.specs.Hears.{IsBegun}
-use Rattle.told_by.specs.Makes.{IsAssigned}
+use Rattle.node_calls.specs.replica_machine.Damages.{IsFileDamage}
+use Rattle.node_calls.specs.replica_exchange.Exchanges.{ask_of}
+use Rattle.node_calls.specs.replica_calls.Calls.{Tracked}
+use Rattle.node_calls.specs.replica_calls.Slots.{MemberMap}
+use Rattle.node_calls.specs.session_net.Messages.{exchange}
+use Rattle.node_calls.specs.session_net.Runs.{slot_at}
+use Rattle.call_lines.specs.told_by.Hears.{IsBegun}
+use Rattle.call_lines.specs.told_by.Makes.{IsAssigned}
 use Rattle.transcripts.specs.Reasons.{IsShown}
 use Rattle.transcripts.specs.Waiting.{is_covering}
 use Rattle.node_calls.specs.Begins.{ArePassed, AreBegun, Assigned, Begun, IsPassed, IsUnbegun, IsTenureUnowned, assigned_at, assigned_below, assigned_by, begin_at, tenure_in}

@@ -28,21 +28,21 @@ use Rattle.cluster_core.specs.declared.event.StepCall.TheVariants as call
 use Rattle.cluster_core.specs.declared.event.StepReply.{StepReply}
 use Rattle.cluster_core.specs.declared.event.StepReply.TheVariants as reply
 use Rattle.cluster_core.proofs.ListLemmas.{at_in, at_within}
-use Rattle.replica_exchange.specs.Exchanges.{ask_of}
-use Rattle.replica_exchange.specs.declared.member.Member.{Member}
-use Rattle.session_net.specs.Ready.{IsReady}
-use Rattle.session_net.specs.Runs.{Ran, slot_at}
-use Rattle.session_net.proofs.ReadyLemmas.{AreQuiet, IsQuiet}
-use Rattle.told_by.specs.Hears.{HearsBy, InStretch}
-use Rattle.told_by.specs.Lines.{IsPlain, MayChange, PlainLine, PrintsPlace, position_after}
-use Rattle.told_by.specs.Makes.{IsCoveredSlot, MayMake}
-use Rattle.told_by.proofs.LeaveLemmas.{place_there}
-use Rattle.told_by.proofs.OneLemmas.{among_back}
-use Rattle.told_by.proofs.PrintedLemmas.{after_new}
-use Rattle.told_by.proofs.TurnLemmas.{in_cut, in_its_line}
-use Rattle.told_runs.specs.Answers.{HearsOf, IsAnswered, IsDecidedBy, IsOfKind}
-use Rattle.told_runs.specs.Bounds.{writes_taken}
-use Rattle.told_runs.specs.Lines.{AddsInOrder, OpensNext, ServesOne}
+use Rattle.node_calls.specs.replica_exchange.Exchanges.{ask_of}
+use Rattle.node_calls.specs.replica_exchange.declared.member.Member.{Member}
+use Rattle.node_calls.specs.session_net.Ready.{IsReady}
+use Rattle.node_calls.specs.session_net.Runs.{Ran, slot_at}
+use Rattle.node_calls.proofs.session_net_proofs.ReadyLemmas.{AreQuiet, IsQuiet}
+use Rattle.call_lines.specs.told_by.Hears.{HearsBy, InStretch}
+use Rattle.call_lines.specs.told_by.Lines.{IsPlain, MayChange, PlainLine, PrintsPlace, position_after}
+use Rattle.call_lines.specs.told_by.Makes.{IsCoveredSlot, MayMake}
+use Rattle.call_lines.proofs.told_by_proofs.LeaveLemmas.{place_there}
+use Rattle.call_lines.proofs.told_by_proofs.OneLemmas.{among_back}
+use Rattle.call_lines.proofs.told_by_proofs.PrintedLemmas.{after_new}
+use Rattle.call_lines.proofs.told_by_proofs.TurnLemmas.{in_cut, in_its_line}
+use Rattle.call_lines.specs.told_runs.Answers.{HearsOf, IsAnswered, IsDecidedBy, IsOfKind}
+use Rattle.call_lines.specs.told_runs.Bounds.{writes_taken}
+use Rattle.call_lines.specs.told_runs.Lines.{AddsInOrder, OpensNext, ServesOne}
 use Rattle.transcripts.specs.Caused.{acts_in}
 use Rattle.transcripts.specs.Deliveries.{LateMessage}
 use Rattle.transcripts.specs.Fates.{OfNode, is_stopped}
@@ -52,7 +52,7 @@ use Rattle.transcripts.specs.Waiting.{is_covering}
 use Rattle.call_lines.specs.Laws.{IsNotRefused}
 use Rattle.call_lines.specs.Left.{NetIsLeftBy, WereDelivered}
 use Rattle.call_lines.proofs.ServeLemmas.{delivered_so}
-use Rattle.cluster_members.specs.declared.members.Members.{Members}
+use Rattle.node_calls.specs.cluster_members.declared.members.Members.{Members}
 use Rattle.node_calls.specs.Nodes.{KeepsButBoots, MayBoot}
 use Rattle.node_calls.proofs.BeginLemmas.{tenure_node}
 use Rattle.node_calls.proofs.RunLemmas.{ready_still}

@@ -27,16 +27,16 @@ use Rattle.cluster_core.specs.declared.event.Event.TheVariants as event
 use Rattle.cluster_core.specs.declared.event.StepCall.TheVariants as call
 use Rattle.cluster_core.specs.declared.event.StepReply.TheVariants as reply
 use Rattle.cluster_core.proofs.ListLemmas.{at_append, at_in, at_within}
-use Rattle.replica_exchange.specs.Exchanges.{ask_of}
-use Rattle.session_net.specs.Messages.{exchange}
-use Rattle.session_net.specs.Runs.{slot_at}
-use Rattle.session_net.proofs.RunLemmas.{ran_nothing}
-use Rattle.told_by.specs.Hears.{Happens, HearsBy, HearsRefused, InStretch, IsJoinCall, IsMember}
-use Rattle.told_by.specs.Lines.{position_after}
-use Rattle.told_by.specs.Makes.{IsAssigned}
-use Rattle.told_by.proofs.LineLemmas.{at_front}
-use Rattle.told_by.proofs.OneLemmas.{among_back}
-use Rattle.told_runs.specs.Answers.{HearsOf, IsOfKind}
+use Rattle.node_calls.specs.replica_exchange.Exchanges.{ask_of}
+use Rattle.node_calls.specs.session_net.Messages.{exchange}
+use Rattle.node_calls.specs.session_net.Runs.{slot_at}
+use Rattle.node_calls.proofs.session_net_proofs.RunLemmas.{ran_nothing}
+use Rattle.call_lines.specs.told_by.Hears.{Happens, HearsBy, HearsRefused, InStretch, IsJoinCall, IsMember}
+use Rattle.call_lines.specs.told_by.Lines.{position_after}
+use Rattle.call_lines.specs.told_by.Makes.{IsAssigned}
+use Rattle.call_lines.proofs.told_by_proofs.LineLemmas.{at_front}
+use Rattle.call_lines.proofs.told_by_proofs.OneLemmas.{among_back}
+use Rattle.call_lines.specs.told_runs.Answers.{HearsOf, IsOfKind}
 use Rattle.transcripts.specs.Caused.{IsLeftBy as MovesLeft}
 use Rattle.transcripts.specs.Placements.{newer}
 use Rattle.transcripts.specs.Record.{inner_turns}
@@ -44,7 +44,7 @@ use Rattle.transcripts.specs.Waiting.{is_covering}
 use Rattle.call_lines.proofs.DeliverLemmas.{nothing_serves, nothing_tells}
 use Rattle.call_lines.proofs.MemberLemmas.{node_replica}
 use Rattle.call_lines.proofs.ServeLemmas.{delivered_so}
-use Rattle.cluster_members.specs.declared.members.Members.{Members}
+use Rattle.node_calls.specs.cluster_members.declared.members.Members.{Members}
 use Rattle.node_calls.specs.Begins.{Assigned, Begun, EndsBoots, IsTenureUnowned, assigned_below, begin_at, tenure_in}
 use Rattle.node_calls.specs.Nodes.{IsHeldUp}
 use Rattle.node_calls.proofs.BeginLemmas.{begun_few, few_below, tenure_node}

@@ -17,15 +17,15 @@ use Rattle.m3_model.specs.declared.rules.MetaState.{MetaState}
 use Rattle.m3_model.specs.declared.rules.Rules.{Rules}
 use Rattle.m3_model.specs.declared.turn.Turn.{Turn}
 use Rattle.placement_core.specs.NodeNames.{is_listed}
-use Rattle.told_by.specs.Lines.{position_after}
-use Rattle.told_moves.specs.Order.{IsInitAct}
+use Rattle.call_lines.specs.told_by.Lines.{position_after}
+use Rattle.call_lines.specs.told_moves.Order.{IsInitAct}
 use Rattle.transcripts.specs.Fates.{is_stopped}
 use Rattle.transcripts.specs.Placements.{placements}
 use Rattle.transcripts.specs.Record.{inner_turns}
 use Rattle.transcripts.specs.Refusals.{missing_in, missing_shard, missing_version, refusal_by}
 use Rattle.transcripts.specs.Rules.{rules_after, start_rules}
 use Rattle.transcripts.proofs.RefusalLemmas.{step_refusal}
-use Rattle.cluster_members.proofs.NameLemmas.{node_found}
+use Rattle.node_calls.proofs.cluster_members_proofs.NameLemmas.{node_found}
 use Rattle.act_lines.specs.Due.{BootstrapsAreDue, CallsAreDue, DeliveriesAreDue, FatesAreDue, FirstInitIsFree, FlagsTell, HaveLeft, InitsAreDue, IsDueNext, IsKnown, MomentsAreDue, NamespacesAreDue, OrderIsDue, RestartsAreDue, SpaceDue, StepsAreDue, StopsAreDue}
 use Rattle.act_lines.proofs.NameLemmas.{listed_where, missing_same, none_missing, unlisted_where}
 

@@ -6,11 +6,11 @@ use Rattle.m3_model.specs.declared.act.Act.TheVariants as act
 use Rattle.m3_model.specs.declared.answer.Answer.{Answer}
 use Rattle.m3_model.specs.declared.answer.Answer.TheVariants as answer
 use Rattle.m3_model.specs.declared.turn.Turn.{Turn}
-use Rattle.placement_plan.specs.First.{RefusesInitial}
-use Rattle.placement_plan.specs.declared.plan_err.PlaceErr.TheVariants as refused
-use Rattle.told_by.specs.Lines.{PlainLine}
-use Rattle.told_by.proofs.LineLemmas.{nothing_at}
-use Rattle.told_runs.specs.Lines.{ServesOne}
+use Rattle.call_lines.specs.placement_plan.First.{RefusesInitial}
+use Rattle.call_lines.specs.placement_plan.declared.plan_err.PlaceErr.TheVariants as refused
+use Rattle.call_lines.specs.told_by.Lines.{PlainLine}
+use Rattle.call_lines.proofs.told_by_proofs.LineLemmas.{nothing_at}
+use Rattle.call_lines.specs.told_runs.Lines.{ServesOne}
 use Rattle.transcripts.specs.Deliveries.{LateMessage}
 use Rattle.transcripts.specs.Record.{Record, TurnPosition}
 use Rattle.call_lines.specs.Left.{WereDelivered}

@@ -14,9 +14,9 @@ use Rattle.cluster_core.specs.declared.event.StepCall.{StepCall}
 use Rattle.cluster_core.specs.declared.event.StepReply.{StepReply}
 use Rattle.cluster_core.proofs.ExtendLemmas.{any_more}
 use Rattle.cluster_core.proofs.ListLemmas.{any_at, at_any, at_within, in_at}
-use Rattle.told_by.specs.Hears.{HasReplica, InStretch, IsNamedBy, Happens}
-use Rattle.told_by.proofs.LineLemmas.{at_front}
-use Rattle.told_by.proofs.OneLemmas.{among_back, at_back, back_at}
+use Rattle.call_lines.specs.told_by.Hears.{HasReplica, InStretch, IsNamedBy, Happens}
+use Rattle.call_lines.proofs.told_by_proofs.LineLemmas.{at_front}
+use Rattle.call_lines.proofs.told_by_proofs.OneLemmas.{among_back, at_back, back_at}
 use Rattle.act_lines.specs.Stays.{HaveNoPlace, IsNoPlace}
 
 -- ---- lists

@@ -29,22 +29,22 @@ use Rattle.cluster_core.specs.declared.event.StepCall.TheVariants as call
 use Rattle.cluster_core.specs.declared.event.StepReply.{StepReply}
 use Rattle.cluster_core.specs.declared.event.StepReply.TheVariants as reply
 use Rattle.cluster_core.proofs.ListLemmas.{at_in, at_within, in_at}
-use Rattle.replica_exchange.specs.Exchanges.{ask_of}
-use Rattle.replica_exchange.specs.declared.slot.Slot.{Slot}
-use Rattle.session_net.specs.Messages.{exchange}
-use Rattle.session_net.specs.Ready.{IsReady}
-use Rattle.session_net.specs.Runs.{Ran, slot_at}
-use Rattle.session_net.proofs.ReadyLemmas.{AreQuiet, quiet_both}
-use Rattle.told_by.specs.Clocks.{sets_rules}
-use Rattle.told_by.specs.Hears.{AnySlot, HasStep, HearsBy, HearsRefused, InStretch, IsRestartCall}
-use Rattle.told_by.specs.Lines.{IsPlain, MayChange, PlainLine, position_after}
-use Rattle.told_by.specs.Makes.{EndsRestart, IsNamedLast, MayAsk, MayHalt, MayMake}
-use Rattle.told_by.specs.Openings.{sets_seed}
-use Rattle.told_by.specs.Spans.{From}
-use Rattle.told_by.specs.Writes.{IsUnmetWrite}
-use Rattle.told_by.proofs.LeaveLemmas.{place_there}
-use Rattle.told_by.proofs.OneLemmas.{among_back, at_back, back_at}
-use Rattle.told_runs.specs.Answers.{HearsOf, IsOfKind}
+use Rattle.node_calls.specs.replica_exchange.Exchanges.{ask_of}
+use Rattle.node_calls.specs.replica_exchange.declared.slot.Slot.{Slot}
+use Rattle.node_calls.specs.session_net.Messages.{exchange}
+use Rattle.node_calls.specs.session_net.Ready.{IsReady}
+use Rattle.node_calls.specs.session_net.Runs.{Ran, slot_at}
+use Rattle.node_calls.proofs.session_net_proofs.ReadyLemmas.{AreQuiet, quiet_both}
+use Rattle.call_lines.specs.told_by.Clocks.{sets_rules}
+use Rattle.call_lines.specs.told_by.Hears.{AnySlot, HasStep, HearsBy, HearsRefused, InStretch, IsRestartCall}
+use Rattle.call_lines.specs.told_by.Lines.{IsPlain, MayChange, PlainLine, position_after}
+use Rattle.call_lines.specs.told_by.Makes.{EndsRestart, IsNamedLast, MayAsk, MayHalt, MayMake}
+use Rattle.call_lines.specs.told_by.Openings.{sets_seed}
+use Rattle.call_lines.specs.told_by.Spans.{From}
+use Rattle.call_lines.specs.told_by.Writes.{IsUnmetWrite}
+use Rattle.call_lines.proofs.told_by_proofs.LeaveLemmas.{place_there}
+use Rattle.call_lines.proofs.told_by_proofs.OneLemmas.{among_back, at_back, back_at}
+use Rattle.call_lines.specs.told_runs.Answers.{HearsOf, IsOfKind}
 use Rattle.transcripts.specs.Deliveries.{delivers_nothing}
 use Rattle.transcripts.specs.Fates.{is_stopped, stopped_by}
 use Rattle.transcripts.specs.Record.{TurnPosition, inner_turns, line_of}
@@ -53,8 +53,8 @@ use Rattle.call_lines.specs.Laws.{IsCalm, LeavesLine}
 use Rattle.call_lines.specs.Left.{AreStoppedBy, NetIsLeftBy}
 use Rattle.call_lines.proofs.KeepLemmas.{left_as_before}
 use Rattle.call_lines.proofs.ServeLemmas.{answered, delivered_so, serves_so}
-use Rattle.cluster_members.specs.declared.members.Members.{Members}
-use Rattle.cluster_members.proofs.NameLemmas.{node_found}
+use Rattle.node_calls.specs.cluster_members.declared.members.Members.{Members}
+use Rattle.node_calls.proofs.cluster_members_proofs.NameLemmas.{node_found}
 use Rattle.node_calls.specs.Halts.{IsUnrestarted, restart_at, slots_of_node, stop_at}
 use Rattle.node_calls.specs.Nodes.{IsNode, IsUnstarted, KeepsButNodes}
 use Rattle.node_calls.proofs.ListLemmas.{filter_few, flat_long}

@@ -29,11 +29,11 @@ use Rattle.cluster_core.specs.declared.event.StepCall.TheVariants as call
 use Rattle.cluster_core.specs.declared.event.StepReply.{StepReply}
 use Rattle.cluster_core.specs.declared.event.StepReply.TheVariants as reply
 use Rattle.cluster_core.proofs.ListLemmas.{at_in, at_within, in_at}
-use Rattle.replica_machine.specs.declared.machine.Began.{Began}
-use Rattle.replica_exchange.specs.declared.slot.Slot.{Slot}
-use Rattle.session_net.specs.Runs.{slot_at}
-use Rattle.session_net.proofs.ReadyLemmas.{AreQuiet, IsQuiet}
-use Rattle.cluster_members.specs.declared.members.Members.{Members}
+use Rattle.node_calls.specs.replica_machine.declared.machine.Began.{Began}
+use Rattle.node_calls.specs.replica_exchange.declared.slot.Slot.{Slot}
+use Rattle.node_calls.specs.session_net.Runs.{slot_at}
+use Rattle.node_calls.proofs.session_net_proofs.ReadyLemmas.{AreQuiet, IsQuiet}
+use Rattle.node_calls.specs.cluster_members.declared.members.Members.{Members}
 use Rattle.first_cluster.specs.Bare.{AreBare, BeginsBare}
 use Rattle.first_cluster.specs.Begins.{Said, begin_reply, begins_of}
 use Rattle.first_cluster.specs.First.{IsFirst}
@@ -43,12 +43,12 @@ use Rattle.first_cluster.proofs.BareLemmas.{first_begins_bare}
 use Rattle.first_cluster.proofs.BeginLemmas.{begins_long}
 use Rattle.first_cluster.proofs.FirstLemmas.{quiet_begins}
 use Rattle.first_cluster.proofs.PlacedSlots.{few_starts}
-use Rattle.told_by.specs.Hears.{HearsOpened, InStretch}
-use Rattle.told_by.specs.Lines.{AreSteps, InitLine, IsAskOrStep, position_after}
-use Rattle.told_by.specs.Makes.{IsAssigned, MayMake}
-use Rattle.told_runs.specs.Answers.{IsAnswered, IsDecidedBy, IsOfKind}
-use Rattle.told_runs.specs.Bounds.{writes_taken}
-use Rattle.told_runs.specs.Lines.{AddsInOrder, OpensNext, ServesOne}
+use Rattle.call_lines.specs.told_by.Hears.{HearsOpened, InStretch}
+use Rattle.call_lines.specs.told_by.Lines.{AreSteps, InitLine, IsAskOrStep, position_after}
+use Rattle.call_lines.specs.told_by.Makes.{IsAssigned, MayMake}
+use Rattle.call_lines.specs.told_runs.Answers.{IsAnswered, IsDecidedBy, IsOfKind}
+use Rattle.call_lines.specs.told_runs.Bounds.{writes_taken}
+use Rattle.call_lines.specs.told_runs.Lines.{AddsInOrder, OpensNext, ServesOne}
 use Rattle.transcripts.specs.Caused.{acts_in, refusal_after}
 use Rattle.transcripts.specs.Deliveries.{LateMessage}
 use Rattle.transcripts.specs.Faults.{Fault}

@@ -31,22 +31,22 @@ use Rattle.cluster_core.specs.declared.event.Event.TheVariants as event
 use Rattle.cluster_core.specs.declared.event.StepCall.{StepCall}
 use Rattle.cluster_core.specs.declared.event.StepReply.{StepReply}
 use Rattle.cluster_core.proofs.ListLemmas.{any_at, at_in, at_same, in_at}
-use Rattle.told_by.specs.Hears.{HasReplica, IsNamedBy}
-use Rattle.replica_exchange.specs.declared.member.Member.{Member}
-use Rattle.replica_exchange.specs.declared.slot.Slot.{Slot}
-use Rattle.replica_calls.specs.Calls.{first_member}
-use Rattle.session_net.specs.Runs.{IsStepped, Step, slot_at, steps_of}
-use Rattle.session_net.proofs.ReadyLemmas.{there_after}
-use Rattle.cluster_members.specs.Kept.{IsKept}
-use Rattle.cluster_members.specs.declared.members.Members.{Members}
+use Rattle.call_lines.specs.told_by.Hears.{HasReplica, IsNamedBy}
+use Rattle.node_calls.specs.replica_exchange.declared.member.Member.{Member}
+use Rattle.node_calls.specs.replica_exchange.declared.slot.Slot.{Slot}
+use Rattle.node_calls.specs.replica_calls.Calls.{first_member}
+use Rattle.node_calls.specs.session_net.Runs.{IsStepped, Step, slot_at, steps_of}
+use Rattle.node_calls.proofs.session_net_proofs.ReadyLemmas.{there_after}
+use Rattle.node_calls.specs.cluster_members.Kept.{IsKept}
+use Rattle.node_calls.specs.cluster_members.declared.members.Members.{Members}
 use Rattle.first_cluster.specs.Begins.{begins_of}
 use Rattle.first_cluster.specs.First.{IsFirst, opening_of}
 use Rattle.first_cluster.specs.Slots.{slots_of, start_at, starts_of}
 use Rattle.first_cluster.proofs.FirstLemmas.{first_ready}
 use Rattle.first_cluster.proofs.PlacedSlots.{from_start, node_low, slot_start, start_slot, tenure_given}
 use Rattle.first_cluster.proofs.SlotLists.{in_or_out}
-use Rattle.told_by.proofs.RuleLemmas.{after_lines}
-use Rattle.told_by.proofs.TurnLemmas.{inner-append}
+use Rattle.call_lines.proofs.told_by_proofs.RuleLemmas.{after_lines}
+use Rattle.call_lines.proofs.told_by_proofs.TurnLemmas.{inner-append}
 use Rattle.transcripts.specs.Fates.{Numbering, calls_in, client_acts, fate_in, fates_set, numbering_after, numbering_by}
 use Rattle.transcripts.specs.Placements.{later_placement, placement_after, placements, printed, seed_after, seed_by, start_placement}
 use Rattle.transcripts.proofs.PlacementLemmas.{stood_known}

@@ -26,8 +26,8 @@ use Rattle.placement_core.proofs.ListLemmas.{at_within}
 use Rattle.transcripts.specs.Fates.{Numbering, calls_in, client_acts, fate_in, fates_set, is_fate_of, is_stopped, numbering_after, numbering_by, stopped_by}
 use Rattle.transcripts.specs.Record.{inner_turns, line_of}
 use Rattle.call_lines.proofs.KeepLemmas.{numbering_next}
-use Rattle.cluster_members.specs.Names.{AreNumbered}
-use Rattle.cluster_members.proofs.NameLemmas.{node_found}
+use Rattle.node_calls.specs.cluster_members.Names.{AreNumbered}
+use Rattle.node_calls.proofs.cluster_members_proofs.NameLemmas.{node_found}
 use Rattle.act_lines.specs.Quiet.{KeepsStops}
 use Rattle.act_lines.specs.Stands.{IsUnnamed, KnowsNodes}
 use Rattle.act_lines.proofs.NameLemmas.{fate_test}

@@ -14,10 +14,10 @@ use Rattle.m3_model.specs.declared.turn.Turn.{Turn}
 use Rattle.m3_model.proofs.MemberLemmas.{IsIn-append_cases}
 use Rattle.m3_outside.specs.declared.disk.Disk.{Ghosts}
 use Rattle.net_plan.specs.declared.late_write.LateWrite.{LateWrite}
-use Rattle.session_net.specs.declared.net.Net.{Net}
-use Rattle.told_by.proofs.LineLemmas.{position_stays}
-use Rattle.told_by.proofs.RuleLemmas.{after_lines}
-use Rattle.told_by.proofs.TurnLemmas.{inner-append}
+use Rattle.node_calls.specs.session_net.declared.net.Net.{Net}
+use Rattle.call_lines.proofs.told_by_proofs.LineLemmas.{position_stays}
+use Rattle.call_lines.proofs.told_by_proofs.RuleLemmas.{after_lines}
+use Rattle.call_lines.proofs.told_by_proofs.TurnLemmas.{inner-append}
 use Rattle.transcripts.specs.Deliveries.{LateMessage, delivers_nothing}
 use Rattle.transcripts.specs.Fates.{calls_in, client_acts, fates_set, fate_in, numbering_after, numbering_by}
 use Rattle.transcripts.specs.Placements.{later_placement, placement_after, printed, seed_after, seed_by, start_placement}

@@ -21,8 +21,8 @@ use Rattle.placement_core.specs.NodeNames.{is_listed}
 use Rattle.placement_core.proofs.ListLemmas.{same_at}
 use Rattle.transcripts.specs.Fates.{fate_in, is_fate_of}
 use Rattle.transcripts.specs.Refusals.{missing_in}
-use Rattle.cluster_members.specs.Names.{AreNumbered, first_missing, node_named}
-use Rattle.cluster_members.proofs.NameLemmas.{NamedNode, node_found, same_node}
+use Rattle.node_calls.specs.cluster_members.Names.{AreNumbered, first_missing, node_named}
+use Rattle.node_calls.proofs.cluster_members_proofs.NameLemmas.{NamedNode, node_found, same_node}
 
 -- ---- listed nodes
 

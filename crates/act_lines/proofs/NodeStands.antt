@@ -17,16 +17,16 @@ use Rattle.cluster_core.specs.Earlier.{last_place}
 use Rattle.cluster_core.specs.declared.event.Event.{Event}
 use Rattle.cluster_core.proofs.ListLemmas.{at_some}
 use Rattle.placement_core.proofs.ListLemmas.{same_at}
-use Rattle.replica_exchange.specs.declared.slot.Slot.{Slot}
-use Rattle.session_net.specs.Runs.{slot_at}
-use Rattle.told_by.specs.Hears.{HasReplica, IsNamedBy}
-use Rattle.told_by.specs.Makes.{IsNamedLast}
-use Rattle.told_by.proofs.LeaveLemmas.{place_there}
+use Rattle.node_calls.specs.replica_exchange.declared.slot.Slot.{Slot}
+use Rattle.node_calls.specs.session_net.Runs.{slot_at}
+use Rattle.call_lines.specs.told_by.Hears.{HasReplica, IsNamedBy}
+use Rattle.call_lines.specs.told_by.Makes.{IsNamedLast}
+use Rattle.call_lines.proofs.told_by_proofs.LeaveLemmas.{place_there}
 use Rattle.transcripts.specs.Fates.{OfNode, is_stopped, stopped_by}
 use Rattle.transcripts.specs.Record.{inner_turns, line_of}
 use Rattle.call_lines.specs.Left.{AreStoppedBy}
-use Rattle.cluster_members.specs.declared.members.Members.{Members}
-use Rattle.cluster_members.proofs.NameLemmas.{NamedNode, node_found, same_node}
+use Rattle.node_calls.specs.cluster_members.declared.members.Members.{Members}
+use Rattle.node_calls.proofs.cluster_members_proofs.NameLemmas.{NamedNode, node_found, same_node}
 use Rattle.node_calls.specs.Halts.{slots_of_node}
 use Rattle.node_calls.specs.Nodes.{IsNode}
 use Rattle.node_calls.proofs.ListLemmas.{set_elsewhere, set_here}

@@ -20,21 +20,21 @@ use Rattle.m3_outside.specs.declared.disk.Disk.{Ghosts}
 use Rattle.cluster_core.specs.declared.event.Event.{Event}
 use Rattle.cluster_core.specs.declared.event.Event.TheVariants as event
 use Rattle.cluster_core.specs.declared.event.StepCall.TheVariants as call
-use Rattle.session_net.specs.Writes.{most_added, shard_of_point}
-use Rattle.session_net.specs.declared.net.Net.{Net}
-use Rattle.told_by.specs.Hears.{HearsBy, InStretch}
-use Rattle.told_by.specs.Lines.{PlainLine, position_after}
-use Rattle.told_by.specs.Clocks.{sets_rules}
-use Rattle.told_by.specs.Openings.{sets_seed}
-use Rattle.told_by.specs.Writes.{IsUnmetWrite}
-use Rattle.told_runs.specs.Answers.{HearsOf, IsAnswered, IsDecidedBy, MayLackRoom}
+use Rattle.node_calls.specs.session_net.Writes.{most_added, shard_of_point}
+use Rattle.node_calls.specs.session_net.declared.net.Net.{Net}
+use Rattle.call_lines.specs.told_by.Hears.{HearsBy, InStretch}
+use Rattle.call_lines.specs.told_by.Lines.{PlainLine, position_after}
+use Rattle.call_lines.specs.told_by.Clocks.{sets_rules}
+use Rattle.call_lines.specs.told_by.Openings.{sets_seed}
+use Rattle.call_lines.specs.told_by.Writes.{IsUnmetWrite}
+use Rattle.call_lines.specs.told_runs.Answers.{HearsOf, IsAnswered, IsDecidedBy, MayLackRoom}
 use Rattle.transcripts.specs.Caused.{refusal_after}
 use Rattle.transcripts.specs.Deliveries.{LateMessage}
 use Rattle.transcripts.specs.Fates.{is_stopped}
 use Rattle.transcripts.specs.Placements.{placement_after, placements, printed, start_placement}
 use Rattle.transcripts.specs.Record.{TurnPosition, inner_turns}
 use Rattle.transcripts.specs.Rules.{rules_after, start_rules}
-use Rattle.placement_acts.specs.Acts.{answer_if, is_known, is_step_act, versions_due}
+use Rattle.call_lines.specs.placement_acts.Acts.{answer_if, is_known, is_step_act, versions_due}
 use Rattle.transcripts.specs.Refusals.{is_out_of_order, kept_versions, limit_reached, lowered_moment, missing_name, names_reached, refusal_by, wrong_state}
 use Rattle.call_lines.proofs.DeliverLemmas.{none_behind, nothing_at, nothing_tells, prints_none}
 use Rattle.call_lines.proofs.ServeLemmas.{delivered_so, few_members, may_lack, serves_so}

@@ -19,7 +19,7 @@ use Rattle.m3_model.proofs.Lists.{IsIn-take}
 use Rattle.m3_outside.specs.DiskState.{DiskState, EachImage}
 use Rattle.m3_outside.specs.Files.{Files}
 use Rattle.m3_outside.specs.declared.disk.Disk.{Ghosts}
-use Rattle.shard_files.proofs.FilesHoldLemmas.{files_hold_one}
+use Rattle.node_calls.proofs.shard_files_proofs.FilesHoldLemmas.{files_hold_one}
 use Rattle.cluster_core.specs.Earlier.{HasTenure, last_place}
 use Rattle.cluster_core.specs.Lists.{At}
 use Rattle.cluster_core.specs.Replicas.{after, fresh, replica, step_of}
@@ -37,22 +37,22 @@ use Rattle.placement_core.specs.Lawful.{IsLawful}
 use Rattle.placement_core.specs.Shards.{Shard}
 use Rattle.placement_core.proofs.ListLemmas.{IsIn-from_Any, index-from_IsIn}
 use Rattle.placement_core.proofs.OrderLemmas.{apart_of}
-use Rattle.replica_machine.specs.Machines.{IsMachineOf, MachineState}
-use Rattle.replica_machine.specs.Openings.{AllSound, IsUpTo}
-use Rattle.replica_machine.specs.Steps.{IsStep}
-use Rattle.replica_machine.proofs.OpeningLemmas.{first_begin_is_as_made, stays_as_made}
-use Rattle.replica_exchange.specs.Exchanges.{ask_of}
-use Rattle.replica_exchange.specs.declared.member.Member.{Member}
-use Rattle.replica_exchange.specs.declared.slot.Slot.{Slot}
-use Rattle.replica_calls.specs.Calls.{Tracked}
-use Rattle.session_net.specs.Runs.{IsStepped, Ran, TakesSteps, slot_at, step_in, steps_of}
-use Rattle.told_by.specs.Makes.{IsAssigned}
-use Rattle.told_by.proofs.LeaveLemmas.{place_there}
-use Rattle.told_by.proofs.OneLemmas.{at_back}
-use Rattle.told_moves.proofs.SlotLemmas.{Tries, tries_by}
-use Rattle.told_runs.specs.Lines.{OpensNext}
+use Rattle.node_calls.specs.replica_machine.Machines.{IsMachineOf, MachineState}
+use Rattle.node_calls.specs.replica_machine.Openings.{AllSound, IsUpTo}
+use Rattle.node_calls.specs.replica_machine.Steps.{IsStep}
+use Rattle.node_calls.proofs.replica_machine_proofs.OpeningLemmas.{first_begin_is_as_made, stays_as_made}
+use Rattle.node_calls.specs.replica_exchange.Exchanges.{ask_of}
+use Rattle.node_calls.specs.replica_exchange.declared.member.Member.{Member}
+use Rattle.node_calls.specs.replica_exchange.declared.slot.Slot.{Slot}
+use Rattle.node_calls.specs.replica_calls.Calls.{Tracked}
+use Rattle.node_calls.specs.session_net.Runs.{IsStepped, Ran, TakesSteps, slot_at, step_in, steps_of}
+use Rattle.call_lines.specs.told_by.Makes.{IsAssigned}
+use Rattle.call_lines.proofs.told_by_proofs.LeaveLemmas.{place_there}
+use Rattle.call_lines.proofs.told_by_proofs.OneLemmas.{at_back}
+use Rattle.call_lines.proofs.told_moves_proofs.SlotLemmas.{Tries, tries_by}
+use Rattle.call_lines.specs.told_runs.Lines.{OpensNext}
 use Rattle.transcripts.specs.Moves.{IsLeftFence}
-use Rattle.cluster_members.specs.declared.members.Members.{Members}
+use Rattle.node_calls.specs.cluster_members.declared.members.Members.{Members}
 use Rattle.node_calls.specs.Begins.{IsTenureUnowned}
 use Rattle.act_lines.specs.Stays.{HaveNoPlace}
 use Rattle.act_lines.proofs.GrowLemmas.{last_still, take_behind}

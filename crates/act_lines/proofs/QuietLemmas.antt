@@ -14,12 +14,12 @@ use Rattle.m3_model.specs.declared.turn.Request.TheVariants as request
 use Rattle.m3_model.specs.declared.turn.Turn.{Turn}
 use Rattle.m3_outside.specs.DiskState.{DiskState}
 use Rattle.cluster_core.specs.declared.event.Event.{Event}
-use Rattle.replica_exchange.specs.declared.member.Member.{Member}
-use Rattle.replica_exchange.specs.declared.slot.Slot.{Slot}
-use Rattle.replica_calls.specs.Calls.{Tracked}
-use Rattle.session_net.specs.Runs.{IsStepped, Ran, steps_of}
-use Rattle.session_net.proofs.ReadyLemmas.{there_after}
-use Rattle.told_by.proofs.TurnLemmas.{inner-append}
+use Rattle.node_calls.specs.replica_exchange.declared.member.Member.{Member}
+use Rattle.node_calls.specs.replica_exchange.declared.slot.Slot.{Slot}
+use Rattle.node_calls.specs.replica_calls.Calls.{Tracked}
+use Rattle.node_calls.specs.session_net.Runs.{IsStepped, Ran, steps_of}
+use Rattle.node_calls.proofs.session_net_proofs.ReadyLemmas.{there_after}
+use Rattle.call_lines.proofs.told_by_proofs.TurnLemmas.{inner-append}
 use Rattle.transcripts.specs.Fates.{fates_set, is_stopped, stopped_by}
 use Rattle.transcripts.specs.Placements.{printed, seed_by}
 use Rattle.transcripts.specs.Record.{inner_turns, line_of}

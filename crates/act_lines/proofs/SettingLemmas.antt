@@ -26,14 +26,14 @@ use Rattle.cluster_core.specs.declared.event.StepReply.{StepReply}
 use Rattle.net_plan.specs.Fates.{FateMap, fate_of}
 use Rattle.net_plan.specs.declared.fate_key.FateKey.{FateKey}
 use Rattle.net_plan.proofs.RowLemmas.{get-fates}
-use Rattle.replica_calls.specs.Calls.{Tracked}
-use Rattle.session_net.specs.Ready.{IsReady}
-use Rattle.told_by.specs.Clocks.{sets_rules}
-use Rattle.told_by.specs.Hears.{HearsBy, InStretch}
-use Rattle.told_by.specs.Lines.{AreSteps, IsAskOrStep, ClockLine, PlainLine, position_after}
-use Rattle.told_by.specs.Makes.{MayAsk, MayMake}
-use Rattle.told_by.proofs.OneLemmas.{among_back}
-use Rattle.told_runs.specs.Answers.{IsOfKind}
+use Rattle.node_calls.specs.replica_calls.Calls.{Tracked}
+use Rattle.node_calls.specs.session_net.Ready.{IsReady}
+use Rattle.call_lines.specs.told_by.Clocks.{sets_rules}
+use Rattle.call_lines.specs.told_by.Hears.{HearsBy, InStretch}
+use Rattle.call_lines.specs.told_by.Lines.{AreSteps, IsAskOrStep, ClockLine, PlainLine, position_after}
+use Rattle.call_lines.specs.told_by.Makes.{MayAsk, MayMake}
+use Rattle.call_lines.proofs.told_by_proofs.OneLemmas.{among_back}
+use Rattle.call_lines.specs.told_runs.Answers.{IsOfKind}
 use Rattle.transcripts.specs.Fates.{Numbering, calls_in, client_acts, fate_in, fates_set, numbering_after, numbering_by}
 use Rattle.transcripts.specs.Placements.{seed_after, seed_by}
 use Rattle.transcripts.specs.Record.{inner_turns, line_of}
@@ -43,9 +43,9 @@ use Rattle.call_lines.specs.Left.{AreSlots, FareAsSet, HoldsBack, NetIsLeftBy}
 use Rattle.call_lines.proofs.DeliverLemmas.{none_behind, nothing_at, prints_none}
 use Rattle.call_lines.proofs.KeepLemmas.{holds_on, numbering_next, place_next, rules_next, seed_next}
 use Rattle.call_lines.proofs.ServeLemmas.{answered, delivered_so, serves_so}
-use Rattle.cluster_members.specs.Steps.{SetsRules, clock_events}
-use Rattle.cluster_members.specs.declared.members.Members.{Members}
-use Rattle.cluster_members.proofs.ClockLemmas.{ready_ruled}
+use Rattle.node_calls.specs.cluster_members.Steps.{SetsRules, clock_events}
+use Rattle.node_calls.specs.cluster_members.declared.members.Members.{Members}
+use Rattle.node_calls.proofs.cluster_members_proofs.ClockLemmas.{ready_ruled}
 use Rattle.act_lines.specs.Due.{HaveLeft, IsDueNext}
 use Rattle.act_lines.specs.Settings.{FatesTell, GoesOn, MovedTells, NamedTells}
 use Rattle.act_lines.specs.Quiet.{KeepsStops}

@@ -17,20 +17,20 @@ use Rattle.cluster_core.specs.declared.event.Event.TheVariants as event
 use Rattle.cluster_core.specs.declared.event.StepCall.{StepCall}
 use Rattle.cluster_core.specs.declared.event.StepReply.{StepReply}
 use Rattle.cluster_core.proofs.ExtendLemmas.{any_more}
-use Rattle.replica_exchange.specs.declared.slot.Slot.{Slot}
-use Rattle.session_net.specs.Ready.{IsReady, Places}
-use Rattle.session_net.specs.Runs.{Ran, slot_at}
-use Rattle.told_by.specs.Hears.{HasReplica, IsNamedBy}
-use Rattle.told_by.proofs.BrokenLemmas.{turn_among}
-use Rattle.told_by.proofs.TurnLemmas.{inner-append}
+use Rattle.node_calls.specs.replica_exchange.declared.slot.Slot.{Slot}
+use Rattle.node_calls.specs.session_net.Ready.{IsReady, Places}
+use Rattle.node_calls.specs.session_net.Runs.{Ran, slot_at}
+use Rattle.call_lines.specs.told_by.Hears.{HasReplica, IsNamedBy}
+use Rattle.call_lines.proofs.told_by_proofs.BrokenLemmas.{turn_among}
+use Rattle.call_lines.proofs.told_by_proofs.TurnLemmas.{inner-append}
 use Rattle.transcripts.specs.Fates.{stopped_by}
 use Rattle.transcripts.specs.Placements.{later_placement, placement_after, placements, printed}
 use Rattle.transcripts.proofs.PlacementLemmas.{known_more, known_printed}
 use Rattle.transcripts.specs.Record.{InnerTurn, IsTurnPosition, TurnPosition, inner_turns, line_of}
 use Rattle.call_lines.specs.Left.{AreSlots, AreStoppedBy, NetIsLeftBy}
 use Rattle.call_lines.proofs.KeepLemmas.{fates_on, left_as_before, rules_on}
-use Rattle.cluster_members.specs.Kept.{IsKept, PastServes}
-use Rattle.cluster_members.specs.declared.members.Members.{Members}
+use Rattle.node_calls.specs.cluster_members.Kept.{IsKept, PastServes}
+use Rattle.node_calls.specs.cluster_members.declared.members.Members.{Members}
 use Rattle.act_lines.specs.Quiet.{KeepsStops}
 use Rattle.act_lines.specs.Stands.{AreKept, HasSlots, KnowsNodes, NoneStands, PlacesAreKept, ClusterStands}
 use Rattle.act_lines.specs.Stays.{HaveNoPlace, NoneIsPlaced, PrintsNoOther, StandsStill, StandsUnchanged, StaysUnmade}

@@ -9,12 +9,12 @@ use Rattle.m3_model.specs.declared.answer.Answer.TheVariants as answer
 use Rattle.m3_model.specs.declared.placement.Instance.{Instance}
 use Rattle.m3_model.specs.declared.placement.Placement.{Placement}
 use Rattle.m3_model.specs.declared.turn.Turn.{Turn}
-use Rattle.placement_plan.specs.First.{IsFirstPlacement, first_instances}
-use Rattle.session_net.specs.Runs.{slot_at}
+use Rattle.call_lines.specs.placement_plan.First.{IsFirstPlacement, first_instances}
+use Rattle.node_calls.specs.session_net.Runs.{slot_at}
 use Rattle.first_cluster.proofs.PlacedSlots.{shard_low}
-use Rattle.told_by.specs.Lines.{PlainLine}
-use Rattle.told_by.proofs.LineLemmas.{nothing_at}
-use Rattle.told_runs.specs.Lines.{ServesOne}
+use Rattle.call_lines.specs.told_by.Lines.{PlainLine}
+use Rattle.call_lines.proofs.told_by_proofs.LineLemmas.{nothing_at}
+use Rattle.call_lines.specs.told_runs.Lines.{ServesOne}
 use Rattle.transcripts.specs.Caused.{NamesNode}
 use Rattle.transcripts.specs.Deliveries.{LateMessage}
 use Rattle.transcripts.specs.Faults.{Fault, Taking}

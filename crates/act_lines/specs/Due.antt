@@ -15,17 +15,17 @@ use Rattle.m3_model.specs.declared.point.Matcher.{Matcher}
 use Rattle.m3_model.specs.declared.rules.MetaState.{MetaState}
 use Rattle.m3_model.specs.declared.rules.Rules.{Rules}
 use Rattle.m3_model.specs.declared.turn.Turn.{Turn}
-use Rattle.placement_acts.specs.Acts.{is_step_act, refusal_due}
+use Rattle.call_lines.specs.placement_acts.Acts.{is_step_act, refusal_due}
 use Rattle.net_plan.specs.Fates.{Item}
-use Rattle.told_by.specs.Lines.{position_after}
-use Rattle.told_moves.specs.Order.{IsInitAct}
+use Rattle.call_lines.specs.told_by.Lines.{position_after}
+use Rattle.call_lines.specs.told_moves.Order.{IsInitAct}
 use Rattle.transcripts.specs.Caused.{kept_after, refusal_after}
 use Rattle.transcripts.specs.Fates.{is_stopped}
 use Rattle.transcripts.specs.Placements.{placement_after, placements, start_placement}
 use Rattle.transcripts.specs.Record.{inner_turns}
 use Rattle.transcripts.specs.Rules.{rules_after, start_rules}
 use Rattle.call_lines.specs.Left.{AreStoppedBy}
-use Rattle.cluster_members.specs.Names.{AreNumbered, first_missing, node_named}
+use Rattle.node_calls.specs.cluster_members.Names.{AreNumbered, first_missing, node_named}
 
 -- this refusal is due of the act in the next line, or none is
 abbrev pub IsDueNext : Option MetaState → List Turn → Act → Answer → Option Answer → Type 0

@@ -8,14 +8,14 @@ use Rattle.m3_model.specs.declared.turn.Turn.{Turn}
 use Rattle.m3_outside.specs.Depots.{Depot, TellAll}
 use Rattle.m3_outside.specs.DiskState.{DiskState}
 use Rattle.m3_outside.specs.declared.disk.Disk.{Ghosts}
-use Rattle.placement_plan.specs.First.{RefusesInitial}
-use Rattle.placement_plan.specs.declared.plan_err.PlaceErr.TheVariants as refused
+use Rattle.call_lines.specs.placement_plan.First.{RefusesInitial}
+use Rattle.call_lines.specs.placement_plan.declared.plan_err.PlaceErr.TheVariants as refused
 use Rattle.cluster_core.specs.declared.event.Event.{Event}
-use Rattle.cluster_members.specs.declared.members.Members.{Members}
+use Rattle.node_calls.specs.cluster_members.declared.members.Members.{Members}
 use Rattle.first_cluster.specs.Bare.{AreBare}
 use Rattle.first_cluster.specs.First.{IsFirst, IsDiskUntaken}
-use Rattle.told_by.specs.Lines.{InitLine, PlainLine}
-use Rattle.told_runs.specs.Lines.{ServesOne, delivered_on}
+use Rattle.call_lines.specs.told_by.Lines.{InitLine, PlainLine}
+use Rattle.call_lines.specs.told_runs.Lines.{ServesOne, delivered_on}
 use Rattle.transcripts.specs.Deliveries.{LateMessage}
 use Rattle.transcripts.specs.Faults.{Fault, Taking}
 use Rattle.transcripts.specs.Record.{Record, TurnPosition, line_of}

@@ -8,10 +8,10 @@ use Rattle.cluster_core.specs.declared.event.Event.{Event}
 use Rattle.cluster_core.specs.declared.event.Event.TheVariants as event
 use Rattle.cluster_core.specs.declared.event.StepCall.TheVariants as call
 use Rattle.cluster_core.specs.declared.event.StepReply.{StepReply}
-use Rattle.replica_calls.specs.Calls.{Tracked}
-use Rattle.session_net.specs.Ready.{IsReady}
-use Rattle.session_net.specs.Runs.{Ran}
-use Rattle.cluster_members.specs.declared.members.Members.{Members}
+use Rattle.node_calls.specs.replica_calls.Calls.{Tracked}
+use Rattle.node_calls.specs.session_net.Ready.{IsReady}
+use Rattle.node_calls.specs.session_net.Runs.{Ran}
+use Rattle.node_calls.specs.cluster_members.declared.members.Members.{Members}
 use Rattle.act_lines.specs.Stays.{HaveNoPlace}
 use Rattle.act_lines.specs.Opens.{IsGivenNow, MayOpenSlots}
 

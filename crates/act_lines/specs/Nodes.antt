@@ -11,13 +11,13 @@ use Rattle.m3_model.specs.declared.turn.Turn.{Turn}
 use Rattle.m3_outside.specs.DiskState.{DiskState}
 use Rattle.m3_outside.specs.declared.disk.Disk.{Ghosts}
 use Rattle.cluster_core.specs.declared.event.Event.{Event}
-use Rattle.told_by.specs.Lines.{PlainLine}
-use Rattle.told_runs.specs.Lines.{ServesOne, delivered_on}
+use Rattle.call_lines.specs.told_by.Lines.{PlainLine}
+use Rattle.call_lines.specs.told_runs.Lines.{ServesOne, delivered_on}
 use Rattle.transcripts.specs.Deliveries.{LateMessage}
 use Rattle.transcripts.specs.Record.{Record, TurnPosition, line_of}
 use Rattle.call_lines.specs.Laws.{IsNotRefused, LeavesLine}
 use Rattle.call_lines.specs.Left.{WereDelivered}
-use Rattle.cluster_members.specs.declared.members.Members.{Members}
+use Rattle.node_calls.specs.cluster_members.declared.members.Members.{Members}
 use Rattle.node_calls.specs.Nodes.{IsBootstrapAnswer, IsRestarted, IsStopped}
 use Rattle.act_lines.specs.Stands.{ClusterStands}
 use Rattle.act_lines.specs.Opens.{MayOpenSlots}

@@ -8,14 +8,14 @@ use Rattle.m3_model.specs.declared.rules.MetaState.{MetaState}
 use Rattle.m3_outside.specs.Depots.{TellAll}
 use Rattle.m3_outside.specs.DiskState.{DiskState, EachImage, IsLawfulDisk}
 use Rattle.m3_outside.specs.Files.{Files}
-use Rattle.shard_files.specs.FilesHold.{FilesHold}
+use Rattle.node_calls.specs.shard_files.FilesHold.{FilesHold}
 use Rattle.cluster_core.specs.Earlier.{last_place}
 use Rattle.cluster_core.specs.Replicas.{replica}
 use Rattle.cluster_core.specs.declared.event.Event.{Event}
-use Rattle.replica_exchange.specs.declared.member.Member.{Member}
-use Rattle.replica_exchange.specs.declared.slot.Slot.{Slot}
-use Rattle.replica_calls.specs.Calls.{AreMembersOf, Tracked}
-use Rattle.told_by.specs.Makes.{IsAssigned}
+use Rattle.node_calls.specs.replica_exchange.declared.member.Member.{Member}
+use Rattle.node_calls.specs.replica_exchange.declared.slot.Slot.{Slot}
+use Rattle.node_calls.specs.replica_calls.Calls.{AreMembersOf, Tracked}
+use Rattle.call_lines.specs.told_by.Makes.{IsAssigned}
 use Rattle.transcripts.specs.Moves.{IsLeftFence}
 
 -- the placement that stands gives the node the shard with this tenure

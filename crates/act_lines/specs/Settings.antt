@@ -15,19 +15,19 @@ use Rattle.m3_outside.specs.DiskState.{DiskState}
 use Rattle.m3_outside.specs.declared.disk.Disk.{Ghosts}
 use Rattle.cluster_core.specs.declared.event.Event.{Event}
 use Rattle.net_plan.specs.Fates.{Item, fates_of}
-use Rattle.replica_exchange.specs.MachineCalls.{HasRoom}
-use Rattle.replica_exchange.specs.declared.call_id.CallId.{CallId}
-use Rattle.session_net.specs.Deliveries.{IsUndelivered}
-use Rattle.session_net.specs.Ready.{IsCallable}
-use Rattle.session_net.specs.Writes.{IsRefused}
-use Rattle.session_net.specs.declared.net.Net.{Net}
-use Rattle.session_net.specs.declared.session_err.SessionErr.TheVariants as err
-use Rattle.told_by.specs.Lines.{ClockLine, PlainLine}
+use Rattle.node_calls.specs.replica_exchange.MachineCalls.{HasRoom}
+use Rattle.node_calls.specs.replica_exchange.declared.call_id.CallId.{CallId}
+use Rattle.node_calls.specs.session_net.Deliveries.{IsUndelivered}
+use Rattle.node_calls.specs.session_net.Ready.{IsCallable}
+use Rattle.node_calls.specs.session_net.Writes.{IsRefused}
+use Rattle.node_calls.specs.session_net.declared.net.Net.{Net}
+use Rattle.node_calls.specs.session_net.declared.session_err.SessionErr.TheVariants as err
+use Rattle.call_lines.specs.told_by.Lines.{ClockLine, PlainLine}
 use Rattle.transcripts.specs.Record.{line_of}
 use Rattle.call_lines.specs.Laws.{Kind, LeavesServed}
-use Rattle.cluster_members.specs.Names.{AreNumbered}
-use Rattle.cluster_members.specs.Steps.{IsMoved, IsSpaceAdded}
-use Rattle.cluster_members.specs.declared.members.Members.{Members}
+use Rattle.node_calls.specs.cluster_members.Names.{AreNumbered}
+use Rattle.node_calls.specs.cluster_members.Steps.{IsMoved, IsSpaceAdded}
+use Rattle.node_calls.specs.cluster_members.declared.members.Members.{Members}
 use Rattle.act_lines.specs.Due.{IsDueNext}
 use Rattle.act_lines.specs.Quiet.{DeliversNone, SetsNone}
 use Rattle.act_lines.specs.Stands.{ClusterStands}

@@ -9,19 +9,19 @@ use Rattle.m3_model.specs.declared.turn.Turn.{Turn}
 use Rattle.m3_outside.specs.declared.disk.Disk.{Ghosts}
 use Rattle.cluster_core.specs.Earlier.{HasTenure}
 use Rattle.cluster_core.specs.declared.event.Event.TheVariants as event
-use Rattle.replica_exchange.specs.declared.slot.Slot.{Slot}
+use Rattle.node_calls.specs.replica_exchange.declared.slot.Slot.{Slot}
 use Rattle.net_plan.specs.Fates.{FateMap, fate_of}
-use Rattle.session_net.specs.Ready.{IsReady}
-use Rattle.session_net.specs.Runs.{slot_at}
-use Rattle.told_by.specs.Hears.{HasReplica, IsNamedBy}
+use Rattle.node_calls.specs.session_net.Ready.{IsReady}
+use Rattle.node_calls.specs.session_net.Runs.{slot_at}
+use Rattle.call_lines.specs.told_by.Hears.{HasReplica, IsNamedBy}
 use Rattle.transcripts.specs.Caused.{kept_after}
 use Rattle.transcripts.specs.Fates.{fate_in, is_stopped, numbering_after}
 use Rattle.transcripts.specs.Placements.{placements, printed}
 use Rattle.transcripts.specs.Record.{InnerTurn, inner_turns}
 use Rattle.transcripts.specs.Rules.{rules_after, start_rules}
 use Rattle.call_lines.specs.Left.{AreSlots, AreStoppedBy, NetIsLeftBy}
-use Rattle.cluster_members.specs.Kept.{IsKept, PastServes}
-use Rattle.cluster_members.specs.declared.members.Members.{Members}
+use Rattle.node_calls.specs.cluster_members.Kept.{IsKept, PastServes}
+use Rattle.node_calls.specs.cluster_members.declared.members.Members.{Members}
 
 -- No cluster stands after these turns of a run that found nothing: none of them printed a placement, and nothing was set or stopped.
 pub record NoneStands (turns : List Turn) : Type 0 where

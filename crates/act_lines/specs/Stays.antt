@@ -12,14 +12,14 @@ use Rattle.cluster_core.specs.declared.event.Event.{Event}
 use Rattle.cluster_core.specs.declared.event.Event.TheVariants as event
 use Rattle.cluster_core.specs.declared.event.StepCall.{StepCall}
 use Rattle.cluster_core.specs.declared.event.StepReply.{StepReply}
-use Rattle.session_net.specs.Ready.{IsReady}
-use Rattle.session_net.specs.Runs.{Ran, slot_at}
+use Rattle.node_calls.specs.session_net.Ready.{IsReady}
+use Rattle.node_calls.specs.session_net.Runs.{Ran, slot_at}
 use Rattle.transcripts.specs.Fates.{stopped_by}
 use Rattle.transcripts.specs.Placements.{placement_after, printed}
 use Rattle.transcripts.specs.Record.{IsTurnPosition, TurnPosition, inner_turns, line_of}
 use Rattle.call_lines.specs.Keeps.{SetsNothing}
 use Rattle.call_lines.specs.Left.{NetIsLeftBy}
-use Rattle.cluster_members.specs.declared.members.Members.{Members}
+use Rattle.node_calls.specs.cluster_members.declared.members.Members.{Members}
 use Rattle.act_lines.specs.Quiet.{DeliversNone, KeepsStops, SetsNone}
 use Rattle.act_lines.specs.Stands.{ClusterStands, KnowsNodes, NoneStands}
 

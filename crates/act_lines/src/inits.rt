@@ -1,8 +1,8 @@
 //! What `init` leaves of the list tells of its turn.
 ghost use Rattle.act_lines.specs.Inits.{FirstStands, FirstTells, LackingGroupsTell, UntakenTells};
 
-use cluster_members::Members;
 use m3_outside::Disk;
+use node_calls::cluster_members::Members;
 
 /// The events of a first cluster tell of the line of the `init` that made it, and serve it; and it stands after the line.
 pub fn first_tells<D: Disk>(members: &Members<D>)

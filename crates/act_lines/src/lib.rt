@@ -15,3 +15,8 @@ pub use settings::{
     full_calls_tell, full_tells, none_stands, refused_tells, settings_tell, stands_again,
     turns_leave,
 };
+
+// Libraries that the rows of crates above need not name.
+pub use first_cluster;
+pub use node_calls;
+pub use node_calls::{cluster_members, replica_calls, replica_exchange, session_net};

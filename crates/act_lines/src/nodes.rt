@@ -2,8 +2,8 @@
 ghost use Rattle.act_lines.specs.Keeps.{BeginsStill};
 ghost use Rattle.act_lines.specs.Nodes.{AvailableTells, BootDamagedTells, BootFailedTells, BootWantedTells, RestartFailedTells, RestartWantedTells, RestartedTells, StoppedTells};
 
-use cluster_members::Members;
 use m3_outside::Disk;
+use node_calls::cluster_members::Members;
 
 /// A node that was stopped leaves events that tell of the line.
 pub fn stops_tell<D: Disk>(members: &Members<D>)

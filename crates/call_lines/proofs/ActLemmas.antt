@@ -42,17 +42,17 @@ use Rattle.cluster_core.specs.declared.replica_state.ReplicaState.{ReplicaState}
 use Rattle.cluster_core.proofs.ListLemmas.{some_same}
 use Rattle.placement_core.specs.NodeNames.{IsNamedBelow}
 use Rattle.session_net.specs.Reads.{asked_shards, count_from}
-use Rattle.replica_exchange.specs.Damages.{IsFileDamage}
-use Rattle.told_by.specs.Clocks.{sets_rules}
-use Rattle.told_by.specs.Openings.{sets_seed}
-use Rattle.told_by.specs.Writes.{IsUnmetWrite}
-use Rattle.transcripts.specs.Reasons.{IsShown}
+use Rattle.session_net.specs.replica_exchange.Damages.{IsFileDamage}
+use Rattle.told_runs.specs.told_by.Clocks.{sets_rules}
+use Rattle.told_runs.specs.told_by.Openings.{sets_seed}
+use Rattle.told_runs.specs.told_by.Writes.{IsUnmetWrite}
+use Rattle.told_runs.specs.transcripts.Reasons.{IsShown}
 use Rattle.told_runs.specs.Answers.{IsOfKind}
-use Rattle.told_by.specs.Hears.{is_unstrict}
-use Rattle.told_by.specs.Makes.{MayAsk, MayRead}
-use Rattle.transcripts.specs.Calls.{IsAskedOf, Call, call_of}
-use Rattle.transcripts.specs.Caused.{is_write}
-use Rattle.transcripts.specs.Record.{TurnPosition}
+use Rattle.told_runs.specs.told_by.Hears.{is_unstrict}
+use Rattle.told_runs.specs.told_by.Makes.{MayAsk, MayRead}
+use Rattle.told_runs.specs.transcripts.Calls.{IsAskedOf, Call, call_of}
+use Rattle.told_runs.specs.transcripts.Caused.{is_write}
+use Rattle.told_runs.specs.transcripts.Record.{TurnPosition}
 use Rattle.call_lines.proofs.ShardLemmas.{MaySay}
 
 -- ---- acts that read

@@ -36,19 +36,19 @@ use Rattle.cluster_core.proofs.ListLemmas.{at_in, at_within, in_at, some_same}
 use Rattle.net_plan.specs.declared.late_write.LateWrite.{LateWrite}
 use Rattle.session_net.specs.Deliveries.{AreDelivered, known, late_put, outcome_of}
 use Rattle.session_net.specs.declared.net.Net.{Net}
-use Rattle.told_by.specs.Clocks.{sets_rules}
-use Rattle.told_by.specs.Hears.{Happens, HasStep, HearsBy, HearsLate, HearsOutcome, HearsOutcomes, InStretch, IsLatePut}
-use Rattle.told_by.specs.Lines.{IsPlain, MayChange, PrintsPlace, position_after}
-use Rattle.told_by.specs.Makes.{MayMake}
-use Rattle.told_by.specs.Openings.{sets_seed}
-use Rattle.told_by.specs.Writes.{IsUnmetWrite}
-use Rattle.told_by.proofs.LineLemmas.{line_below}
-use Rattle.told_by.proofs.OneLemmas.{among_back, back_at}
-use Rattle.transcripts.specs.Deliveries.{IsLateMessage, LateMessage}
-use Rattle.transcripts.specs.Placements.{printed}
-use Rattle.transcripts.specs.Points.{point_of}
-use Rattle.transcripts.specs.Record.{TurnPosition}
-use Rattle.transcripts.specs.Rules.{rules_at}
+use Rattle.told_runs.specs.told_by.Clocks.{sets_rules}
+use Rattle.told_runs.specs.told_by.Hears.{Happens, HasStep, HearsBy, HearsLate, HearsOutcome, HearsOutcomes, InStretch, IsLatePut}
+use Rattle.told_runs.specs.told_by.Lines.{IsPlain, MayChange, PrintsPlace, position_after}
+use Rattle.told_runs.specs.told_by.Makes.{MayMake}
+use Rattle.told_runs.specs.told_by.Openings.{sets_seed}
+use Rattle.told_runs.specs.told_by.Writes.{IsUnmetWrite}
+use Rattle.told_runs.proofs.told_by_proofs.LineLemmas.{line_below}
+use Rattle.told_runs.proofs.told_by_proofs.OneLemmas.{among_back, back_at}
+use Rattle.told_runs.specs.transcripts.Deliveries.{IsLateMessage, LateMessage}
+use Rattle.told_runs.specs.transcripts.Placements.{printed}
+use Rattle.told_runs.specs.transcripts.Points.{point_of}
+use Rattle.told_runs.specs.transcripts.Record.{TurnPosition}
+use Rattle.told_runs.specs.transcripts.Rules.{rules_at}
 use Rattle.call_lines.specs.Laws.{DeliveredTells, IsCalm, IsGivenUp, NothingServes, NothingTells}
 use Rattle.call_lines.specs.Left.{AreHeldBack, IsHeldBack, next_delivery}
 use Rattle.call_lines.proofs.HeardLemmas.{CameSo, IsExchanged, came_once, few_delivered, in_delivery}

@@ -21,15 +21,15 @@ use Rattle.m3_outside.specs.declared.disk.Disk.{Ghosts}
 use Rattle.cluster_core.specs.Legal.{Legal}
 use Rattle.cluster_core.specs.declared.event.Event.{Event}
 use Rattle.cluster_core.proofs.ListLemmas.{some_same}
-use Rattle.replica_exchange.specs.declared.call_id.CallId.{CallId}
+use Rattle.session_net.specs.replica_exchange.declared.call_id.CallId.{CallId}
 use Rattle.session_net.specs.Outcomes.{answering, refusing}
 use Rattle.session_net.specs.Reads.{IsReadFound, Wish, asked_shards, told_in}
 use Rattle.session_net.specs.declared.net.Net.{Net}
 use Rattle.told_runs.specs.Answers.{IsOfKind}
-use Rattle.told_by.specs.Hears.{HasEnough, HearsFound, InStretch}
-use Rattle.told_by.specs.Lines.{Finds, ReadLine, position_after}
-use Rattle.told_by.specs.Reads.{IsAskedBy}
-use Rattle.transcripts.specs.Record.{TurnPosition}
+use Rattle.told_runs.specs.told_by.Hears.{HasEnough, HearsFound, InStretch}
+use Rattle.told_runs.specs.told_by.Lines.{Finds, ReadLine, position_after}
+use Rattle.told_runs.specs.told_by.Reads.{IsAskedBy}
+use Rattle.told_runs.specs.transcripts.Record.{TurnPosition}
 use Rattle.call_lines.specs.Laws.{LeavesLine}
 use Rattle.call_lines.specs.ReadLaws.{FoundTells, IsReadTurn}
 use Rattle.call_lines.proofs.StandLemmas.{StandsIn}

@@ -16,9 +16,9 @@ use Rattle.cluster_core.specs.declared.event.StepReply.{StepReply}
 use Rattle.cluster_core.specs.declared.event.StepReply.TheVariants as reply
 use Rattle.net_plan.specs.Fates.{FateMap}
 use Rattle.placement_core.specs.Shards.{Shard, counted, counts, is_available, nodes_of}
-use Rattle.replica_exchange.specs.Steps.{reply_by}
-use Rattle.replica_exchange.specs.Exchanges.{ask_of}
-use Rattle.replica_exchange.specs.declared.call_id.CallId.{CallId}
+use Rattle.session_net.specs.replica_exchange.Steps.{reply_by}
+use Rattle.session_net.specs.replica_exchange.Exchanges.{ask_of}
+use Rattle.session_net.specs.replica_exchange.declared.call_id.CallId.{CallId}
 use Rattle.session_net.specs.Messages.{exchange, IsDelivery, IsHeard, Heard, AreHeard, fate_to}
 use Rattle.session_net.specs.Writes.{counted_among}
 

@@ -27,22 +27,22 @@ use Rattle.placement_core.specs.NodeNames.{IsNamedBelow}
 use Rattle.placement_core.specs.Shards.{Shard, nodes_of, shard_at}
 use Rattle.placement_core.proofs.ListLemmas.{IsIn-filter, chosen}
 use Rattle.placement_core.proofs.OrderLemmas.{ascends-filter, ascends-map}
-use Rattle.replica_exchange.specs.declared.call_id.CallId.{CallId}
+use Rattle.session_net.specs.replica_exchange.declared.call_id.CallId.{CallId}
 use Rattle.session_net.specs.Messages.{fate_to}
 use Rattle.session_net.specs.Writes.{AreMembers, bag_after, filled, is_late, late_to, shard_of_point}
 use Rattle.session_net.specs.declared.net.Net.{Net}
-use Rattle.told_by.specs.Lines.{position_after}
-use Rattle.told_by.proofs.LineLemmas.{line_below, position_last, position_stays}
-use Rattle.told_by.proofs.OneLemmas.{is_last}
-use Rattle.told_by.proofs.RuleLemmas.{Grows, after_grows, after_lines, point_grows}
-use Rattle.told_by.proofs.TurnLemmas.{inner-append}
-use Rattle.transcripts.specs.Calls.{call_of}
-use Rattle.transcripts.specs.Deliveries.{IsLateBefore, LateMessage, delivers_nothing, shard_of_message}
-use Rattle.transcripts.specs.Fates.{calls_in, client_acts, fates_set, fate_in, numbering_after, numbering_by}
-use Rattle.transcripts.specs.Placements.{has_replica, later_placement, placement_after, printed, seed_after, seed_by, start_placement}
-use Rattle.transcripts.specs.Points.{point_of, was_sent}
-use Rattle.transcripts.specs.Record.{IsTurnPosition, inner_turns, line_of}
-use Rattle.transcripts.specs.Rules.{rules_after, rules_by, start_rules}
+use Rattle.told_runs.specs.told_by.Lines.{position_after}
+use Rattle.told_runs.proofs.told_by_proofs.LineLemmas.{line_below, position_last, position_stays}
+use Rattle.told_runs.proofs.told_by_proofs.OneLemmas.{is_last}
+use Rattle.told_runs.proofs.told_by_proofs.RuleLemmas.{Grows, after_grows, after_lines, point_grows}
+use Rattle.told_runs.proofs.told_by_proofs.TurnLemmas.{inner-append}
+use Rattle.told_runs.specs.transcripts.Calls.{call_of}
+use Rattle.told_runs.specs.transcripts.Deliveries.{IsLateBefore, LateMessage, delivers_nothing, shard_of_message}
+use Rattle.told_runs.specs.transcripts.Fates.{calls_in, client_acts, fates_set, fate_in, numbering_after, numbering_by}
+use Rattle.told_runs.specs.transcripts.Placements.{has_replica, later_placement, placement_after, printed, seed_after, seed_by, start_placement}
+use Rattle.told_runs.specs.transcripts.Points.{point_of, was_sent}
+use Rattle.told_runs.specs.transcripts.Record.{IsTurnPosition, inner_turns, line_of}
+use Rattle.told_runs.specs.transcripts.Rules.{rules_after, rules_by, start_rules}
 use Rattle.call_lines.specs.Keeps.{FieldsStay, LeftAsBefore, LeftByDelivery, LeftByWrite, SetsNothing}
 use Rattle.call_lines.specs.Laws.{IsWrite}
 use Rattle.call_lines.specs.Left.{AreHeldBack, FareAsSet, HoldsBack, IsHeldBack, NetIsLeftBy}

@@ -13,7 +13,7 @@ use Rattle.m3_model.proofs.MemberLemmas.{IsIn-map, map-IsIn}
 use Rattle.placement_core.specs.Shards.{Shard, counted, is_available, nodes_of, shard_at}
 use Rattle.placement_core.proofs.HolderLemmas.{chosen_node, node_chosen}
 use Rattle.placement_core.proofs.ListLemmas.{Any-from_IsIn}
-use Rattle.transcripts.specs.Placements.{has_replica}
+use Rattle.told_runs.specs.transcripts.Placements.{has_replica}
 use Rattle.call_lines.proofs.ToldLemmas.{IsIn-permuted, permuted-IsIn}
 
 module _ (shard members : Shard) (same : IsPermutation shard members) where

@@ -34,22 +34,22 @@ use Rattle.cluster_core.specs.declared.event.StepReply.TheVariants as reply
 use Rattle.cluster_core.proofs.ListLemmas.{at_append, at_in, at_same, at_within, in_at, take_at}
 use Rattle.placement_core.specs.NodeNames.{IsNamedBelow}
 use Rattle.placement_core.specs.Shards.{counted, is_available, shard_at}
-use Rattle.replica_exchange.specs.declared.call_id.CallId.{CallId}
+use Rattle.session_net.specs.replica_exchange.declared.call_id.CallId.{CallId}
 use Rattle.session_net.specs.Outcomes.{answering, refusing}
 use Rattle.session_net.specs.Reads.{AreRead, IsAsked, ShardRead, Wish, asked_shards, count_from, done_of, ended_of, read_of as read_call, start_of, told_in}
 use Rattle.session_net.specs.declared.net.Net.{Net}
 use Rattle.told_runs.specs.Answers.{HearsOf, IsOfKind}
-use Rattle.told_by.specs.Spans.{From}
-use Rattle.told_by.specs.Hears.{HearsBy, Happens, HasEnough, HearsShard, InStretch, IsOwnCall}
-use Rattle.told_by.specs.Lines.{start_of as told_start, AreFetched, AreSteps, Finds, IsAskOrStep, IsCutShort, ReadLine, position_after}
-use Rattle.told_by.specs.Makes.{EndsRestart, CountsOwnReads, MayMake}
-use Rattle.told_by.specs.Reads.{Asking, Fetched, IsAskedBy, IsAskingOf}
-use Rattle.told_by.proofs.OneLemmas.{back_at}
-use Rattle.transcripts.specs.Calls.{IsAskedOf, Call}
-use Rattle.transcripts.specs.Fates.{call_number}
-use Rattle.transcripts.specs.Placements.{IsCounted, MayUse, printed}
-use Rattle.transcripts.specs.Record.{TurnPosition}
-use Rattle.transcripts.specs.Rules.{rules_at}
+use Rattle.told_runs.specs.told_by.Spans.{From}
+use Rattle.told_runs.specs.told_by.Hears.{HearsBy, Happens, HasEnough, HearsShard, InStretch, IsOwnCall}
+use Rattle.told_runs.specs.told_by.Lines.{start_of as told_start, AreFetched, AreSteps, Finds, IsAskOrStep, IsCutShort, ReadLine, position_after}
+use Rattle.told_runs.specs.told_by.Makes.{EndsRestart, CountsOwnReads, MayMake}
+use Rattle.told_runs.specs.told_by.Reads.{Asking, Fetched, IsAskedBy, IsAskingOf}
+use Rattle.told_runs.proofs.told_by_proofs.OneLemmas.{back_at}
+use Rattle.told_runs.specs.transcripts.Calls.{IsAskedOf, Call}
+use Rattle.told_runs.specs.transcripts.Fates.{call_number}
+use Rattle.told_runs.specs.transcripts.Placements.{IsCounted, MayUse, printed}
+use Rattle.told_runs.specs.transcripts.Record.{TurnPosition}
+use Rattle.told_runs.specs.transcripts.Rules.{rules_at}
 use Rattle.call_lines.specs.Laws.{IsCalm, LeavesLine}
 use Rattle.call_lines.specs.ReadLaws.{IsReadTurn}
 use Rattle.call_lines.proofs.ServeLemmas.{answered, delivered_so, few_members, serves_so}

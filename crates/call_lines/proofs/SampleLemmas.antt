@@ -8,13 +8,13 @@ use Rattle.m3_outside.specs.declared.disk.Disk.{Ghosts}
 use Rattle.cluster_core.proofs.ListLemmas.{some_same}
 use Rattle.net_plan.specs.Fates.{FateMap, fate_of}
 use Rattle.session_net.specs.declared.net.Net.{Net}
-use Rattle.told_by.specs.Sample.{name, place}
-use Rattle.told_by.proofs.SampleLemmas.{shard_zero}
+use Rattle.told_runs.specs.told_by.Sample.{name, place}
+use Rattle.told_runs.proofs.told_by_proofs.SampleLemmas.{shard_zero}
 use Rattle.told_runs.specs.LateSample.{lines_to_fates, lines_to_write, message}
-use Rattle.transcripts.specs.Deliveries.{IsLateMessage}
-use Rattle.transcripts.specs.Fates.{fate_in, numbering_after}
-use Rattle.transcripts.specs.Placements.{has_replica}
-use Rattle.transcripts.specs.Record.{IsTurnPosition, inner_turns}
+use Rattle.told_runs.specs.transcripts.Deliveries.{IsLateMessage}
+use Rattle.told_runs.specs.transcripts.Fates.{fate_in, numbering_after}
+use Rattle.told_runs.specs.transcripts.Placements.{has_replica}
+use Rattle.told_runs.specs.transcripts.Record.{IsTurnPosition, inner_turns}
 use Rattle.call_lines.specs.Left.{FareAsSet, HoldsBack, next_delivery}
 use Rattle.call_lines.specs.Sample.{SampleIsLeft, held}
 

@@ -23,18 +23,18 @@ use Rattle.cluster_core.proofs.ListLemmas.{at_in}
 use Rattle.net_plan.specs.declared.late_write.LateWrite.{LateWrite}
 use Rattle.placement_core.specs.Lawful.{IsLawful}
 use Rattle.placement_core.specs.Shards.{Shard, shard_at}
-use Rattle.told_by.specs.Hears.{InStretch}
-use Rattle.told_by.specs.Lines.{position_after}
-use Rattle.told_by.proofs.LineLemmas.{line_below}
-use Rattle.told_by.proofs.OneLemmas.{among_back}
-use Rattle.replica_exchange.specs.MachineCalls.{HasRoom}
+use Rattle.told_runs.specs.told_by.Hears.{InStretch}
+use Rattle.told_runs.specs.told_by.Lines.{position_after}
+use Rattle.told_runs.proofs.told_by_proofs.LineLemmas.{line_below}
+use Rattle.told_runs.proofs.told_by_proofs.OneLemmas.{among_back}
+use Rattle.session_net.specs.replica_exchange.MachineCalls.{HasRoom}
 use Rattle.told_runs.specs.Answers.{HearsOf, IsAnswered, IsDecidedBy, IsOfKind, MayLackRoom}
 use Rattle.told_runs.specs.Bounds.{writes_taken}
 use Rattle.told_runs.specs.Lines.{AddsInOrder, OpensNext, ServesOne, delivered_on}
-use Rattle.transcripts.specs.Caused.{acts_in}
-use Rattle.transcripts.specs.Deliveries.{IsSameMessage, LateMessage, delivers_nothing}
-use Rattle.transcripts.specs.Record.{IsTurnPosition, Record, TurnPosition, inner_turns, line_of}
-use Rattle.transcripts.proofs.PositionLemmas.{at_push}
+use Rattle.told_runs.specs.transcripts.Caused.{acts_in}
+use Rattle.told_runs.specs.transcripts.Deliveries.{IsSameMessage, LateMessage, delivers_nothing}
+use Rattle.told_runs.specs.transcripts.Record.{IsTurnPosition, Record, TurnPosition, inner_turns, line_of}
+use Rattle.told_runs.proofs.transcripts_proofs.PositionLemmas.{at_push}
 use Rattle.call_lines.specs.Laws.{IsCalm, IsNotRefused}
 use Rattle.call_lines.specs.Left.{AreHeldBack, IsHeldBack, WereDelivered}
 use Rattle.call_lines.proofs.ShardLemmas.{shard_there}

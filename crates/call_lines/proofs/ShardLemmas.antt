@@ -25,15 +25,15 @@ use Rattle.placement_core.specs.Lawful.{IsLawful}
 use Rattle.placement_core.specs.NodeNames.{IsNamedBelow}
 use Rattle.placement_core.specs.Shards.{Shard, counted, is_available, nodes_of, shard_at}
 use Rattle.placement_core.proofs.HolderLemmas.{chosen_node}
-use Rattle.replica_exchange.specs.declared.call_id.CallId.{CallId}
+use Rattle.session_net.specs.replica_exchange.declared.call_id.CallId.{CallId}
 use Rattle.session_net.specs.Messages.{Heard, fate_to}
 use Rattle.session_net.specs.Outcomes.{NodeOutcome, answering, refusing, told_of}
-use Rattle.told_by.specs.Hears.{HasServed, HasStep, Happens, HearsShard, IsHeard, IsOwnCall, DidAsAsked}
-use Rattle.told_by.specs.Makes.{IsDeliveredTo}
-use Rattle.transcripts.specs.Fates.{IsCutAt, fate_at}
-use Rattle.transcripts.specs.Placements.{IsCounted}
-use Rattle.transcripts.specs.Reasons.{IsShown}
-use Rattle.transcripts.specs.Record.{TurnPosition}
+use Rattle.told_runs.specs.told_by.Hears.{HasServed, HasStep, Happens, HearsShard, IsHeard, IsOwnCall, DidAsAsked}
+use Rattle.told_runs.specs.told_by.Makes.{IsDeliveredTo}
+use Rattle.told_runs.specs.transcripts.Fates.{IsCutAt, fate_at}
+use Rattle.told_runs.specs.transcripts.Placements.{IsCounted}
+use Rattle.told_runs.specs.transcripts.Reasons.{IsShown}
+use Rattle.told_runs.specs.transcripts.Record.{TurnPosition}
 use Rattle.call_lines.proofs.HeardLemmas.{CameSo}
 use Rattle.call_lines.proofs.ToldLemmas.{answering_ascend, heard_err, heard_ok, one_or_other, refusing_ascend, told-refusing, told_nodes}
 

@@ -24,17 +24,17 @@ use Rattle.cluster_core.specs.declared.event.StepReply.{StepReply}
 use Rattle.cluster_core.specs.declared.event.StepReply.TheVariants as reply
 use Rattle.cluster_core.proofs.ListLemmas.{at_append, at_in, some_same}
 use Rattle.placement_core.specs.Shards.{counted, shard_at}
-use Rattle.replica_exchange.specs.declared.call_id.CallId.{CallId}
+use Rattle.session_net.specs.replica_exchange.declared.call_id.CallId.{CallId}
 use Rattle.session_net.specs.Outcomes.{answering}
 use Rattle.session_net.specs.Reads.{ShardRead, Wish, asked_shards, most_added, read_of as read_call, start_of, told_in}
 use Rattle.session_net.specs.declared.net.Net.{Net}
 use Rattle.told_runs.specs.Answers.{HearsOf, IsOfKind, MayLackRoom}
-use Rattle.told_by.specs.Hears.{HearsBy, HearsShard, InStretch}
-use Rattle.told_by.specs.Lines.{IsCutShort, ReadLine, position_after}
-use Rattle.told_by.specs.Makes.{MayMake}
-use Rattle.told_by.specs.Reads.{IsAskedBy}
-use Rattle.told_by.proofs.OneLemmas.{back_at}
-use Rattle.transcripts.specs.Placements.{IsCounted, printed}
+use Rattle.told_runs.specs.told_by.Hears.{HearsBy, HearsShard, InStretch}
+use Rattle.told_runs.specs.told_by.Lines.{IsCutShort, ReadLine, position_after}
+use Rattle.told_runs.specs.told_by.Makes.{MayMake}
+use Rattle.told_runs.specs.told_by.Reads.{IsAskedBy}
+use Rattle.told_runs.proofs.told_by_proofs.OneLemmas.{back_at}
+use Rattle.told_runs.specs.transcripts.Placements.{IsCounted, printed}
 use Rattle.call_lines.specs.Laws.{IsCalm, LeavesLine}
 use Rattle.call_lines.specs.ReadLaws.{FirstShortTells, IsReadTurn}
 use Rattle.call_lines.proofs.HeardLemmas.{IsExchangedBy, events_are, few_events}

@@ -8,11 +8,11 @@ use Rattle.cluster_core.specs.Lists.{At}
 use Rattle.cluster_core.specs.declared.event.Event.{Event}
 use Rattle.cluster_core.proofs.ListLemmas.{at_append, some_same}
 use Rattle.net_plan.specs.Fates.{FateMap}
-use Rattle.replica_exchange.specs.declared.call_id.CallId.{CallId}
+use Rattle.session_net.specs.replica_exchange.declared.call_id.CallId.{CallId}
 use Rattle.session_net.specs.Outcomes.{answering}
 use Rattle.session_net.specs.Reads.{AreRead, IsAsked, ShardRead, Wish, done_of, ended_of, start_of, told_in}
-use Rattle.told_by.proofs.LineLemmas.{at_front}
-use Rattle.told_by.proofs.OneLemmas.{at_back, back_at}
+use Rattle.told_runs.proofs.told_by_proofs.LineLemmas.{at_front}
+use Rattle.told_runs.proofs.told_by_proofs.OneLemmas.{at_back, back_at}
 
 -- ---- shards one after the other, where they stand in the whole list
 

@@ -44,29 +44,29 @@ use Rattle.cluster_core.proofs.ListLemmas.{any_at, at_append, at_in, at_same, at
 use Rattle.placement_core.specs.NodeNames.{IsNamedBelow}
 use Rattle.placement_core.specs.Shards.{Shard, counted, is_available, nodes_of, shard_at}
 use Rattle.placement_core.proofs.OrderLemmas.{ascends-filter, ascends-map}
-use Rattle.replica_exchange.specs.declared.call_id.CallId.{CallId}
+use Rattle.session_net.specs.replica_exchange.declared.call_id.CallId.{CallId}
 use Rattle.session_net.specs.Messages.{Heard, fate_to}
 use Rattle.session_net.specs.Outcomes.{answering, refusing}
 use Rattle.session_net.specs.Ready.{Places}
 use Rattle.session_net.specs.Writes.{IsSent, Sent, counted_among, put_of, send_of, shard_of_point, told_in}
 use Rattle.session_net.specs.declared.net.Net.{Net}
 use Rattle.session_net.proofs.ReadyLemmas.{placed_there}
-use Rattle.told_by.specs.Hears.{Happens, HasServed, HearsAcks, HearsBy, HearsShard, InStretch, IsOwnCall}
-use Rattle.told_by.specs.Clocks.{sets_rules}
-use Rattle.told_by.specs.Lines.{AreSteps, IsAskOrStep, WriteLine, ack_by, position_after}
-use Rattle.told_by.specs.Makes.{CountsOwnPuts, EndsRestart, IsPlaceOf, MayMake}
-use Rattle.told_by.specs.Spans.{From}
-use Rattle.told_by.specs.Writes.{IsSendOf}
-use Rattle.told_by.proofs.LineLemmas.{at_front}
-use Rattle.told_by.proofs.OneLemmas.{at_back, back_at}
+use Rattle.told_runs.specs.told_by.Hears.{Happens, HasServed, HearsAcks, HearsBy, HearsShard, InStretch, IsOwnCall}
+use Rattle.told_runs.specs.told_by.Clocks.{sets_rules}
+use Rattle.told_runs.specs.told_by.Lines.{AreSteps, IsAskOrStep, WriteLine, ack_by, position_after}
+use Rattle.told_runs.specs.told_by.Makes.{CountsOwnPuts, EndsRestart, IsPlaceOf, MayMake}
+use Rattle.told_runs.specs.told_by.Spans.{From}
+use Rattle.told_runs.specs.told_by.Writes.{IsSendOf}
+use Rattle.told_runs.proofs.told_by_proofs.LineLemmas.{at_front}
+use Rattle.told_runs.proofs.told_by_proofs.OneLemmas.{at_back, back_at}
 use Rattle.told_runs.specs.Answers.{HearsOf, IsOfKind}
-use Rattle.transcripts.specs.Calls.{AsksShard}
-use Rattle.transcripts.specs.Fates.{call_number, fate_at, fate_in, numbering_after}
-use Rattle.transcripts.specs.Placements.{IsCounted, MayUse, printed, seed_at}
-use Rattle.transcripts.specs.Points.{point_of, was_sent}
-use Rattle.transcripts.specs.Record.{TurnPosition, inner_turns}
-use Rattle.transcripts.specs.Rules.{rules_at}
-use Rattle.transcripts.proofs.PlacementLemmas.{known_more, stood_known}
+use Rattle.told_runs.specs.transcripts.Calls.{AsksShard}
+use Rattle.told_runs.specs.transcripts.Fates.{call_number, fate_at, fate_in, numbering_after}
+use Rattle.told_runs.specs.transcripts.Placements.{IsCounted, MayUse, printed, seed_at}
+use Rattle.told_runs.specs.transcripts.Points.{point_of, was_sent}
+use Rattle.told_runs.specs.transcripts.Record.{TurnPosition, inner_turns}
+use Rattle.told_runs.specs.transcripts.Rules.{rules_at}
+use Rattle.told_runs.proofs.transcripts_proofs.PlacementLemmas.{known_more, stood_known}
 use Rattle.call_lines.specs.Laws.{IsCalm, IsWrite, LeavesLine, AcknowledgedTells, UnmetTells, UnsentTells}
 use Rattle.call_lines.specs.Left.{NetIsLeftBy, NetIsUsable, IsNextCall, MayUseAfter}
 use Rattle.call_lines.proofs.HeardLemmas.{IsExchangedBy, counted_nodes, each_came, events_are, few_events, heard_nodes, in_counted}

@@ -11,15 +11,15 @@ use Rattle.m3_model.specs.declared.turn.Request.TheVariants as request
 use Rattle.m3_model.specs.declared.turn.Turn.{Turn}
 use Rattle.m3_outside.specs.declared.disk.Disk.{Ghosts}
 use Rattle.placement_core.specs.Shards.{Shard, nodes_of}
-use Rattle.replica_exchange.specs.declared.call_id.CallId.{CallId}
+use Rattle.session_net.specs.replica_exchange.declared.call_id.CallId.{CallId}
 use Rattle.session_net.specs.Writes.{AreMembers, bag_after, shard_of_point}
 use Rattle.session_net.specs.declared.net.Net.{Net}
-use Rattle.transcripts.specs.Deliveries.{delivers_nothing}
-use Rattle.transcripts.specs.Fates.{fates_set}
-use Rattle.transcripts.specs.Placements.{printed, seed_by}
-use Rattle.transcripts.specs.Points.{was_sent}
-use Rattle.transcripts.specs.Record.{line_of}
-use Rattle.transcripts.specs.Rules.{rules_by}
+use Rattle.told_runs.specs.transcripts.Deliveries.{delivers_nothing}
+use Rattle.told_runs.specs.transcripts.Fates.{fates_set}
+use Rattle.told_runs.specs.transcripts.Placements.{printed, seed_by}
+use Rattle.told_runs.specs.transcripts.Points.{was_sent}
+use Rattle.told_runs.specs.transcripts.Record.{line_of}
+use Rattle.told_runs.specs.transcripts.Rules.{rules_by}
 use Rattle.call_lines.specs.Laws.{IsWrite}
 use Rattle.call_lines.specs.Left.{NetIsLeftBy}
 

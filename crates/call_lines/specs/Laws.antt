@@ -16,17 +16,17 @@ use Rattle.cluster_core.specs.declared.event.Event.{Event}
 use Rattle.cluster_core.specs.declared.event.Event.TheVariants as event
 use Rattle.cluster_core.specs.declared.event.StepCall.{StepCall}
 use Rattle.cluster_core.specs.declared.event.StepCall.TheVariants as call
-use Rattle.replica_exchange.specs.declared.call_id.CallId.{CallId}
+use Rattle.session_net.specs.replica_exchange.declared.call_id.CallId.{CallId}
 use Rattle.session_net.specs.Deliveries.{HasDelivered}
 use Rattle.session_net.specs.Ready.{IsReady, IsCallable}
 use Rattle.session_net.specs.Writes.{IsAcknowledged, IsUnmet, IsUnsent}
 use Rattle.session_net.specs.declared.net.Net.{Net}
-use Rattle.told_by.specs.Lines.{PlainLine, WriteLine, position_after}
+use Rattle.told_runs.specs.told_by.Lines.{PlainLine, WriteLine, position_after}
 use Rattle.told_runs.specs.Lines.{ServesOne, delivered_on}
-use Rattle.transcripts.specs.Caused.{refusal_after}
-use Rattle.transcripts.specs.Deliveries.{LateMessage}
-use Rattle.transcripts.specs.Points.{point_of}
-use Rattle.transcripts.specs.Record.{Record, TurnPosition, inner_turns, line_of}
+use Rattle.told_runs.specs.transcripts.Caused.{refusal_after}
+use Rattle.told_runs.specs.transcripts.Deliveries.{LateMessage}
+use Rattle.told_runs.specs.transcripts.Points.{point_of}
+use Rattle.told_runs.specs.transcripts.Record.{Record, TurnPosition, inner_turns, line_of}
 use Rattle.call_lines.specs.Left.{NetIsLeftBy, NetIsUsable, IsNextCall, WereDelivered}
 
 -- A kind of line that says what its events tell.

@@ -12,16 +12,16 @@ use Rattle.m3_model.specs.declared.turn.Turn.{Turn}
 use Rattle.m3_outside.specs.declared.disk.Disk.{Ghosts}
 use Rattle.net_plan.specs.Fates.{FateMap, fate_of}
 use Rattle.net_plan.specs.declared.late_write.LateWrite.{LateWrite}
-use Rattle.replica_exchange.specs.declared.call_id.CallId.{CallId}
-use Rattle.replica_exchange.specs.declared.slot.Slot.{Slot}
+use Rattle.session_net.specs.replica_exchange.declared.call_id.CallId.{CallId}
+use Rattle.session_net.specs.replica_exchange.declared.slot.Slot.{Slot}
 use Rattle.session_net.specs.Calls.{Tracked}
 use Rattle.session_net.specs.declared.net.Net.{Net}
-use Rattle.told_by.specs.Lines.{position_after}
-use Rattle.transcripts.specs.Deliveries.{LateMessage, IsLateBefore, IsLateMessage, delivers_nothing, shard_of_message}
-use Rattle.transcripts.specs.Fates.{call_number, fate_in, is_stopped, numbering_after}
-use Rattle.transcripts.specs.Placements.{placement_after, placements, seed_after, start_placement}
-use Rattle.transcripts.specs.Record.{TurnPosition, IsTurnPosition, inner_turns}
-use Rattle.transcripts.specs.Rules.{rules_after, start_rules}
+use Rattle.told_runs.specs.told_by.Lines.{position_after}
+use Rattle.told_runs.specs.transcripts.Deliveries.{LateMessage, IsLateBefore, IsLateMessage, delivers_nothing, shard_of_message}
+use Rattle.told_runs.specs.transcripts.Fates.{call_number, fate_in, is_stopped, numbering_after}
+use Rattle.told_runs.specs.transcripts.Placements.{placement_after, placements, seed_after, start_placement}
+use Rattle.told_runs.specs.transcripts.Record.{TurnPosition, IsTurnPosition, inner_turns}
+use Rattle.told_runs.specs.transcripts.Rules.{rules_after, start_rules}
 
 -- the call is client 0's next
 abbrev pub IsNextCall : List Turn → CallId → Type 0

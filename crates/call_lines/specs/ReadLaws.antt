@@ -12,12 +12,12 @@ use Rattle.m3_model.specs.declared.turn.Turn.{Turn}
 use Rattle.m3_outside.specs.DiskState.{DiskState}
 use Rattle.m3_outside.specs.declared.disk.Disk.{Ghosts}
 use Rattle.cluster_core.specs.Legal.{Legal}
-use Rattle.replica_exchange.specs.declared.call_id.CallId.{CallId}
+use Rattle.session_net.specs.replica_exchange.declared.call_id.CallId.{CallId}
 use Rattle.session_net.specs.Reads.{IsCutShort, IsFirstShort, IsReadFound, IsFull, IsStopped, Wish}
 use Rattle.session_net.specs.Ready.{IsCallable}
 use Rattle.session_net.specs.declared.net.Net.{Net}
-use Rattle.told_by.specs.Lines.{ReadLine}
-use Rattle.transcripts.specs.Calls.{call_of}
+use Rattle.told_runs.specs.told_by.Lines.{ReadLine}
+use Rattle.told_runs.specs.transcripts.Calls.{call_of}
 use Rattle.call_lines.specs.Laws.{LeavesLine, LeavesServed}
 use Rattle.call_lines.specs.Left.{NetIsUsable, IsNextCall}
 

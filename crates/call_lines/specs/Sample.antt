@@ -5,9 +5,9 @@ use Rattle.m3_outside.specs.declared.disk.Disk.{Ghosts}
 use Rattle.net_plan.specs.Fates.{fate_of}
 use Rattle.net_plan.specs.declared.late_write.LateWrite.{LateWrite}
 use Rattle.session_net.specs.declared.net.Net.{Net}
-use Rattle.told_by.specs.Sample.{name, place, point, rules}
+use Rattle.told_runs.specs.told_by.Sample.{name, place, point, rules}
 use Rattle.told_runs.specs.LateSample.{lines_to_write}
-use Rattle.transcripts.specs.Fates.{fate_in}
+use Rattle.told_runs.specs.transcripts.Fates.{fate_in}
 use Rattle.call_lines.specs.Left.{NetIsLeftBy}
 
 -- the message of the run's write, as the bag holds it

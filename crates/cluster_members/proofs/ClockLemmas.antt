@@ -6,21 +6,21 @@ use Rattle.m3_model.specs.Members.{IsIn}
 use Rattle.m3_model.specs.declared.rules.MetaState.{MetaState}
 use Rattle.m3_model.specs.declared.rules.Rules.{Rules}
 use Rattle.m3_outside.specs.DiskState.{DiskState}
-use Rattle.net_plan.specs.declared.late_write.LateWrite.{LateWrite}
-use Rattle.cluster_core.specs.Asks.{IsAskFor, IsLike, WasAsked}
-use Rattle.cluster_core.specs.Earlier.{IsSend, clock_after, last_clock, last_place, place_after}
-use Rattle.cluster_core.specs.Legal.{IsNextClock, LawfulAt, Legal, Lawful}
-use Rattle.cluster_core.specs.Lists.{At}
-use Rattle.cluster_core.specs.declared.event.Asked.TheVariants as asked
-use Rattle.cluster_core.specs.declared.event.Event.{Event}
-use Rattle.cluster_core.specs.declared.event.Event.TheVariants as event
-use Rattle.cluster_core.proofs.ExtendLemmas.{at_last, at_push, legal_last}
-use Rattle.cluster_core.proofs.ListLemmas.{at_append, at_within}
-use Rattle.event_trail.proofs.Balances.{IsBalanced, legal_init}
-use Rattle.session_net.specs.Calls.{Tracked}
-use Rattle.session_net.specs.Ready.{IsReady}
-use Rattle.session_net.specs.Runs.{Ran}
-use Rattle.session_net.proofs.ReadyLemmas.{any_after, there_after}
+use Rattle.session_writes.specs.net_plan.declared.late_write.LateWrite.{LateWrite}
+use Rattle.session_writes.specs.cluster_core.Asks.{IsAskFor, IsLike, WasAsked}
+use Rattle.session_writes.specs.cluster_core.Earlier.{IsSend, clock_after, last_clock, last_place, place_after}
+use Rattle.session_writes.specs.cluster_core.Legal.{IsNextClock, LawfulAt, Legal, Lawful}
+use Rattle.session_writes.specs.cluster_core.Lists.{At}
+use Rattle.session_writes.specs.cluster_core.declared.event.Asked.TheVariants as asked
+use Rattle.session_writes.specs.cluster_core.declared.event.Event.{Event}
+use Rattle.session_writes.specs.cluster_core.declared.event.Event.TheVariants as event
+use Rattle.session_writes.proofs.cluster_core_proofs.ExtendLemmas.{at_last, at_push, legal_last}
+use Rattle.session_writes.proofs.cluster_core_proofs.ListLemmas.{at_append, at_within}
+use Rattle.session_writes.proofs.event_trail_proofs.Balances.{IsBalanced, legal_init}
+use Rattle.session_writes.specs.session_net.Calls.{Tracked}
+use Rattle.session_writes.specs.session_net.Ready.{IsReady}
+use Rattle.session_writes.specs.session_net.Runs.{Ran}
+use Rattle.session_writes.proofs.session_net_proofs.ReadyLemmas.{any_after, there_after}
 use Rattle.cluster_members.specs.Steps.{clock_events}
 
 -- ---- as many as were asked for

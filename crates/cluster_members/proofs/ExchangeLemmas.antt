@@ -8,14 +8,14 @@ use Rattle.m3_model.specs.declared.point.Point.{Point}
 use Rattle.m3_model.specs.declared.rules.MetaState.{MetaState}
 use Rattle.m3_outside.specs.DiskState.{DiskState}
 use Rattle.m3_outside.specs.declared.disk.Disk.{Ghosts}
-use Rattle.net_plan.specs.declared.late_write.LateWrite.{LateWrite}
-use Rattle.replica_exchange.specs.declared.call_id.CallId.{CallId}
-use Rattle.session_net.specs.Calls.{Tracked}
-use Rattle.session_net.specs.Reads.{Wish, IsRefusedRead}
-use Rattle.session_net.specs.Writes.{IsRefused}
-use Rattle.session_net.specs.declared.net.Net.{Net}
-use Rattle.session_net.specs.declared.session_err.SessionErr.{SessionErr}
-use Rattle.session_net.specs.declared.session_err.SessionErr.TheVariants as err
+use Rattle.session_writes.specs.net_plan.declared.late_write.LateWrite.{LateWrite}
+use Rattle.session_writes.specs.replica_exchange.declared.call_id.CallId.{CallId}
+use Rattle.session_writes.specs.session_net.Calls.{Tracked}
+use Rattle.session_writes.specs.session_net.Reads.{Wish, IsRefusedRead}
+use Rattle.session_writes.specs.session_net.Writes.{IsRefused}
+use Rattle.session_writes.specs.session_net.declared.net.Net.{Net}
+use Rattle.session_writes.specs.session_net.declared.session_err.SessionErr.{SessionErr}
+use Rattle.session_writes.specs.session_net.declared.session_err.SessionErr.TheVariants as err
 use Rattle.cluster_members.specs.Calls.{IsReadAnswer, IsWriteAnswer, answer_of}
 use Rattle.cluster_members.specs.Kept.{IsBy, MadeBy, StandsAt, past_by}
 use Rattle.cluster_members.specs.declared.kept.Kept.{Kept}

@@ -7,8 +7,8 @@ use Rattle.std.proofs.lemmas.List.Quantifiers.{position-Some}
 use Rattle.std.proofs.lemmas.Slice.Eq.{bytes_eq-Decides}
 use Rattle.m3_model.specs.Ascends.{Ascends}
 use Rattle.m3_model.specs.declared.placement.Instance.{Instance}
-use Rattle.placement_core.proofs.ListLemmas.{at_within}
-use Rattle.placement_core.proofs.OrderLemmas.{apart_of}
+use Rattle.session_writes.proofs.placement_core_proofs.ListLemmas.{at_within}
+use Rattle.session_writes.proofs.placement_core_proofs.OrderLemmas.{apart_of}
 use Rattle.cluster_members.specs.Names.{node_named}
 
 -- an element by its index

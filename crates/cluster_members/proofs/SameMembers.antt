@@ -6,8 +6,8 @@ use Rattle.std.proofs.Props.{props}
 use Rattle.m3_outside.specs.declared.disk.Disk.{Ghosts}
 use Rattle.m3_model.specs.declared.rules.MetaState.{MetaState}
 use Rattle.m3_model.specs.declared.rules.Space.{Space}
-use Rattle.net_plan.specs.declared.late_write.LateWrite.{LateWrite}
-use Rattle.wire_bytes.specs.Entries.{IsBounded}
+use Rattle.session_writes.specs.net_plan.declared.late_write.LateWrite.{LateWrite}
+use Rattle.session_writes.specs.wire_bytes.Entries.{IsBounded}
 use Rattle.cluster_members.specs.declared.members.Members.{Members}
 
 -- the same members, with other proofs of their facts

@@ -6,12 +6,12 @@ use Rattle.m3_model.specs.Members.{IsIn}
 use Rattle.m3_model.specs.declared.placement.Placement.{Placement}
 use Rattle.m3_model.specs.declared.rules.MetaState.{MetaState}
 use Rattle.m3_outside.specs.declared.disk.Disk.{Ghosts}
-use Rattle.cluster_core.proofs.ListLemmas.{at_in}
-use Rattle.net_plan.specs.declared.late_write.LateWrite.{LateWrite}
-use Rattle.session_net.specs.Calls.{Tracked}
-use Rattle.session_net.specs.Ready.{IsReady, IsCallable}
-use Rattle.session_net.specs.declared.net.Net.{Net}
-use Rattle.session_net.proofs.ReadyLemmas.{may_call}
+use Rattle.session_writes.proofs.cluster_core_proofs.ListLemmas.{at_in}
+use Rattle.session_writes.specs.net_plan.declared.late_write.LateWrite.{LateWrite}
+use Rattle.session_writes.specs.session_net.Calls.{Tracked}
+use Rattle.session_writes.specs.session_net.Ready.{IsReady, IsCallable}
+use Rattle.session_writes.specs.session_net.declared.net.Net.{Net}
+use Rattle.session_writes.proofs.session_net_proofs.ReadyLemmas.{may_call}
 use Rattle.cluster_members.specs.Kept.{MadeBy, StandsAt, Uses, WentBy}
 use Rattle.cluster_members.specs.declared.kept.Kept.{Kept}
 use Rattle.cluster_members.specs.declared.kept.Kept.TheVariants as kept

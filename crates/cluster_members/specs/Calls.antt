@@ -9,12 +9,12 @@ use Rattle.m3_model.specs.declared.answer.Answer.{Answer}
 use Rattle.m3_model.specs.declared.answer.Answer.TheVariants as answer
 use Rattle.m3_model.specs.declared.point.Pick.{Pick}
 use Rattle.m3_model.specs.declared.point.Point.{Point}
-use Rattle.replica_exchange.specs.declared.call_id.CallId.{CallId}
-use Rattle.session_net.specs.Reads.{Wish, IsReadFound, IsRefusedRead}
-use Rattle.session_net.specs.Writes.{IsAcknowledged, IsRefused}
-use Rattle.session_net.specs.declared.net.Net.{Net}
-use Rattle.session_net.specs.declared.session_err.SessionErr.{SessionErr}
-use Rattle.session_net.specs.declared.session_err.SessionErr.TheVariants as err
+use Rattle.session_writes.specs.replica_exchange.declared.call_id.CallId.{CallId}
+use Rattle.session_writes.specs.session_net.Reads.{Wish, IsReadFound, IsRefusedRead}
+use Rattle.session_writes.specs.session_net.Writes.{IsAcknowledged, IsRefused}
+use Rattle.session_writes.specs.session_net.declared.net.Net.{Net}
+use Rattle.session_writes.specs.session_net.declared.session_err.SessionErr.{SessionErr}
+use Rattle.session_writes.specs.session_net.declared.session_err.SessionErr.TheVariants as err
 use Rattle.cluster_members.specs.Kept.{IsUnkept, WentBy}
 use Rattle.cluster_members.specs.Steps.{spaces_in}
 use Rattle.cluster_members.specs.declared.calls.Range.{Range}

@@ -5,8 +5,8 @@ use Rattle.m3_model.specs.declared.answer.Answer.{Answer}
 use Rattle.m3_model.specs.declared.answer.Answer.TheVariants as answer
 use Rattle.m3_model.specs.declared.placement.Placement.{Placement}
 use Rattle.m3_outside.specs.declared.disk.Disk.{Ghosts}
-use Rattle.session_net.specs.Ready.{IsCallable}
-use Rattle.session_net.specs.declared.net.Net.{Net}
+use Rattle.session_writes.specs.session_net.Ready.{IsCallable}
+use Rattle.session_writes.specs.session_net.declared.net.Net.{Net}
 use Rattle.cluster_members.specs.declared.kept.Kept.{Kept}
 use Rattle.cluster_members.specs.declared.kept.Kept.TheVariants as kept
 use Rattle.cluster_members.specs.declared.members.Members.{Members}

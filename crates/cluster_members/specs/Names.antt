@@ -4,7 +4,7 @@ use Rattle.std.specs.Cmp.Lexicographic.{pointwise}
 use Rattle.std.specs.List.{position}
 use Rattle.m3_model.specs.declared.act.Fate.{Fate}
 use Rattle.m3_model.specs.declared.placement.Instance.{Instance}
-use Rattle.net_plan.specs.Fates.{Item}
+use Rattle.session_writes.specs.net_plan.Fates.{Item}
 
 -- the number of the first listed node of this name
 abbrev pub node_named : List ℕ → List Instance → Option ℕ

@@ -8,11 +8,11 @@ use Rattle.m3_model.specs.declared.answer.Answer.{Answer}
 use Rattle.m3_model.specs.declared.answer.Answer.TheVariants as answer
 use Rattle.m3_model.specs.declared.rules.Rules.{Rules}
 use Rattle.m3_model.specs.declared.rules.Space.{Space}
-use Rattle.cluster_core.specs.declared.event.Asked.TheVariants as asked
-use Rattle.cluster_core.specs.declared.event.Event.{Event}
-use Rattle.cluster_core.specs.declared.event.Event.TheVariants as event
-use Rattle.replica_exchange.specs.MachineCalls.{HasRoom}
-use Rattle.session_net.specs.Runs.{Ran}
+use Rattle.session_writes.specs.cluster_core.declared.event.Asked.TheVariants as asked
+use Rattle.session_writes.specs.cluster_core.declared.event.Event.{Event}
+use Rattle.session_writes.specs.cluster_core.declared.event.Event.TheVariants as event
+use Rattle.session_writes.specs.replica_exchange.MachineCalls.{HasRoom}
+use Rattle.session_writes.specs.session_net.Runs.{Ran}
 use Rattle.cluster_members.specs.declared.members.Members.{Members}
 
 abbrev pub spaces_in : {D : Type 0} {G : Ghosts D} → Members D G → List Space

@@ -1,16 +1,16 @@
 //! A moment and namespaces as events of the run.
 ghost use Rattle.std.specs.Prelude.{[], ◌∷◌, Bool};
-ghost use Rattle.cluster_core.specs.Legal.{IsNextClock, Lawful};
-ghost use Rattle.cluster_core.specs.declared.event.Asked.TheVariants as asked;
-ghost use Rattle.cluster_core.specs.declared.event.Event.TheVariants as event;
-ghost use Rattle.replica_exchange.specs.MachineCalls.{HasRoom};
-ghost use Rattle.session_net.specs.Runs.{Ran};
+ghost use Rattle.session_writes.specs.cluster_core.Legal.{IsNextClock, Lawful};
+ghost use Rattle.session_writes.specs.cluster_core.declared.event.Asked.TheVariants as asked;
+ghost use Rattle.session_writes.specs.cluster_core.declared.event.Event.TheVariants as event;
+ghost use Rattle.session_writes.specs.replica_exchange.MachineCalls.{HasRoom};
+ghost use Rattle.session_writes.specs.session_net.Runs.{Ran};
 ghost use Rattle.cluster_members.specs.Steps.{clock_events};
 
-use event_trail::{EventView, tell_apart};
 use m3_model::Rules;
 use m3_outside::Disk;
-use session_net::{Replicas, add};
+use session_writes::event_trail::{EventView, tell_apart};
+use session_writes::session_net::{Replicas, add};
 
 // Adds an Ask for a Clock of the rules to the list, which has room for it.
 fn ask<D: Disk>(replicas: &mut Replicas<D>, rules: &Rules)

@@ -12,3 +12,6 @@ pub use calls::Range;
 pub use kept::unknown_number;
 pub use members::Members;
 pub use session_writes::deliver::deliver;
+
+// Libraries that the rows of crates above need not name.
+pub use session_writes::{event_trail, replica_calls, replica_exchange, session_net};

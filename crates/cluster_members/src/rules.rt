@@ -2,9 +2,9 @@
 ghost use Rattle.std.specs.Prelude.{◌≡◌, ◌≤◌, ◌<◌, ◌++◌, ◌∷◌, [], length, IfOk};
 ghost use Rattle.std.specs.List.{All};
 ghost use Rattle.m3_model.specs.declared.limits.TheConstants.{MOST_NAMESPACES, TIME_END};
-ghost use Rattle.cluster_core.specs.Legal.{IsNextClock};
-ghost use Rattle.replica_exchange.specs.MachineCalls.{HasRoom};
-ghost use Rattle.session_net.specs.Ready.{IsReady};
+ghost use Rattle.session_writes.specs.cluster_core.Legal.{IsNextClock};
+ghost use Rattle.session_writes.specs.replica_exchange.MachineCalls.{HasRoom};
+ghost use Rattle.session_writes.specs.session_net.Ready.{IsReady};
 ghost use Rattle.cluster_members.specs.Steps.{IsMoved, IsSpaceAdded, SetsRules, at_moment, with_space};
 
 use crate::clock::tick;

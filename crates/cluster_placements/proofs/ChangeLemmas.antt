@@ -30,14 +30,14 @@ use Rattle.placement_core.specs.Steps.{IsStep, KeepsNames}
 use Rattle.placement_core.proofs.ListLemmas.{IsIn-filter, at_within}
 use Rattle.cluster_core.specs.Earlier.{HasSend, last_clock, last_place}
 use Rattle.cluster_core.specs.Replicas.{fresh, replica}
-use Rattle.transcripts.specs.Placements.{has_replica}
-use Rattle.replica_exchange.specs.MachineCalls.{HasRoom}
-use Rattle.replica_exchange.specs.declared.slot.Slot.{Slot}
-use Rattle.replica_calls.specs.Calls.{Tracked, first_member}
-use Rattle.session_net.specs.Ready.{IsCallable, IsReady, Places}
-use Rattle.session_net.specs.Runs.{Ran, slot_at, steps_of}
-use Rattle.session_net.proofs.ReadyLemmas.{room_after}
-use Rattle.cluster_members.specs.declared.members.Members.{Members}
+use Rattle.node_calls.specs.transcripts.Placements.{has_replica}
+use Rattle.node_calls.specs.replica_exchange.MachineCalls.{HasRoom}
+use Rattle.node_calls.specs.replica_exchange.declared.slot.Slot.{Slot}
+use Rattle.node_calls.specs.replica_calls.Calls.{Tracked, first_member}
+use Rattle.node_calls.specs.session_net.Ready.{IsCallable, IsReady, Places}
+use Rattle.node_calls.specs.session_net.Runs.{Ran, slot_at, steps_of}
+use Rattle.node_calls.proofs.session_net_proofs.ReadyLemmas.{room_after}
+use Rattle.node_calls.specs.cluster_members.declared.members.Members.{Members}
 use Rattle.node_calls.specs.Halts.{AreManned}
 use Rattle.first_cluster.specs.Depots.{AreOut}
 use Rattle.first_cluster.specs.First.{IsDiskAnswer}

@@ -6,7 +6,7 @@ use Rattle.m3_model.specs.Members.{IsIn}
 use Rattle.m3_model.proofs.MemberLemmas.{IsIn-map}
 use Rattle.cluster_core.specs.Lists.{IsDistinct}
 use Rattle.cluster_core.proofs.QuorumLemmas.{distinct_within}
-use Rattle.replica_exchange.specs.declared.slot.Slot.{Slot}
+use Rattle.node_calls.specs.replica_exchange.declared.slot.Slot.{Slot}
 use Rattle.first_cluster.specs.Slots.{AreApart}
 
 -- ---- few

@@ -8,11 +8,11 @@ use Rattle.m3_outside.specs.Depots.{Depot}
 use Rattle.m3_outside.specs.DiskState.{DiskState, IsEmpty}
 use Rattle.m3_outside.specs.Slots.{Here, MayGive, Out}
 use Rattle.m3_outside.specs.declared.slot.DiskSlot.{DiskSlot}
-use Rattle.replica_exchange.specs.declared.member.Member.{Member}
-use Rattle.replica_exchange.specs.declared.slot.Slot.{Slot}
-use Rattle.replica_calls.specs.Calls.{Tracked, first_member}
-use Rattle.replica_calls.specs.Slots.{MemberMap}
-use Rattle.replica_calls.proofs.SlotLemmas.{slot_cmp_total, slot_cmp-IsAntisymmetric}
+use Rattle.node_calls.specs.replica_exchange.declared.member.Member.{Member}
+use Rattle.node_calls.specs.replica_exchange.declared.slot.Slot.{Slot}
+use Rattle.node_calls.specs.replica_calls.Calls.{Tracked, first_member}
+use Rattle.node_calls.specs.replica_calls.Slots.{MemberMap}
+use Rattle.node_calls.proofs.replica_calls_proofs.SlotLemmas.{slot_cmp_total, slot_cmp-IsAntisymmetric}
 use Rattle.first_cluster.specs.Depots.{disk_slot_of}
 use Rattle.first_cluster.specs.Lending.{HasGivenBack, IsBack, IsFree, IsKept, IsNewlyTaken, KeepsOthers}
 use Rattle.first_cluster.specs.Slots.{AreApart}

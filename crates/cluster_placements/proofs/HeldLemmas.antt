@@ -9,12 +9,12 @@ use Rattle.m3_outside.specs.Depots.{Depot}
 use Rattle.m3_outside.specs.DiskState.{DiskState, IsEmpty}
 use Rattle.m3_outside.specs.Slots.{Here, MayGive, Out}
 use Rattle.cluster_core.specs.declared.event.Event.{Event}
-use Rattle.replica_exchange.specs.declared.member.Member.{Member}
-use Rattle.replica_exchange.specs.declared.slot.Slot.{Slot}
-use Rattle.replica_calls.specs.Calls.{Tracked, first_member}
-use Rattle.replica_calls.specs.Slots.{MemberMap}
-use Rattle.session_net.specs.Runs.{IsStepped, Ran, Step, step_in, steps_of}
-use Rattle.session_net.proofs.ReadyLemmas.{there_after}
+use Rattle.node_calls.specs.replica_exchange.declared.member.Member.{Member}
+use Rattle.node_calls.specs.replica_exchange.declared.slot.Slot.{Slot}
+use Rattle.node_calls.specs.replica_calls.Calls.{Tracked, first_member}
+use Rattle.node_calls.specs.replica_calls.Slots.{MemberMap}
+use Rattle.node_calls.specs.session_net.Runs.{IsStepped, Ran, Step, step_in, steps_of}
+use Rattle.node_calls.proofs.session_net_proofs.ReadyLemmas.{there_after}
 use Rattle.node_calls.specs.Halts.{AreManned}
 use Rattle.first_cluster.specs.Depots.{AreOut, disk_slot_of}
 use Rattle.first_cluster.proofs.SlotLists.{in_or_out}

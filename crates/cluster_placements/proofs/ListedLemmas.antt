@@ -3,8 +3,8 @@ use Rattle.std.proofs.Common.{◌≡◌, ◌<◌, ◌≤◌, ◌+◌, ℕ, zero,
 use Rattle.std.proofs.lemmas.List.{append-nil, map-append}
 use Rattle.m3_model.specs.declared.placement.Assignment.{Assignment}
 use Rattle.placement_core.specs.Shards.{Shard, nodes_of}
-use Rattle.replica_exchange.specs.declared.slot.Slot.{Slot}
-use Rattle.session_net.specs.Runs.{slot_at}
+use Rattle.node_calls.specs.replica_exchange.declared.slot.Slot.{Slot}
+use Rattle.node_calls.specs.session_net.Runs.{slot_at}
 use Rattle.first_cluster.specs.Slots.{slots_from}
 use Rattle.first_cluster.proofs.ListLemmas.{take_at, take_whole}
 

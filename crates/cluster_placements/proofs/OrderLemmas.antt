@@ -6,7 +6,7 @@ use Rattle.std.proofs.lemmas.Bool.{and_parts, and_from, eq-eqb, eqb-true}
 use Rattle.std.proofs.lemmas.List.Sums.{sum_by-cons}
 use Rattle.std.proofs.lemmas.List.Sorted.{sum_by-IsPermutation}
 use Rattle.m3_model.specs.Members.{IsIn}
-use Rattle.replica_exchange.specs.declared.slot.Slot.{Slot}
+use Rattle.node_calls.specs.replica_exchange.declared.slot.Slot.{Slot}
 use Rattle.first_cluster.specs.Slots.{AreApart}
 
 abbrev is_at : Slot → Slot → Bool

@@ -25,16 +25,16 @@ use Rattle.cluster_core.specs.declared.event.Event.TheVariants as event
 use Rattle.cluster_core.specs.declared.event.StepCall.TheVariants as call
 use Rattle.cluster_core.specs.declared.event.StepReply.TheVariants as reply
 use Rattle.cluster_core.specs.declared.replica_state.ReplicaState.{ReplicaState}
-use Rattle.transcripts.specs.Placements.{has_replica}
-use Rattle.replica_exchange.specs.MachineCalls.{HasRoom}
-use Rattle.replica_exchange.specs.Promises.{Ends}
-use Rattle.replica_exchange.specs.declared.call_err.CallErr.{CallErr}
-use Rattle.replica_exchange.specs.declared.slot.Slot.{Slot}
-use Rattle.replica_calls.specs.Calls.{MayCall, Tracked}
-use Rattle.replica_calls.specs.Slots.{MemberMap}
-use Rattle.session_net.specs.Ready.{IsCallable, IsReady, Places}
-use Rattle.session_net.specs.Runs.{Ran, Step, slot_at, step_in, steps_of}
-use Rattle.session_net.proofs.ReadyLemmas.{AreQuiet, any_after, may_call, ready_after, there_after}
+use Rattle.node_calls.specs.transcripts.Placements.{has_replica}
+use Rattle.node_calls.specs.replica_exchange.MachineCalls.{HasRoom}
+use Rattle.node_calls.specs.replica_exchange.Promises.{Ends}
+use Rattle.node_calls.specs.replica_exchange.declared.call_err.CallErr.{CallErr}
+use Rattle.node_calls.specs.replica_exchange.declared.slot.Slot.{Slot}
+use Rattle.node_calls.specs.replica_calls.Calls.{MayCall, Tracked}
+use Rattle.node_calls.specs.replica_calls.Slots.{MemberMap}
+use Rattle.node_calls.specs.session_net.Ready.{IsCallable, IsReady, Places}
+use Rattle.node_calls.specs.session_net.Runs.{Ran, Step, slot_at, step_in, steps_of}
+use Rattle.node_calls.proofs.session_net_proofs.ReadyLemmas.{AreQuiet, any_after, may_call, ready_after, there_after}
 use Rattle.node_calls.proofs.ListLemmas.{filter_few}
 use Rattle.node_calls.proofs.RunLemmas.{quiet_exchange, quiet_flat, ran_ok}
 use Rattle.first_cluster.specs.Slots.{AreApart, slots_of}

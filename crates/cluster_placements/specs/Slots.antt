@@ -3,9 +3,9 @@ use Rattle.std.specs.Prelude.{◌<◌, List, Some, not, filter, length, is_none}
 use Rattle.std.specs.FinMap.{get}
 use Rattle.m3_model.specs.Members.{IsIn}
 use Rattle.m3_model.specs.declared.placement.Placement.{Placement}
-use Rattle.replica_calls.specs.Slots.{MemberMap}
-use Rattle.replica_exchange.specs.declared.slot.Slot.{Slot}
-use Rattle.transcripts.specs.Placements.{has_replica}
+use Rattle.node_calls.specs.replica_calls.Slots.{MemberMap}
+use Rattle.node_calls.specs.replica_exchange.declared.slot.Slot.{Slot}
+use Rattle.node_calls.specs.transcripts.Placements.{has_replica}
 use Rattle.first_cluster.specs.Slots.{AreApart, slots_of}
 
 -- the slots of the placement that have no replica yet, by shard

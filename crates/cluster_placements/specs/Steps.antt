@@ -25,14 +25,14 @@ use Rattle.cluster_core.specs.declared.event.Event.{Event}
 use Rattle.cluster_core.specs.declared.event.Event.TheVariants as event
 use Rattle.cluster_core.specs.declared.event.StepCall.TheVariants as call
 use Rattle.cluster_core.specs.declared.event.StepReply.TheVariants as reply
-use Rattle.replica_exchange.specs.MachineCalls.{HasRoom}
-use Rattle.replica_exchange.specs.declared.slot.Slot.{Slot}
-use Rattle.replica_calls.specs.Slots.{MemberMap, slot_cmp}
-use Rattle.session_net.specs.Messages.{exchange}
-use Rattle.session_net.specs.Ready.{IsReady}
-use Rattle.session_net.specs.Runs.{Ran, slot_at, steps_of}
-use Rattle.cluster_members.specs.Kept.{PastServes}
-use Rattle.cluster_members.specs.declared.members.Members.{Members}
+use Rattle.node_calls.specs.replica_exchange.MachineCalls.{HasRoom}
+use Rattle.node_calls.specs.replica_exchange.declared.slot.Slot.{Slot}
+use Rattle.node_calls.specs.replica_calls.Slots.{MemberMap, slot_cmp}
+use Rattle.node_calls.specs.session_net.Messages.{exchange}
+use Rattle.node_calls.specs.session_net.Ready.{IsReady}
+use Rattle.node_calls.specs.session_net.Runs.{Ran, slot_at, steps_of}
+use Rattle.node_calls.specs.cluster_members.Kept.{PastServes}
+use Rattle.node_calls.specs.cluster_members.declared.members.Members.{Members}
 use Rattle.node_calls.specs.Halts.{AreManned}
 use Rattle.first_cluster.specs.Depots.{AreOut}
 use Rattle.cluster_placements.specs.Lending.{HaveGained, HaveReturned, IsUntakenAt}

@@ -2,7 +2,7 @@
 ghost use Rattle.std.specs.Prelude.{◌≡◌, ◌<◌, ◌+◌, ◌*◌, true, length};
 ghost use Rattle.m3_model.specs.Limits.{MeetsLimits};
 ghost use Rattle.placement_acts.specs.Acts.{is_step_act};
-ghost use Rattle.replica_exchange.specs.MachineCalls.{HasRoom};
+ghost use Rattle.node_calls.specs.replica_exchange.MachineCalls.{HasRoom};
 ghost use Rattle.first_cluster.specs.Depots.{depot_by};
 ghost use Rattle.first_cluster.specs.First.{IsDiskAnswer};
 ghost use Rattle.cluster_placements.specs.Steps.{IsChanged, IsMade, MayBeMade, MayChange, kept_in};
@@ -11,10 +11,10 @@ use crate::events::{end_all, place};
 use crate::lending::gain;
 use crate::plan::{Change, planned};
 use crate::untaken::Untaken;
-use cluster_members::Members;
 use m3_model::{Act, Answer, Duplicate, Placement};
 use m3_outside::{Disk, Disks};
-use replica_exchange::Slot;
+use node_calls::cluster_members::Members;
+use node_calls::replica_exchange::Slot;
 use std::alloc::Global;
 use std::mem::replace;
 

@@ -6,17 +6,17 @@ ghost use Rattle.m3_model.specs.Members.{IsIn};
 ghost use Rattle.cluster_core.specs.Legal.{IsNextPlace, Lawful};
 ghost use Rattle.cluster_core.specs.declared.event.Asked.TheVariants as asked;
 ghost use Rattle.cluster_core.specs.declared.event.Event.TheVariants as event;
-ghost use Rattle.replica_exchange.specs.MachineCalls.{HasRoom};
-ghost use Rattle.replica_exchange.specs.declared.slot.Slot.{Slot as AtSlot};
-ghost use Rattle.session_net.specs.Runs.{Ran};
+ghost use Rattle.node_calls.specs.replica_exchange.MachineCalls.{HasRoom};
+ghost use Rattle.node_calls.specs.replica_exchange.declared.slot.Slot.{Slot as AtSlot};
+ghost use Rattle.node_calls.specs.session_net.Runs.{Ran};
 ghost use Rattle.cluster_placements.specs.Steps.{end_at, place_events};
 
 use event_trail::{EventView, tell_apart};
 use m3_model::Placement;
 use m3_outside::Disk;
-use replica_calls::Replicas;
-use replica_exchange::Slot;
-use session_net::add;
+use node_calls::replica_calls::Replicas;
+use node_calls::replica_exchange::Slot;
+use node_calls::session_net::add;
 
 // Adds an Ask for a Place of the placement to the list, which has room for it.
 fn ask<D: Disk>(replicas: &mut Replicas<D>, next: &Placement)

@@ -2,7 +2,7 @@
 ghost use Rattle.std.specs.Prelude.{◌≡◌, OnOk, OnErr, IfErr};
 ghost use Rattle.m3_model.specs.Members.{IsIn};
 ghost use Rattle.cluster_core.specs.Replicas.{replica, fresh};
-ghost use Rattle.replica_exchange.specs.declared.slot.Slot.{Slot as AtSlot};
+ghost use Rattle.node_calls.specs.replica_exchange.declared.slot.Slot.{Slot as AtSlot};
 ghost use Rattle.first_cluster.specs.Depots.{depot_by, disk_slot_of};
 ghost use Rattle.first_cluster.specs.Lending.{IsFree, IsNewlyTaken, KeepsOthers};
 ghost use Rattle.first_cluster.specs.Slots.{AreApart};
@@ -11,8 +11,8 @@ ghost use Rattle.cluster_placements.specs.Lending.{AreLent, HaveGained, HaveRetu
 use crate::untaken::Untaken;
 use first_cluster::give_all;
 use m3_outside::{Disk, DiskErr, DiskSlot, Disks};
-use replica_calls::Replicas;
-use replica_exchange::Slot;
+use node_calls::replica_calls::Replicas;
+use node_calls::replica_exchange::Slot;
 use std::alloc::Global;
 
 // The slot of a replica's disk.

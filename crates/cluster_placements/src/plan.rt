@@ -10,11 +10,11 @@ ghost use Rattle.cluster_placements.specs.Steps.{IsChange, IsFitted, kept_in};
 
 use crate::flags::with_nodes;
 use crate::slots::{left_out, slots_of, together, unmanned};
-use cluster_members::Members;
 use m3_model::{Act, Answer, Duplicate, Memory, Placement};
 use m3_outside::Disk;
+use node_calls::cluster_members::Members;
+use node_calls::replica_exchange::Slot;
 use placement_lines::next_placement;
-use replica_exchange::Slot;
 use std::alloc::Global;
 
 // What a line is to make.

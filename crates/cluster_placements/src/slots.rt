@@ -2,14 +2,14 @@
 ghost use Rattle.std.specs.Prelude.{◌≡◌, ◌↔◌, ◌≤◌, ◌^◌, ◌++◌, Some, not, filter, length, is_none, Any, IfOk, IsTrue};
 ghost use Rattle.std.specs.FinMap as finite;
 ghost use Rattle.std.specs.List.Sorted.{IsPermutation, IsSorted};
-ghost use Rattle.transcripts.specs.Placements.{has_replica};
-ghost use Rattle.replica_calls.specs.Slots.{slot_cmp};
+ghost use Rattle.node_calls.specs.transcripts.Placements.{has_replica};
+ghost use Rattle.node_calls.specs.replica_calls.Slots.{slot_cmp};
 ghost use Rattle.first_cluster.specs.Slots.{slots_of};
 
 use m3_model::{Assignment, Memory, Placement};
 use m3_outside::Disk;
-use replica_calls::Replicas;
-use replica_exchange::Slot;
+use node_calls::replica_calls::Replicas;
+use node_calls::replica_exchange::Slot;
 use std::alloc::Global;
 
 // The slots of a placement's replicas, by shard.

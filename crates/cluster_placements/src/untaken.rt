@@ -1,4 +1,4 @@
-use replica_exchange::Slot;
+use node_calls::replica_exchange::Slot;
 
 /// Why no replica could be made over the disk of a slot.
 #[derive(Clone, Copy)]

@@ -4,10 +4,10 @@ use Rattle.m3_outside.specs.DiskState.{DiskState}
 use Rattle.m3_outside.specs.declared.disk.Disk.{Ghosts}
 use Rattle.cluster_core.specs.declared.event.Event.TheVariants as event
 use Rattle.cluster_core.proofs.ListLemmas.{in_at}
-use Rattle.session_net.specs.Runs.{slot_at}
-use Rattle.session_net.specs.declared.net.Net.{Net}
-use Rattle.call_lines.specs.Laws.{Kind}
-use Rattle.cluster_members.specs.declared.members.Members.{Members}
+use Rattle.placement_tracks.specs.session_net.Runs.{slot_at}
+use Rattle.placement_tracks.specs.session_net.declared.net.Net.{Net}
+use Rattle.placement_tracks.specs.call_lines.Laws.{Kind}
+use Rattle.placement_tracks.specs.cluster_members.declared.members.Members.{Members}
 use Rattle.cluster_tracks.specs.Adds.{AnewAdds, BegunAdds, CallAdds, ServedAdds, StepsAreOfSlots}
 use Rattle.cluster_tracks.proofs.OpenLemmas.{none_there}
 

@@ -12,14 +12,14 @@ use Rattle.m3_model.specs.declared.rules.MetaState.{MetaState}
 use Rattle.m3_outside.specs.Depots.{Depot}
 use Rattle.m3_outside.specs.DiskState.{DiskState, IsLawfulDisk}
 use Rattle.m3_outside.specs.declared.disk.Disk.{Ghosts}
-use Rattle.call_lines.specs.Laws.{IsNotRefused}
-use Rattle.cluster_members.specs.Names.{node_named}
-use Rattle.cluster_members.specs.declared.members.Members.{Members}
+use Rattle.placement_tracks.specs.call_lines.Laws.{IsNotRefused}
+use Rattle.placement_tracks.specs.cluster_members.Names.{node_named}
+use Rattle.placement_tracks.specs.cluster_members.declared.members.Members.{Members}
 use Rattle.upkeep_lines.specs.Nodes.{HasShard, IsBootstrapAnswer, IsHeldUp, IsNoShard, MayBoot}
-use Rattle.act_lines.specs.Due.{BootstrapDue, IsDueNext}
-use Rattle.act_lines.proofs.DueLemmas.{bootstraps_are_due}
-use Rattle.act_lines.specs.Nodes.{LeavesBegun}
-use Rattle.act_lines.proofs.BootTells.{available_tells, boot_damaged_tells, boot_failed_tells, boot_wanted_tells}
+use Rattle.placement_tracks.specs.act_lines.Due.{BootstrapDue, IsDueNext}
+use Rattle.placement_tracks.proofs.act_lines_proofs.DueLemmas.{bootstraps_are_due}
+use Rattle.placement_tracks.specs.act_lines.Nodes.{LeavesBegun}
+use Rattle.placement_tracks.proofs.act_lines_proofs.BootTells.{available_tells, boot_damaged_tells, boot_failed_tells, boot_wanted_tells}
 use Rattle.cluster_tracks.specs.Lines.{BootstrapsAreTracked, IsLeft, MayGoOn}
 use Rattle.cluster_tracks.proofs.NodeLemmas.{IsTracked, begun_on, flag_tells, full_on, may_begin, refused_on, so, wanted_on}
 use Rattle.cluster_tracks.proofs.SharedLemmas.{have_left}

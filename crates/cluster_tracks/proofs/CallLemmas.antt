@@ -9,26 +9,26 @@ use Rattle.m3_outside.specs.Depots.{Depot}
 use Rattle.m3_outside.specs.DiskState.{DiskState, IsLawfulDisk}
 use Rattle.m3_outside.specs.declared.disk.Disk.{Ghosts}
 use Rattle.cluster_core.specs.declared.event.Event.{Event}
-use Rattle.session_net.specs.Runs.{Ran}
-use Rattle.session_net.specs.Calls.{Tracked}
-use Rattle.session_net.specs.declared.net.Net.{Net}
-use Rattle.session_net.proofs.RunLemmas.{ran_nothing}
-use Rattle.told_by.specs.Lines.{MakesAndHears, PlainLine}
-use Rattle.told_by.specs.Makes.{OpensReplicas}
+use Rattle.placement_tracks.specs.session_net.Runs.{Ran}
+use Rattle.placement_tracks.specs.session_net.Calls.{Tracked}
+use Rattle.placement_tracks.specs.session_net.declared.net.Net.{Net}
+use Rattle.placement_tracks.proofs.session_net_proofs.RunLemmas.{ran_nothing}
+use Rattle.placement_tracks.specs.told_by.Lines.{MakesAndHears, PlainLine}
+use Rattle.placement_tracks.specs.told_by.Makes.{OpensReplicas}
 use Rattle.transcripts.specs.Record.{line_of}
-use Rattle.call_lines.specs.Laws.{IsNotRefused, Kind, LeavesLine, LeavesServed}
-use Rattle.call_lines.specs.Left.{NetIsLeftBy, IsNextCall}
-use Rattle.call_lines.proofs.KeepLemmas.{left_as_before}
-use Rattle.cluster_members.specs.Calls.{IsMissing, KeepsCluster}
-use Rattle.cluster_members.specs.Kept.{IsNumberOf, IsUnkept, KeepsNone}
-use Rattle.cluster_members.specs.declared.members.Members.{Members}
-use Rattle.act_lines.specs.Due.{CallDue, IsDueNext, SpaceDue}
-use Rattle.act_lines.specs.Settings.{LeavesNothing}
-use Rattle.act_lines.specs.Quiet.{DeliversNone, SetsNone}
-use Rattle.act_lines.proofs.DueLemmas.{calls_are_due}
-use Rattle.act_lines.proofs.KnownLemmas.{known_kept}
-use Rattle.act_lines.proofs.NothingLemmas.{refused_tells}
-use Rattle.act_lines.proofs.QuietLemmas.{delivers_nothing_so, keeps_stops_so, sets_nothing_so}
+use Rattle.placement_tracks.specs.call_lines.Laws.{IsNotRefused, Kind, LeavesLine, LeavesServed}
+use Rattle.placement_tracks.specs.call_lines.Left.{NetIsLeftBy, IsNextCall}
+use Rattle.placement_tracks.proofs.call_lines_proofs.KeepLemmas.{left_as_before}
+use Rattle.placement_tracks.specs.cluster_members.Calls.{IsMissing, KeepsCluster}
+use Rattle.placement_tracks.specs.cluster_members.Kept.{IsNumberOf, IsUnkept, KeepsNone}
+use Rattle.placement_tracks.specs.cluster_members.declared.members.Members.{Members}
+use Rattle.placement_tracks.specs.act_lines.Due.{CallDue, IsDueNext, SpaceDue}
+use Rattle.placement_tracks.specs.act_lines.Settings.{LeavesNothing}
+use Rattle.placement_tracks.specs.act_lines.Quiet.{DeliversNone, SetsNone}
+use Rattle.placement_tracks.proofs.act_lines_proofs.DueLemmas.{calls_are_due}
+use Rattle.placement_tracks.proofs.act_lines_proofs.KnownLemmas.{known_kept}
+use Rattle.placement_tracks.proofs.act_lines_proofs.NothingLemmas.{refused_tells}
+use Rattle.placement_tracks.proofs.act_lines_proofs.QuietLemmas.{delivers_nothing_so, keeps_stops_so, sets_nothing_so}
 use Rattle.cluster_tracks.specs.Numbers.{last_number, numbers_by}
 use Rattle.cluster_tracks.specs.Steps.{AddsLine, TracksOn}
 use Rattle.cluster_tracks.specs.Tracks.{StandsSo, Tracks}

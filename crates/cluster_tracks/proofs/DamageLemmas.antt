@@ -11,12 +11,12 @@ use Rattle.cluster_core.specs.declared.event.StepReply.{StepReply}
 use Rattle.cluster_core.specs.declared.event.StepReply.TheVariants as reply
 use Rattle.cluster_core.specs.declared.replica_state.ReplicaState.{ReplicaState}
 use Rattle.cluster_core.proofs.ListLemmas.{in_at}
-use Rattle.replica_machine.specs.Machines.{IsMachineOf, MachineState}
-use Rattle.replica_machine.specs.Openings.{AllSound}
-use Rattle.replica_machine.specs.Steps.{IsStep}
-use Rattle.replica_machine.proofs.OpeningLemmas.{tenures_are_known}
-use Rattle.replica_calls.specs.Calls.{Tracked}
-use Rattle.first_cluster.specs.Bare.{HasNoPoints}
+use Rattle.placement_tracks.specs.replica_machine.Machines.{IsMachineOf, MachineState}
+use Rattle.placement_tracks.specs.replica_machine.Openings.{AllSound}
+use Rattle.placement_tracks.specs.replica_machine.Steps.{IsStep}
+use Rattle.placement_tracks.proofs.replica_machine_proofs.OpeningLemmas.{tenures_are_known}
+use Rattle.placement_tracks.specs.replica_calls.Calls.{Tracked}
+use Rattle.placement_tracks.specs.first_cluster.Bare.{HasNoPoints}
 use Rattle.cluster_tracks.specs.Runs.{RunFindsNoDamage}
 use Rattle.cluster_tracks.proofs.OpenLemmas.{in_run}
 

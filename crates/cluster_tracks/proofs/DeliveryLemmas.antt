@@ -9,22 +9,22 @@ use Rattle.m3_model.specs.declared.turn.Turn.{Turn}
 use Rattle.m3_outside.specs.Depots.{Depot}
 use Rattle.m3_outside.specs.DiskState.{DiskState, IsLawfulDisk}
 use Rattle.m3_outside.specs.declared.disk.Disk.{Ghosts}
-use Rattle.replica_calls.specs.Calls.{Tracked}
-use Rattle.session_net.specs.Runs.{Ran}
-use Rattle.session_net.specs.declared.net.Net.{Net}
-use Rattle.session_net.proofs.RunLemmas.{ran_nothing}
-use Rattle.told_by.specs.Lines.{PlainLine}
+use Rattle.placement_tracks.specs.replica_calls.Calls.{Tracked}
+use Rattle.placement_tracks.specs.session_net.Runs.{Ran}
+use Rattle.placement_tracks.specs.session_net.declared.net.Net.{Net}
+use Rattle.placement_tracks.proofs.session_net_proofs.RunLemmas.{ran_nothing}
+use Rattle.placement_tracks.specs.told_by.Lines.{PlainLine}
 use Rattle.transcripts.specs.Record.{line_of}
-use Rattle.call_lines.specs.Left.{NetIsLeftBy}
-use Rattle.call_lines.proofs.DeliverLemmas.{delivered_tells}
-use Rattle.call_lines.proofs.KeepLemmas.{left_as_before, left_by_delivery}
-use Rattle.cluster_members.specs.declared.members.Members.{Members}
+use Rattle.placement_tracks.specs.call_lines.Left.{NetIsLeftBy}
+use Rattle.placement_tracks.proofs.call_lines_proofs.DeliverLemmas.{delivered_tells}
+use Rattle.placement_tracks.proofs.call_lines_proofs.KeepLemmas.{left_as_before, left_by_delivery}
+use Rattle.placement_tracks.specs.cluster_members.declared.members.Members.{Members}
 use Rattle.upkeep_lines.specs.Nodes.{IsDeliverAnswer, KeepsButReplicas}
-use Rattle.act_lines.specs.Settings.{LeavesNothing}
-use Rattle.act_lines.proofs.DueLemmas.{deliveries_are_due}
-use Rattle.act_lines.proofs.KnownLemmas.{known_kept}
-use Rattle.act_lines.proofs.NothingLemmas.{full_delivery_tells}
-use Rattle.act_lines.proofs.QuietLemmas.{delivers_nothing_so, keeps_stops_so, sets_nothing_so}
+use Rattle.placement_tracks.specs.act_lines.Settings.{LeavesNothing}
+use Rattle.placement_tracks.proofs.act_lines_proofs.DueLemmas.{deliveries_are_due}
+use Rattle.placement_tracks.proofs.act_lines_proofs.KnownLemmas.{known_kept}
+use Rattle.placement_tracks.proofs.act_lines_proofs.NothingLemmas.{full_delivery_tells}
+use Rattle.placement_tracks.proofs.act_lines_proofs.QuietLemmas.{delivers_nothing_so, keeps_stops_so, sets_nothing_so}
 use Rattle.cluster_tracks.specs.Steps.{AddsLine}
 use Rattle.cluster_tracks.specs.Tracks.{Tracks}
 use Rattle.cluster_tracks.proofs.AddLemmas.{call_adds, served_adds}

@@ -21,21 +21,21 @@ use Rattle.cluster_core.specs.declared.event.Event.{Event}
 use Rattle.cluster_core.specs.declared.event.Event.TheVariants as event
 use Rattle.cluster_core.specs.declared.event.StepCall.{StepCall}
 use Rattle.cluster_core.specs.declared.event.StepReply.TheVariants as reply
-use Rattle.told_by.proofs.KeptLemmas.{told_kept}
-use Rattle.told_causes.specs.Faults.{fault_of, faults_told, tells_of}
-use Rattle.told_causes.proofs.FaultLemmas.{count_append, faults_steps}
-use Rattle.told_runs.specs.Lines.{life_of}
-use Rattle.told_runs.proofs.CausedLemmas.{told_caused}
-use Rattle.told_runs.proofs.CountedLemmas.{few, of_run}
+use Rattle.placement_tracks.proofs.told_by_proofs.KeptLemmas.{told_kept}
+use Rattle.placement_tracks.specs.told_causes.Faults.{fault_of, faults_told, tells_of}
+use Rattle.placement_tracks.proofs.told_causes_proofs.FaultLemmas.{count_append, faults_steps}
+use Rattle.placement_tracks.specs.told_runs.Lines.{life_of}
+use Rattle.placement_tracks.proofs.told_runs_proofs.CausedLemmas.{told_caused}
+use Rattle.placement_tracks.proofs.told_runs_proofs.CountedLemmas.{few, of_run}
 use Rattle.transcripts.specs.Caused.{Caused}
 use Rattle.transcripts.specs.Faults.{Fault, FaultKind, Taking, Failing, Damaged, is_failing, is_taking}
 use Rattle.transcripts.specs.Record.{TurnPosition, IsTurnPosition}
-use Rattle.replica_exchange.specs.declared.member.Member.{Member}
-use Rattle.replica_exchange.specs.declared.slot.Slot.{Slot}
-use Rattle.replica_calls.specs.Slots.{MemberMap}
-use Rattle.session_net.specs.Runs.{Step, slot_at, step_in, steps_of}
-use Rattle.cluster_members.specs.declared.members.Members.{Members}
-use Rattle.first_cluster.specs.Depots.{count_at, disk_slot_of, risen}
+use Rattle.placement_tracks.specs.replica_exchange.declared.member.Member.{Member}
+use Rattle.placement_tracks.specs.replica_exchange.declared.slot.Slot.{Slot}
+use Rattle.placement_tracks.specs.replica_calls.Slots.{MemberMap}
+use Rattle.placement_tracks.specs.session_net.Runs.{Step, slot_at, step_in, steps_of}
+use Rattle.placement_tracks.specs.cluster_members.declared.members.Members.{Members}
+use Rattle.placement_tracks.specs.first_cluster.Depots.{count_at, disk_slot_of, risen}
 use Rattle.cluster_tracks.specs.Ends.{AreGivenBack, CausedWhereTracked, KeptWhereTracked, ShownWhereTracked, is_failed_at, is_fault}
 use Rattle.cluster_tracks.specs.Failures.{failures_in}
 use Rattle.cluster_tracks.specs.Runs.{HasNoDamage, RoseByFailures, no_points}

@@ -10,12 +10,12 @@ use Rattle.m3_outside.specs.DiskState.{DiskState}
 use Rattle.cluster_core.specs.declared.event.Event.{Event}
 use Rattle.cluster_core.specs.declared.event.StepReply.{StepReply}
 use Rattle.cluster_core.specs.declared.event.StepReply.TheVariants as reply
-use Rattle.replica_machine.specs.Machines.{MachineState}
-use Rattle.replica_exchange.specs.declared.member.Member.{Member}
-use Rattle.replica_exchange.specs.declared.slot.Slot.{Slot}
-use Rattle.replica_calls.specs.Calls.{Tracked}
-use Rattle.session_net.specs.Runs.{IsStepped, Ran, Step, TakesSteps, step_in, steps_of}
-use Rattle.told_causes.proofs.FaultLemmas.{count_append}
+use Rattle.placement_tracks.specs.replica_machine.Machines.{MachineState}
+use Rattle.placement_tracks.specs.replica_exchange.declared.member.Member.{Member}
+use Rattle.placement_tracks.specs.replica_exchange.declared.slot.Slot.{Slot}
+use Rattle.placement_tracks.specs.replica_calls.Calls.{Tracked}
+use Rattle.placement_tracks.specs.session_net.Runs.{IsStepped, Ran, Step, TakesSteps, step_in, steps_of}
+use Rattle.placement_tracks.proofs.told_causes_proofs.FaultLemmas.{count_append}
 use Rattle.cluster_tracks.specs.Failures.{CountGoesOn, CountsFailures, OnlyReplicasStep, OtherSlotsStay, failures_in, is_failure}
 
 -- ---- counts

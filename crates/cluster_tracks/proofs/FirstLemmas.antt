@@ -22,30 +22,30 @@ use Rattle.cluster_core.specs.declared.event.Event.TheVariants as event
 use Rattle.cluster_core.specs.declared.event.StepCall.TheVariants as call
 use Rattle.cluster_core.specs.declared.event.StepReply.{StepReply}
 use Rattle.cluster_core.proofs.ListLemmas.{at_in, in_at}
-use Rattle.replica_exchange.specs.declared.member.Member.{Member}
-use Rattle.replica_exchange.specs.declared.slot.Slot.{Slot}
-use Rattle.replica_calls.specs.Calls.{first_member}
-use Rattle.session_net.specs.Runs.{slot_at, steps_of}
-use Rattle.cluster_members.specs.declared.members.Members.{Members}
-use Rattle.first_cluster.specs.Bare.{AreBare, IsBare}
-use Rattle.first_cluster.specs.Begins.{begins_of}
-use Rattle.first_cluster.specs.Depots.{disk_slot_of}
-use Rattle.first_cluster.specs.First.{IsFirst}
-use Rattle.first_cluster.specs.Slots.{AreApart, start_at, starts_of}
-use Rattle.first_cluster.proofs.BareLemmas.{given_bare}
-use Rattle.first_cluster.proofs.PlacedSlots.{from_start, tenure_first}
-use Rattle.first_cluster.proofs.SlotLists.{in_or_out, slots_apart}
-use Rattle.told_by.specs.Makes.{IsAssigned}
+use Rattle.placement_tracks.specs.replica_exchange.declared.member.Member.{Member}
+use Rattle.placement_tracks.specs.replica_exchange.declared.slot.Slot.{Slot}
+use Rattle.placement_tracks.specs.replica_calls.Calls.{first_member}
+use Rattle.placement_tracks.specs.session_net.Runs.{slot_at, steps_of}
+use Rattle.placement_tracks.specs.cluster_members.declared.members.Members.{Members}
+use Rattle.placement_tracks.specs.first_cluster.Bare.{AreBare, IsBare}
+use Rattle.placement_tracks.specs.first_cluster.Begins.{begins_of}
+use Rattle.placement_tracks.specs.first_cluster.Depots.{disk_slot_of}
+use Rattle.placement_tracks.specs.first_cluster.First.{IsFirst}
+use Rattle.placement_tracks.specs.first_cluster.Slots.{AreApart, start_at, starts_of}
+use Rattle.placement_tracks.proofs.first_cluster_proofs.BareLemmas.{given_bare}
+use Rattle.placement_tracks.proofs.first_cluster_proofs.PlacedSlots.{from_start, tenure_first}
+use Rattle.placement_tracks.proofs.first_cluster_proofs.SlotLists.{in_or_out, slots_apart}
+use Rattle.placement_tracks.specs.told_by.Makes.{IsAssigned}
 use Rattle.transcripts.specs.Record.{line_of}
-use Rattle.act_lines.specs.Stands.{NoneStands, ClusterStands}
-use Rattle.act_lines.specs.Opens.{IsGivenNow, IsLow, OpensLow}
-use Rattle.act_lines.proofs.BeginEvents.{step_among}
-use Rattle.act_lines.proofs.InitStands.{first_stands}
+use Rattle.placement_tracks.specs.act_lines.Stands.{NoneStands, ClusterStands}
+use Rattle.placement_tracks.specs.act_lines.Opens.{IsGivenNow, IsLow, OpensLow}
+use Rattle.placement_tracks.proofs.act_lines_proofs.BeginEvents.{step_among}
+use Rattle.placement_tracks.proofs.act_lines_proofs.InitStands.{first_stands}
 use Rattle.cluster_tracks.specs.Runs.{HasRun, HaveRun, IsMadeOver}
 use Rattle.cluster_tracks.specs.Steps.{FirstStandsSo}
 use Rattle.cluster_tracks.specs.Tracks.{HasTenures}
 use Rattle.cluster_tracks.proofs.FailureLemmas.{stepped_from, stepped_none}
-use Rattle.told_moves.proofs.SlotLemmas.{Tries, tried_began}
+use Rattle.placement_tracks.proofs.told_moves_proofs.SlotLemmas.{Tries, tried_began}
 
 -- a slot without a replica took no step
 pub first_unstepped : {D : Type 0} {G : Ghosts D} (state : D → DiskState) (rf shards seed : ℕ) (nodes : List (List ℕ × List ℕ)) (old now : Depot D) (m : Members D G) → IsFirst state rf shards seed nodes old now m → (s : Slot) → finite.get m.net.replicas.members s ≡ None → steps_of s m.net.replicas.events ≡ []

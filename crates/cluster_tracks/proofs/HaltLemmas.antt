@@ -14,13 +14,13 @@ use Rattle.m3_outside.specs.Depots.{Depot}
 use Rattle.m3_outside.specs.DiskState.{DiskState, IsLawfulDisk}
 use Rattle.m3_outside.specs.declared.disk.Disk.{Ghosts}
 use Rattle.cluster_core.specs.declared.event.Event.{Event}
-use Rattle.call_lines.specs.Laws.{IsNotRefused}
-use Rattle.cluster_members.specs.declared.members.Members.{Members}
+use Rattle.placement_tracks.specs.call_lines.Laws.{IsNotRefused}
+use Rattle.placement_tracks.specs.cluster_members.declared.members.Members.{Members}
 use Rattle.upkeep_lines.specs.Halts.{restart_at, slots_of_node, stop_at}
 use Rattle.upkeep_lines.specs.Nodes.{IsNode, IsRestarted, IsStopped, IsUnstarted}
-use Rattle.act_lines.specs.Due.{IsDueNext, RestartDue, StopDue}
-use Rattle.act_lines.proofs.DueLemmas.{restarts_are_due, stops_are_due}
-use Rattle.act_lines.proofs.HaltLemmas.{few_own, restart_failed_tells, restart_wanted_tells, restarted_tells, stopped_tells}
+use Rattle.placement_tracks.specs.act_lines.Due.{IsDueNext, RestartDue, StopDue}
+use Rattle.placement_tracks.proofs.act_lines_proofs.DueLemmas.{restarts_are_due, stops_are_due}
+use Rattle.placement_tracks.proofs.act_lines_proofs.HaltLemmas.{few_own, restart_failed_tells, restart_wanted_tells, restarted_tells, stopped_tells}
 use Rattle.cluster_tracks.specs.Lines.{IsLeft, MayGoOn, RestartsAreTracked, StopsAreTracked}
 use Rattle.cluster_tracks.proofs.NodeLemmas.{IsTracked, flag_tells, halted_on, lacking_on, refused_on, so}
 use Rattle.cluster_tracks.proofs.SharedLemmas.{have_left}

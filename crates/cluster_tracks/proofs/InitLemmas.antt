@@ -14,32 +14,32 @@ use Rattle.m3_outside.specs.Depots.{Depot}
 use Rattle.m3_outside.specs.DiskState.{DiskState, IsLawfulDisk}
 use Rattle.m3_outside.specs.declared.disk.Disk.{Ghosts}
 use Rattle.m3_outside.specs.declared.slot.DiskSlot.{DiskSlot}
-use Rattle.replica_machine.specs.Machines.{MachineState}
-use Rattle.replica_exchange.specs.declared.member.Member.{Member}
-use Rattle.replica_exchange.specs.declared.slot.Slot.{Slot}
-use Rattle.replica_calls.specs.Slots.{MemberMap}
-use Rattle.session_net.specs.Runs.{slot_at}
-use Rattle.told_by.specs.Lines.{InitLine, PlainLine}
-use Rattle.told_moves.specs.Order.{IsInitAct}
+use Rattle.placement_tracks.specs.replica_machine.Machines.{MachineState}
+use Rattle.placement_tracks.specs.replica_exchange.declared.member.Member.{Member}
+use Rattle.placement_tracks.specs.replica_exchange.declared.slot.Slot.{Slot}
+use Rattle.placement_tracks.specs.replica_calls.Slots.{MemberMap}
+use Rattle.placement_tracks.specs.session_net.Runs.{slot_at}
+use Rattle.placement_tracks.specs.told_by.Lines.{InitLine, PlainLine}
+use Rattle.placement_tracks.specs.told_moves.Order.{IsInitAct}
 use Rattle.transcripts.specs.Faults.{Fault}
 use Rattle.transcripts.specs.Record.{line_of}
-use Rattle.cluster_members.specs.declared.members.Members.{Members}
-use Rattle.first_cluster.specs.Bare.{AreBare}
-use Rattle.first_cluster.specs.Depots.{disk_slot_of}
-use Rattle.first_cluster.specs.First.{IsFirst, IsRefusedInit, IsDiskUntaken}
-use Rattle.first_cluster.specs.Lending.{HasReturned, HasTaken, IsOpened}
-use Rattle.first_cluster.proofs.BareLemmas.{returned_bare}
-use Rattle.first_cluster.proofs.SlotLists.{in_or_out}
-use Rattle.act_lines.specs.Inits.{untaken_at}
-use Rattle.act_lines.proofs.InitLemmas.{first_tells}
-use Rattle.act_lines.proofs.GroupLemmas.{lacking_groups_tell}
-use Rattle.act_lines.proofs.UntakenLemmas.{untaken_tells}
-use Rattle.act_lines.specs.Settings.{LeavesNothing}
-use Rattle.act_lines.specs.Quiet.{SetsNone}
-use Rattle.act_lines.proofs.DueLemmas.{inits_are_due, order_is_due}
-use Rattle.act_lines.proofs.NothingLemmas.{refused_tells}
-use Rattle.act_lines.proofs.QuietLemmas.{keeps_stops_so, sets_nothing_so}
-use Rattle.act_lines.proofs.StandLemmas.{no_placement, stays_unmade}
+use Rattle.placement_tracks.specs.cluster_members.declared.members.Members.{Members}
+use Rattle.placement_tracks.specs.first_cluster.Bare.{AreBare}
+use Rattle.placement_tracks.specs.first_cluster.Depots.{disk_slot_of}
+use Rattle.placement_tracks.specs.first_cluster.First.{IsFirst, IsRefusedInit, IsDiskUntaken}
+use Rattle.placement_tracks.specs.first_cluster.Lending.{HasReturned, HasTaken, IsOpened}
+use Rattle.placement_tracks.proofs.first_cluster_proofs.BareLemmas.{returned_bare}
+use Rattle.placement_tracks.proofs.first_cluster_proofs.SlotLists.{in_or_out}
+use Rattle.placement_tracks.specs.act_lines.Inits.{untaken_at}
+use Rattle.placement_tracks.proofs.act_lines_proofs.InitLemmas.{first_tells}
+use Rattle.placement_tracks.proofs.act_lines_proofs.GroupLemmas.{lacking_groups_tell}
+use Rattle.placement_tracks.proofs.act_lines_proofs.UntakenLemmas.{untaken_tells}
+use Rattle.placement_tracks.specs.act_lines.Settings.{LeavesNothing}
+use Rattle.placement_tracks.specs.act_lines.Quiet.{SetsNone}
+use Rattle.placement_tracks.proofs.act_lines_proofs.DueLemmas.{inits_are_due, order_is_due}
+use Rattle.placement_tracks.proofs.act_lines_proofs.NothingLemmas.{refused_tells}
+use Rattle.placement_tracks.proofs.act_lines_proofs.QuietLemmas.{keeps_stops_so, sets_nothing_so}
+use Rattle.placement_tracks.proofs.act_lines_proofs.StandLemmas.{no_placement, stays_unmade}
 use Rattle.cluster_tracks.specs.Numbers.{numbers_by}
 use Rattle.cluster_tracks.specs.Steps.{AddsLine}
 use Rattle.cluster_tracks.specs.Tracks.{Tracks}

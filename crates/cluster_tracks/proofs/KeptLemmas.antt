@@ -13,23 +13,23 @@ use Rattle.m3_outside.specs.declared.disk.Disk.{Ghosts}
 use Rattle.cluster_core.specs.declared.event.Event.{Event}
 use Rattle.cluster_core.proofs.ListLemmas.{at_some, at_within}
 use Rattle.net_plan.specs.Fates.{FateMap, fate_of}
-use Rattle.session_net.specs.Calls.{Tracked}
-use Rattle.session_net.specs.Ready.{IsCallable}
-use Rattle.session_net.specs.Runs.{Ran}
-use Rattle.session_net.specs.declared.net.Net.{Net}
-use Rattle.session_net.proofs.ReadyLemmas.{may_call}
+use Rattle.placement_tracks.specs.session_net.Calls.{Tracked}
+use Rattle.placement_tracks.specs.session_net.Ready.{IsCallable}
+use Rattle.placement_tracks.specs.session_net.Runs.{Ran}
+use Rattle.placement_tracks.specs.session_net.declared.net.Net.{Net}
+use Rattle.placement_tracks.proofs.session_net_proofs.ReadyLemmas.{may_call}
 use Rattle.transcripts.specs.Deliveries.{LateMessage}
 use Rattle.transcripts.specs.Fates.{fate_in, numbering_after}
 use Rattle.transcripts.specs.Placements.{placements}
 use Rattle.transcripts.specs.Record.{Record, TurnPosition, inner_turns}
-use Rattle.told_runs.specs.Lines.{ServesOne}
-use Rattle.call_lines.specs.Laws.{IsNotRefused, Kind, LeavesLine, LeavesServed}
-use Rattle.call_lines.specs.Left.{FareAsSet, HoldsBack, MayUseAfter, NetIsUsable, WereDelivered}
-use Rattle.call_lines.proofs.WriteLemmas.{placed_in}
-use Rattle.cluster_members.specs.Kept.{IsBy, IsKept, Uses}
-use Rattle.cluster_members.specs.declared.members.Members.{Members}
-use Rattle.act_lines.specs.Due.{IsKnown}
-use Rattle.act_lines.specs.Stands.{ClusterStands}
+use Rattle.placement_tracks.specs.told_runs.Lines.{ServesOne}
+use Rattle.placement_tracks.specs.call_lines.Laws.{IsNotRefused, Kind, LeavesLine, LeavesServed}
+use Rattle.placement_tracks.specs.call_lines.Left.{FareAsSet, HoldsBack, MayUseAfter, NetIsUsable, WereDelivered}
+use Rattle.placement_tracks.proofs.call_lines_proofs.WriteLemmas.{placed_in}
+use Rattle.placement_tracks.specs.cluster_members.Kept.{IsBy, IsKept, Uses}
+use Rattle.placement_tracks.specs.cluster_members.declared.members.Members.{Members}
+use Rattle.placement_tracks.specs.act_lines.Due.{IsKnown}
+use Rattle.placement_tracks.specs.act_lines.Stands.{ClusterStands}
 
 module _ {D : Type 0} {G : Ghosts D} (m : Members D G) (turns : List Turn) (stands : ClusterStands None turns m) (version : Option ℕ) (place : Placement) (uses : Uses m.net.state.place m.past.items version place) where
   -- it is kept

@@ -23,4 +23,5 @@ pub mod UpkeepLemmas
 pub mod InitLemmas
 pub mod PlacementLemmas
 pub mod LineLemmas
-pub use Rattle.act_lines.proofs.StandLemmas
+pub use Rattle.placement_tracks.proofs.act_lines_proofs.StandLemmas
+pub use Rattle.placement_tracks.proofs.first_cluster_proofs as first_cluster_proofs

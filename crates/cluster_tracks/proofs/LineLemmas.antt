@@ -9,10 +9,10 @@ use Rattle.m3_model.specs.declared.turn.Turn.{Turn}
 use Rattle.m3_outside.specs.Depots.{Depot}
 use Rattle.m3_outside.specs.DiskState.{DiskState, IsLawfulDisk}
 use Rattle.m3_outside.specs.declared.disk.Disk.{Ghosts}
-use Rattle.replica_calls.specs.Calls.{AreMembersOf}
-use Rattle.told_moves.specs.Order.{IsInitAct}
+use Rattle.placement_tracks.specs.replica_calls.Calls.{AreMembersOf}
+use Rattle.placement_tracks.specs.told_moves.Order.{IsInitAct}
 use Rattle.transcripts.specs.Record.{line_of}
-use Rattle.cluster_members.specs.declared.members.Members.{Members}
+use Rattle.placement_tracks.specs.cluster_members.declared.members.Members.{Members}
 use Rattle.cluster_tracks.specs.Numbers.{numbers_by}
 use Rattle.cluster_tracks.specs.Tracks.{Tracks}
 use Rattle.cluster_tracks.specs.Acts.{Does, IsServedBy, OnMembers, next_call}

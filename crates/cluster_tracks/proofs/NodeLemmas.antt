@@ -11,26 +11,26 @@ use Rattle.m3_outside.specs.Depots.{Depot}
 use Rattle.m3_outside.specs.DiskState.{DiskState, IsLawfulDisk}
 use Rattle.m3_outside.specs.declared.disk.Disk.{Ghosts}
 use Rattle.cluster_core.specs.declared.event.Event.{Event}
-use Rattle.replica_exchange.specs.MachineCalls.{HasRoom}
-use Rattle.session_net.specs.Runs.{Ran}
-use Rattle.told_by.specs.Lines.{PlainLine}
-use Rattle.told_by.specs.Makes.{OpensReplicas}
+use Rattle.placement_tracks.specs.replica_exchange.MachineCalls.{HasRoom}
+use Rattle.placement_tracks.specs.session_net.Runs.{Ran}
+use Rattle.placement_tracks.specs.told_by.Lines.{PlainLine}
+use Rattle.placement_tracks.specs.told_by.Makes.{OpensReplicas}
 use Rattle.transcripts.specs.Fates.{is_stopped}
 use Rattle.transcripts.specs.Placements.{printed}
 use Rattle.transcripts.specs.Record.{inner_turns, line_of}
-use Rattle.call_lines.specs.Laws.{IsNotRefused}
-use Rattle.cluster_members.specs.declared.members.Members.{Members}
+use Rattle.placement_tracks.specs.call_lines.Laws.{IsNotRefused}
+use Rattle.placement_tracks.specs.cluster_members.declared.members.Members.{Members}
 use Rattle.upkeep_lines.specs.Halts.{slots_of_node}
 use Rattle.upkeep_lines.specs.Nodes.{IsNode, LacksRoom}
-use Rattle.act_lines.specs.Due.{IsDueNext}
-use Rattle.act_lines.specs.Settings.{LeavesNothing}
-use Rattle.act_lines.proofs.NothingLemmas.{no_room_tells, refused_tells}
-use Rattle.act_lines.specs.Stays.{HaveNoPlace}
-use Rattle.act_lines.specs.Keeps.{BeginsGiven}
-use Rattle.act_lines.specs.Nodes.{LeavesBegun, LeavesStanding}
-use Rattle.act_lines.specs.Opens.{MayOpenSlots}
-use Rattle.act_lines.proofs.OpenLemmas.{begins_still}
-use Rattle.act_lines.proofs.NodeStands.{stopped_so}
+use Rattle.placement_tracks.specs.act_lines.Due.{IsDueNext}
+use Rattle.placement_tracks.specs.act_lines.Settings.{LeavesNothing}
+use Rattle.placement_tracks.proofs.act_lines_proofs.NothingLemmas.{no_room_tells, refused_tells}
+use Rattle.placement_tracks.specs.act_lines.Stays.{HaveNoPlace}
+use Rattle.placement_tracks.specs.act_lines.Keeps.{BeginsGiven}
+use Rattle.placement_tracks.specs.act_lines.Nodes.{LeavesBegun, LeavesStanding}
+use Rattle.placement_tracks.specs.act_lines.Opens.{MayOpenSlots}
+use Rattle.placement_tracks.proofs.act_lines_proofs.OpenLemmas.{begins_still}
+use Rattle.placement_tracks.proofs.act_lines_proofs.NodeStands.{stopped_so}
 use Rattle.cluster_tracks.specs.Numbers.{numbers_by}
 use Rattle.cluster_tracks.specs.Steps.{AddsLine, StandsOn}
 use Rattle.cluster_tracks.specs.Tracks.{StandsSo, Tracks}

@@ -24,15 +24,15 @@ use Rattle.cluster_core.specs.declared.event.StepReply.TheVariants as reply
 use Rattle.cluster_core.specs.declared.replica_state.ReplicaState.{ReplicaState}
 use Rattle.cluster_core.proofs.ListLemmas.{at_in}
 use Rattle.m3_model.proofs.MemberLemmas.{filter_map-IsIn}
-use Rattle.replica_machine.specs.Machines.{MachineState, IsMachineOf, first_machine}
-use Rattle.replica_machine.specs.Openings.{AllSound}
-use Rattle.replica_machine.specs.Steps.{IsStep}
-use Rattle.replica_machine.proofs.OpeningLemmas.{first_begin_is_as_made}
-use Rattle.replica_machine.proofs.OtherLemmas.{first_follows}
-use Rattle.replica_exchange.specs.declared.member.Member.{Member}
-use Rattle.replica_calls.specs.Calls.{Tracked}
-use Rattle.session_net.specs.Runs.{Step, TakesSteps, slot_at, step_in, steps_of}
-use Rattle.first_cluster.specs.Bare.{HasNoPoints}
+use Rattle.placement_tracks.specs.replica_machine.Machines.{MachineState, IsMachineOf, first_machine}
+use Rattle.placement_tracks.specs.replica_machine.Openings.{AllSound}
+use Rattle.placement_tracks.specs.replica_machine.Steps.{IsStep}
+use Rattle.placement_tracks.proofs.replica_machine_proofs.OpeningLemmas.{first_begin_is_as_made}
+use Rattle.placement_tracks.proofs.replica_machine_proofs.OtherLemmas.{first_follows}
+use Rattle.placement_tracks.specs.replica_exchange.declared.member.Member.{Member}
+use Rattle.placement_tracks.specs.replica_calls.Calls.{Tracked}
+use Rattle.placement_tracks.specs.session_net.Runs.{Step, TakesSteps, slot_at, step_in, steps_of}
+use Rattle.placement_tracks.specs.first_cluster.Bare.{HasNoPoints}
 use Rattle.cluster_tracks.specs.Runs.{HaveRun, RunOpensEmpty}
 
 -- ---- one event

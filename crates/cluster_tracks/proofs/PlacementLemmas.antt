@@ -17,7 +17,7 @@ use Rattle.m3_outside.specs.Depots.{Depot}
 use Rattle.m3_outside.specs.DiskState.{DiskState, EachImage}
 use Rattle.m3_outside.specs.declared.disk.Disk.{Ghosts}
 use Rattle.m3_outside.specs.declared.slot.DiskSlot.{DiskSlot}
-use Rattle.placement_acts.specs.Acts.{is_step_act}
+use Rattle.placement_tracks.specs.placement_acts.Acts.{is_step_act}
 use Rattle.placement_core.proofs.ListLemmas.{IsIn-from_Any}
 use Rattle.placement_core.specs.Steps.{IsStep}
 use Rattle.cluster_core.specs.Earlier.{last_place}
@@ -25,33 +25,33 @@ use Rattle.cluster_core.specs.Legal.{Legal}
 use Rattle.cluster_core.specs.Replicas.{replica}
 use Rattle.cluster_core.specs.declared.event.Event.{Event}
 use Rattle.cluster_core.proofs.ListLemmas.{at_in, at_some, at_within, in_at}
-use Rattle.replica_exchange.specs.declared.member.Member.{Member}
-use Rattle.replica_exchange.specs.declared.slot.Slot.{Slot}
-use Rattle.replica_calls.specs.Calls.{first_member}
-use Rattle.replica_calls.specs.Slots.{MemberMap}
-use Rattle.session_net.specs.Runs.{IsStepped, Step, slot_at, steps_of}
-use Rattle.cluster_members.specs.declared.members.Members.{Members}
-use Rattle.first_cluster.specs.Bare.{AreBare, IsBare}
-use Rattle.first_cluster.specs.Depots.{disk_slot_of}
-use Rattle.first_cluster.specs.Lending.{IsNewlyTaken}
-use Rattle.first_cluster.proofs.BareLemmas.{given_bare}
-use Rattle.first_cluster.proofs.SlotLists.{in_or_out}
-use Rattle.told_by.specs.Makes.{IsAssigned}
-use Rattle.told_by.specs.Told.{ToldBy}
-use Rattle.told_moves.specs.Order.{IsInOrder, IsInitAct}
-use Rattle.told_moves.proofs.OwnLemmas.{begin_given}
-use Rattle.told_moves.proofs.SlotLemmas.{Tries, tried_began}
-use Rattle.told_moves.proofs.TenureLemmas.{given_by, step_had, tenure_grows}
-use Rattle.told_runs.specs.Lines.{delivered_on}
-use Rattle.told_runs.proofs.OrderLemmas.{in_order}
+use Rattle.placement_tracks.specs.replica_exchange.declared.member.Member.{Member}
+use Rattle.placement_tracks.specs.replica_exchange.declared.slot.Slot.{Slot}
+use Rattle.placement_tracks.specs.replica_calls.Calls.{first_member}
+use Rattle.placement_tracks.specs.replica_calls.Slots.{MemberMap}
+use Rattle.placement_tracks.specs.session_net.Runs.{IsStepped, Step, slot_at, steps_of}
+use Rattle.placement_tracks.specs.cluster_members.declared.members.Members.{Members}
+use Rattle.placement_tracks.specs.first_cluster.Bare.{AreBare, IsBare}
+use Rattle.placement_tracks.specs.first_cluster.Depots.{disk_slot_of}
+use Rattle.placement_tracks.specs.first_cluster.Lending.{IsNewlyTaken}
+use Rattle.placement_tracks.proofs.first_cluster_proofs.BareLemmas.{given_bare}
+use Rattle.placement_tracks.proofs.first_cluster_proofs.SlotLists.{in_or_out}
+use Rattle.placement_tracks.specs.told_by.Makes.{IsAssigned}
+use Rattle.placement_tracks.specs.told_by.Told.{ToldBy}
+use Rattle.placement_tracks.specs.told_moves.Order.{IsInOrder, IsInitAct}
+use Rattle.placement_tracks.proofs.told_moves_proofs.OwnLemmas.{begin_given}
+use Rattle.placement_tracks.proofs.told_moves_proofs.SlotLemmas.{Tries, tried_began}
+use Rattle.placement_tracks.proofs.told_moves_proofs.TenureLemmas.{given_by, step_had, tenure_grows}
+use Rattle.placement_tracks.specs.told_runs.Lines.{delivered_on}
+use Rattle.placement_tracks.proofs.told_runs_proofs.OrderLemmas.{in_order}
 use Rattle.transcripts.specs.Record.{line_of}
-use Rattle.call_lines.proofs.ServeLemmas.{delivered_so}
-use Rattle.act_lines.specs.Opens.{IsGivenNow, IsLow, OpensLow}
-use Rattle.act_lines.specs.Stands.{ClusterStands}
-use Rattle.cluster_placements.specs.Lending.{HaveGained, HaveReturned, IsLeftAt, IsUntakenAt}
-use Rattle.cluster_placements.specs.Slots.{left_slots, new_slots}
-use Rattle.cluster_placements.specs.Steps.{IsAsItWas, IsChanged, IsPlaced, MayChange, kept_in, step_events}
-use Rattle.cluster_placements.proofs.PlacedLemmas.{new_free}
+use Rattle.placement_tracks.proofs.call_lines_proofs.ServeLemmas.{delivered_so}
+use Rattle.placement_tracks.specs.act_lines.Opens.{IsGivenNow, IsLow, OpensLow}
+use Rattle.placement_tracks.specs.act_lines.Stands.{ClusterStands}
+use Rattle.placement_tracks.specs.cluster_placements.Lending.{HaveGained, HaveReturned, IsLeftAt, IsUntakenAt}
+use Rattle.placement_tracks.specs.cluster_placements.Slots.{left_slots, new_slots}
+use Rattle.placement_tracks.specs.cluster_placements.Steps.{IsAsItWas, IsChanged, IsPlaced, MayChange, kept_in, step_events}
+use Rattle.placement_tracks.proofs.cluster_placements_proofs.PlacedLemmas.{new_free}
 use Rattle.placement_tracks.proofs.ServeLemmas.{changes_serve}
 use Rattle.placement_tracks.proofs.StandLemmas.{changes_stand, comes_next}
 use Rattle.cluster_tracks.specs.Acts.{IsStepAnswer}

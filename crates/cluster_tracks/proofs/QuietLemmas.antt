@@ -13,17 +13,17 @@ use Rattle.cluster_core.specs.declared.event.Event.{Event}
 use Rattle.cluster_core.specs.declared.event.Event.TheVariants as event
 use Rattle.cluster_core.specs.declared.event.StepCall.TheVariants as call
 use Rattle.cluster_core.proofs.ListLemmas.{in_at}
-use Rattle.replica_calls.specs.Calls.{Tracked}
-use Rattle.told_by.specs.Lines.{MakesAndHears, position_after}
-use Rattle.told_by.specs.Makes.{MayMake, OpensReplicas}
-use Rattle.told_by.proofs.OneLemmas.{back_at}
+use Rattle.placement_tracks.specs.replica_calls.Calls.{Tracked}
+use Rattle.placement_tracks.specs.told_by.Lines.{MakesAndHears, position_after}
+use Rattle.placement_tracks.specs.told_by.Makes.{MayMake, OpensReplicas}
+use Rattle.placement_tracks.proofs.told_by_proofs.OneLemmas.{back_at}
 use Rattle.transcripts.specs.Placements.{printed}
-use Rattle.cluster_members.specs.declared.members.Members.{Members}
-use Rattle.act_lines.specs.Stays.{HaveNoPlace, IsNoPlace}
-use Rattle.act_lines.proofs.StandLemmas.{stands_still}
-use Rattle.act_lines.specs.Keeps.{BeginsGiven}
-use Rattle.act_lines.specs.Opens.{MayOpenSlots}
-use Rattle.act_lines.proofs.OpenLemmas.{begins_still}
+use Rattle.placement_tracks.specs.cluster_members.declared.members.Members.{Members}
+use Rattle.placement_tracks.specs.act_lines.Stays.{HaveNoPlace, IsNoPlace}
+use Rattle.placement_tracks.proofs.act_lines_proofs.StandLemmas.{stands_still}
+use Rattle.placement_tracks.specs.act_lines.Keeps.{BeginsGiven}
+use Rattle.placement_tracks.specs.act_lines.Opens.{MayOpenSlots}
+use Rattle.placement_tracks.proofs.act_lines_proofs.OpenLemmas.{begins_still}
 use Rattle.cluster_tracks.specs.Quiet.{QuietLinesStandOn, QuietTurnsMakeNone}
 use Rattle.cluster_tracks.specs.Runs.{HaveRun}
 use Rattle.cluster_tracks.proofs.AddLemmas.{steps_are_of_slots}

@@ -21,26 +21,26 @@ use Rattle.m3_outside.specs.DiskState.{DiskState, IsLawfulDisk}
 use Rattle.m3_outside.specs.declared.disk.Disk.{Ghosts}
 use Rattle.cluster_core.specs.Legal.{Legal}
 use Rattle.cluster_core.specs.declared.event.Event.{Event}
-use Rattle.replica_exchange.specs.declared.call_id.CallId.{CallId}
-use Rattle.session_net.specs.Calls.{Tracked}
-use Rattle.session_net.specs.Reads.{IsCutShort, IsFirstShort, IsReadFound, IsFull, IsStopped, Wish}
-use Rattle.session_net.specs.Runs.{Ran}
-use Rattle.session_net.specs.declared.net.Net.{Net}
-use Rattle.told_by.specs.Lines.{ReadLine}
-use Rattle.told_by.specs.Makes.{OpensReplicas}
+use Rattle.placement_tracks.specs.replica_exchange.declared.call_id.CallId.{CallId}
+use Rattle.placement_tracks.specs.session_net.Calls.{Tracked}
+use Rattle.placement_tracks.specs.session_net.Reads.{IsCutShort, IsFirstShort, IsReadFound, IsFull, IsStopped, Wish}
+use Rattle.placement_tracks.specs.session_net.Runs.{Ran}
+use Rattle.placement_tracks.specs.session_net.declared.net.Net.{Net}
+use Rattle.placement_tracks.specs.told_by.Lines.{ReadLine}
+use Rattle.placement_tracks.specs.told_by.Makes.{OpensReplicas}
 use Rattle.transcripts.specs.Calls.{call_of}
 use Rattle.transcripts.specs.Record.{line_of}
-use Rattle.call_lines.specs.Laws.{IsNotRefused, LeavesLine}
-use Rattle.call_lines.specs.ReadLaws.{IsReadTurn}
-use Rattle.call_lines.proofs.FoundLemmas.{found_tells}
-use Rattle.call_lines.proofs.ShortLemmas.{ended_tells, first_short_tells, full_tells}
-use Rattle.cluster_members.specs.Calls.{IsFetchAnswer, IsReadAnswer, KeepsCluster, wish}
-use Rattle.cluster_members.specs.Kept.{IsBy, Uses}
-use Rattle.cluster_members.specs.Steps.{spaces_in}
-use Rattle.cluster_members.specs.declared.calls.Range.{Range}
-use Rattle.cluster_members.specs.declared.members.Members.{Members}
-use Rattle.act_lines.specs.Due.{SpaceDue}
-use Rattle.act_lines.specs.Quiet.{DeliversNone, SetsNone}
+use Rattle.placement_tracks.specs.call_lines.Laws.{IsNotRefused, LeavesLine}
+use Rattle.placement_tracks.specs.call_lines.ReadLaws.{IsReadTurn}
+use Rattle.placement_tracks.proofs.call_lines_proofs.FoundLemmas.{found_tells}
+use Rattle.placement_tracks.proofs.call_lines_proofs.ShortLemmas.{ended_tells, first_short_tells, full_tells}
+use Rattle.placement_tracks.specs.cluster_members.Calls.{IsFetchAnswer, IsReadAnswer, KeepsCluster, wish}
+use Rattle.placement_tracks.specs.cluster_members.Kept.{IsBy, Uses}
+use Rattle.placement_tracks.specs.cluster_members.Steps.{spaces_in}
+use Rattle.placement_tracks.specs.cluster_members.declared.calls.Range.{Range}
+use Rattle.placement_tracks.specs.cluster_members.declared.members.Members.{Members}
+use Rattle.placement_tracks.specs.act_lines.Due.{SpaceDue}
+use Rattle.placement_tracks.specs.act_lines.Quiet.{DeliversNone, SetsNone}
 use Rattle.cluster_tracks.specs.Numbers.{last_number, numbers_by}
 use Rattle.cluster_tracks.specs.Tracks.{Tracks}
 use Rattle.cluster_tracks.proofs.StepLemmas.{read_on}

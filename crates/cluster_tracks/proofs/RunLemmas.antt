@@ -6,11 +6,11 @@ use Rattle.std.proofs.lemmas.Option.{same_Some}
 use Rattle.m3_outside.specs.Causes.{RoseBy}
 use Rattle.m3_outside.specs.Depots.{Depot}
 use Rattle.m3_outside.specs.DiskState.{DiskState}
-use Rattle.replica_exchange.specs.declared.member.Member.{Member}
-use Rattle.replica_exchange.specs.declared.slot.Slot.{Slot}
-use Rattle.replica_calls.specs.Calls.{Tracked}
-use Rattle.session_net.specs.Runs.{IsStepped, Step, steps_of}
-use Rattle.session_net.proofs.RunLemmas.{stepped_then}
+use Rattle.placement_tracks.specs.replica_exchange.declared.member.Member.{Member}
+use Rattle.placement_tracks.specs.replica_exchange.declared.slot.Slot.{Slot}
+use Rattle.placement_tracks.specs.replica_calls.Calls.{Tracked}
+use Rattle.placement_tracks.specs.session_net.Runs.{IsStepped, Step, steps_of}
+use Rattle.placement_tracks.proofs.session_net_proofs.RunLemmas.{stepped_then}
 use Rattle.cluster_tracks.specs.Failures.{CountsFaults, failures_in}
 use Rattle.cluster_tracks.specs.Runs.{HasRun, HaveRun, RoseByFailures, RunGoesOn, RunIsCounted}
 use Rattle.cluster_tracks.proofs.FailureLemmas.{others_on, rises, stepped_from, steps_grew}

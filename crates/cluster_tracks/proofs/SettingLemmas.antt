@@ -10,20 +10,20 @@ use Rattle.m3_model.specs.declared.turn.Turn.{Turn}
 use Rattle.m3_outside.specs.Depots.{Depot}
 use Rattle.m3_outside.specs.DiskState.{DiskState, IsLawfulDisk}
 use Rattle.m3_outside.specs.declared.disk.Disk.{Ghosts}
-use Rattle.session_net.specs.Runs.{Ran}
-use Rattle.session_net.proofs.RunLemmas.{ran_nothing}
-use Rattle.told_by.specs.Lines.{ClockLine, PlainLine}
-use Rattle.told_by.specs.Makes.{OpensReplicas}
+use Rattle.placement_tracks.specs.session_net.Runs.{Ran}
+use Rattle.placement_tracks.proofs.session_net_proofs.RunLemmas.{ran_nothing}
+use Rattle.placement_tracks.specs.told_by.Lines.{ClockLine, PlainLine}
+use Rattle.placement_tracks.specs.told_by.Makes.{OpensReplicas}
 use Rattle.transcripts.specs.Record.{line_of}
-use Rattle.cluster_members.specs.Steps.{SetsRules, clock_events}
-use Rattle.cluster_members.specs.declared.members.Members.{Members}
+use Rattle.placement_tracks.specs.cluster_members.Steps.{SetsRules, clock_events}
+use Rattle.placement_tracks.specs.cluster_members.declared.members.Members.{Members}
 use Rattle.upkeep_lines.specs.Nodes.{KeepsButFates}
-use Rattle.act_lines.specs.Due.{IsDueNext, MomentDue, NamespaceDue}
-use Rattle.act_lines.specs.Settings.{GoesOn}
-use Rattle.act_lines.specs.Quiet.{KeepsStops}
-use Rattle.act_lines.proofs.DueLemmas.{fates_are_due, moments_are_due, namespaces_are_due}
-use Rattle.act_lines.proofs.NothingLemmas.{no_room_tells, refused_tells}
-use Rattle.act_lines.proofs.SettingLemmas.{fates_tell, moved_tells, named_tells}
+use Rattle.placement_tracks.specs.act_lines.Due.{IsDueNext, MomentDue, NamespaceDue}
+use Rattle.placement_tracks.specs.act_lines.Settings.{GoesOn}
+use Rattle.placement_tracks.specs.act_lines.Quiet.{KeepsStops}
+use Rattle.placement_tracks.proofs.act_lines_proofs.DueLemmas.{fates_are_due, moments_are_due, namespaces_are_due}
+use Rattle.placement_tracks.proofs.act_lines_proofs.NothingLemmas.{no_room_tells, refused_tells}
+use Rattle.placement_tracks.proofs.act_lines_proofs.SettingLemmas.{fates_tell, moved_tells, named_tells}
 use Rattle.cluster_tracks.specs.Numbers.{numbers_by}
 use Rattle.cluster_tracks.specs.Tracks.{Tracks}
 use Rattle.cluster_tracks.proofs.AddLemmas.{served_adds}

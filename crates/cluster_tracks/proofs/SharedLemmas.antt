@@ -11,18 +11,18 @@ use Rattle.m3_outside.specs.DiskState.{DiskState, IsLawfulDisk}
 use Rattle.m3_outside.specs.declared.disk.Disk.{Ghosts}
 use Rattle.cluster_core.specs.Legal.{Legal}
 use Rattle.cluster_core.specs.declared.event.Event.{Event}
-use Rattle.session_net.proofs.RunLemmas.{ran_nothing}
-use Rattle.told_by.specs.Lines.{PlainLine}
+use Rattle.placement_tracks.proofs.session_net_proofs.RunLemmas.{ran_nothing}
+use Rattle.placement_tracks.specs.told_by.Lines.{PlainLine}
 use Rattle.transcripts.specs.Deliveries.{LateMessage}
 use Rattle.transcripts.specs.Record.{line_of}
-use Rattle.call_lines.specs.Laws.{Kind}
-use Rattle.call_lines.proofs.DeliverLemmas.{nothing_serves, nothing_tells}
-use Rattle.call_lines.proofs.ServeLemmas.{delivered_so}
-use Rattle.cluster_members.specs.declared.members.Members.{Members}
-use Rattle.act_lines.specs.Due.{HaveLeft}
-use Rattle.act_lines.specs.Settings.{LeavesNothing}
-use Rattle.act_lines.specs.Stands.{ClusterStands}
-use Rattle.act_lines.proofs.StandLemmas.{stands_unchanged}
+use Rattle.placement_tracks.specs.call_lines.Laws.{Kind}
+use Rattle.placement_tracks.proofs.call_lines_proofs.DeliverLemmas.{nothing_serves, nothing_tells}
+use Rattle.placement_tracks.proofs.call_lines_proofs.ServeLemmas.{delivered_so}
+use Rattle.placement_tracks.specs.cluster_members.declared.members.Members.{Members}
+use Rattle.placement_tracks.specs.act_lines.Due.{HaveLeft}
+use Rattle.placement_tracks.specs.act_lines.Settings.{LeavesNothing}
+use Rattle.placement_tracks.specs.act_lines.Stands.{ClusterStands}
+use Rattle.placement_tracks.proofs.act_lines_proofs.StandLemmas.{stands_unchanged}
 use Rattle.cluster_tracks.specs.Numbers.{numbers_by}
 use Rattle.cluster_tracks.specs.Quiet.{GoesQuietly}
 use Rattle.cluster_tracks.specs.Steps.{AddsLine, StandsOn, TracksOn}

@@ -18,15 +18,15 @@ use Rattle.m3_outside.specs.declared.disk.Disk.{Ghosts}
 use Rattle.cluster_core.specs.declared.event.Event.{Event}
 use Rattle.cluster_core.specs.declared.event.StepCall.{StepCall}
 use Rattle.cluster_core.specs.declared.event.StepCall.TheVariants as call
-use Rattle.replica_exchange.specs.declared.call_id.CallId.{CallId}
-use Rattle.replica_calls.specs.Calls.{Tracked}
-use Rattle.session_net.specs.Reads.{Wish}
-use Rattle.session_net.specs.Runs.{Ran}
-use Rattle.session_net.specs.declared.net.Net.{Net}
-use Rattle.cluster_members.specs.Calls.{IsFetchAnswer, IsMissing, IsReadAnswer, IsWriteAnswer, IsWritten, NamedPoint, placed, wish}
-use Rattle.cluster_members.specs.Steps.{IsMoved, IsSpaceAdded}
-use Rattle.cluster_members.specs.declared.calls.Range.{Range}
-use Rattle.cluster_members.specs.declared.members.Members.{Members}
+use Rattle.placement_tracks.specs.replica_exchange.declared.call_id.CallId.{CallId}
+use Rattle.placement_tracks.specs.replica_calls.Calls.{Tracked}
+use Rattle.placement_tracks.specs.session_net.Reads.{Wish}
+use Rattle.placement_tracks.specs.session_net.Runs.{Ran}
+use Rattle.placement_tracks.specs.session_net.declared.net.Net.{Net}
+use Rattle.placement_tracks.specs.cluster_members.Calls.{IsFetchAnswer, IsMissing, IsReadAnswer, IsWriteAnswer, IsWritten, NamedPoint, placed, wish}
+use Rattle.placement_tracks.specs.cluster_members.Steps.{IsMoved, IsSpaceAdded}
+use Rattle.placement_tracks.specs.cluster_members.declared.calls.Range.{Range}
+use Rattle.placement_tracks.specs.cluster_members.declared.members.Members.{Members}
 use Rattle.upkeep_lines.specs.Halts.{HaveSameSlots}
 use Rattle.upkeep_lines.specs.Nodes.{IsBootstrapAnswer, IsDeliverAnswer, IsFated, IsRestarted, IsStopped}
 use Rattle.upkeep_lines.proofs.RunLemmas.{same_itself, same_slots}

@@ -5,13 +5,13 @@ use Rattle.m3_outside.specs.Causes.{RoseBy}
 use Rattle.m3_outside.specs.DiskState.{DiskState}
 use Rattle.m3_outside.specs.declared.disk.Disk.{Ghosts}
 use Rattle.cluster_core.specs.Legal.{Legal}
-use Rattle.told_by.specs.Lines.{ClockLine, InitLine, PlainLine, ReadLine, WriteLine}
-use Rattle.told_runs.specs.Lines.{IsToldAndServed, KindServes, delivered_on}
-use Rattle.told_runs.proofs.LineLemmas.{clock_serves, init_serves, plain_serves, read_serves, served_first, write_serves}
+use Rattle.placement_tracks.specs.told_by.Lines.{ClockLine, InitLine, PlainLine, ReadLine, WriteLine}
+use Rattle.placement_tracks.specs.told_runs.Lines.{IsToldAndServed, KindServes, delivered_on}
+use Rattle.placement_tracks.proofs.told_runs_proofs.LineLemmas.{clock_serves, init_serves, plain_serves, read_serves, served_first, write_serves}
 use Rattle.transcripts.specs.Record.{line_of}
-use Rattle.call_lines.specs.Laws.{Kind}
-use Rattle.cluster_members.specs.declared.members.Members.{Members}
-use Rattle.first_cluster.specs.Slots.{AreApart}
+use Rattle.placement_tracks.specs.call_lines.Laws.{Kind}
+use Rattle.placement_tracks.specs.cluster_members.declared.members.Members.{Members}
+use Rattle.placement_tracks.specs.first_cluster.Slots.{AreApart}
 use Rattle.cluster_tracks.specs.Steps.{StandsAfterLine, TracksAtFirst, TracksOn}
 use Rattle.cluster_tracks.specs.Tracks.{HasTenures, Tracks, events_of}
 use Rattle.cluster_tracks.proofs.FailureLemmas.{rose_both, rose_none}

@@ -13,9 +13,9 @@ use Rattle.m3_outside.specs.DiskState.{DiskState, IsLawfulDisk}
 use Rattle.m3_outside.specs.declared.disk.Disk.{Ghosts}
 use Rattle.cluster_core.specs.declared.event.StepCall.{StepCall}
 use Rattle.cluster_core.specs.declared.event.StepCall.TheVariants as call
-use Rattle.told_by.specs.Makes.{OpensReplicas}
-use Rattle.call_lines.specs.Laws.{IsNotRefused}
-use Rattle.cluster_members.specs.declared.members.Members.{Members}
+use Rattle.placement_tracks.specs.told_by.Makes.{OpensReplicas}
+use Rattle.placement_tracks.specs.call_lines.Laws.{IsNotRefused}
+use Rattle.placement_tracks.specs.cluster_members.declared.members.Members.{Members}
 use Rattle.cluster_upkeep.specs.Status.{told_at}
 use Rattle.cluster_upkeep.specs.Sweeps.{asked_at}
 use Rattle.cluster_upkeep.specs.Upkeep.{IsSwept, IsTold}

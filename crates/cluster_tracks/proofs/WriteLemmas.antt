@@ -19,27 +19,27 @@ use Rattle.m3_outside.specs.declared.disk.Disk.{Ghosts}
 use Rattle.cluster_core.specs.Legal.{Legal}
 use Rattle.cluster_core.specs.declared.event.Event.{Event}
 use Rattle.placement_core.specs.Shards.{Shard, nodes_of}
-use Rattle.replica_exchange.specs.declared.call_id.CallId.{CallId}
-use Rattle.session_net.specs.Calls.{Tracked}
-use Rattle.session_net.specs.Runs.{Ran}
-use Rattle.session_net.specs.Writes.{AreMembers, IsAcknowledged, IsRefused, IsUnmet, IsUnsent, bag_after, shard_of_point}
-use Rattle.session_net.specs.declared.net.Net.{Net}
-use Rattle.session_net.specs.declared.session_err.SessionErr.TheVariants as err
+use Rattle.placement_tracks.specs.replica_exchange.declared.call_id.CallId.{CallId}
+use Rattle.placement_tracks.specs.session_net.Calls.{Tracked}
+use Rattle.placement_tracks.specs.session_net.Runs.{Ran}
+use Rattle.placement_tracks.specs.session_net.Writes.{AreMembers, IsAcknowledged, IsRefused, IsUnmet, IsUnsent, bag_after, shard_of_point}
+use Rattle.placement_tracks.specs.session_net.declared.net.Net.{Net}
+use Rattle.placement_tracks.specs.session_net.declared.session_err.SessionErr.TheVariants as err
 use Rattle.transcripts.specs.Points.{was_sent}
 use Rattle.transcripts.specs.Record.{line_of}
-use Rattle.told_by.specs.Lines.{WriteLine}
-use Rattle.call_lines.specs.Laws.{IsNotRefused, IsWrite, LeavesLine}
-use Rattle.call_lines.specs.Left.{NetIsLeftBy}
-use Rattle.call_lines.proofs.KeepLemmas.{left_by_write}
-use Rattle.call_lines.proofs.WriteLemmas.{acked_tells, unmet_tells, unsent_tells}
-use Rattle.cluster_members.specs.Calls.{IsWriteAnswer, IsWritten, KeepsCluster, NamedPoint, placed}
-use Rattle.cluster_members.specs.Kept.{IsBy, Uses}
-use Rattle.cluster_members.specs.Steps.{spaces_in}
-use Rattle.cluster_members.specs.declared.members.Members.{Members}
-use Rattle.act_lines.specs.Quiet.{DeliversNone, SetsNone}
-use Rattle.act_lines.specs.Settings.{LeavesNothing}
-use Rattle.act_lines.proofs.NothingLemmas.{full_write_tells}
-use Rattle.act_lines.proofs.QuietLemmas.{delivers_nothing_so, sets_nothing_so}
+use Rattle.placement_tracks.specs.told_by.Lines.{WriteLine}
+use Rattle.placement_tracks.specs.call_lines.Laws.{IsNotRefused, IsWrite, LeavesLine}
+use Rattle.placement_tracks.specs.call_lines.Left.{NetIsLeftBy}
+use Rattle.placement_tracks.proofs.call_lines_proofs.KeepLemmas.{left_by_write}
+use Rattle.placement_tracks.proofs.call_lines_proofs.WriteLemmas.{acked_tells, unmet_tells, unsent_tells}
+use Rattle.placement_tracks.specs.cluster_members.Calls.{IsWriteAnswer, IsWritten, KeepsCluster, NamedPoint, placed}
+use Rattle.placement_tracks.specs.cluster_members.Kept.{IsBy, Uses}
+use Rattle.placement_tracks.specs.cluster_members.Steps.{spaces_in}
+use Rattle.placement_tracks.specs.cluster_members.declared.members.Members.{Members}
+use Rattle.placement_tracks.specs.act_lines.Quiet.{DeliversNone, SetsNone}
+use Rattle.placement_tracks.specs.act_lines.Settings.{LeavesNothing}
+use Rattle.placement_tracks.proofs.act_lines_proofs.NothingLemmas.{full_write_tells}
+use Rattle.placement_tracks.proofs.act_lines_proofs.QuietLemmas.{delivers_nothing_so, sets_nothing_so}
 use Rattle.cluster_tracks.specs.Numbers.{last_number, numbers_by}
 use Rattle.cluster_tracks.specs.Tracks.{Tracks}
 use Rattle.cluster_tracks.proofs.StepLemmas.{write_on}

@@ -9,14 +9,14 @@ use Rattle.m3_outside.specs.Depots.{Depot}
 use Rattle.m3_outside.specs.DiskState.{DiskState}
 use Rattle.m3_outside.specs.declared.disk.Disk.{Ghosts}
 use Rattle.cluster_core.specs.declared.event.StepCall.TheVariants as call
-use Rattle.replica_exchange.specs.declared.call_id.CallId.{CallId}
-use Rattle.cluster_members.specs.Calls.{IsFetchAnswer, IsWritten}
-use Rattle.cluster_members.specs.Steps.{IsMoved, IsSpaceAdded}
-use Rattle.cluster_members.specs.declared.members.Members.{Members}
+use Rattle.placement_tracks.specs.replica_exchange.declared.call_id.CallId.{CallId}
+use Rattle.placement_tracks.specs.cluster_members.Calls.{IsFetchAnswer, IsWritten}
+use Rattle.placement_tracks.specs.cluster_members.Steps.{IsMoved, IsSpaceAdded}
+use Rattle.placement_tracks.specs.cluster_members.declared.members.Members.{Members}
 use Rattle.upkeep_lines.specs.Nodes.{IsBootstrapAnswer, IsDeliverAnswer, IsFated, IsRestarted, IsStopped}
 use Rattle.cluster_upkeep.specs.Upkeep.{IsSwept, IsTold}
-use Rattle.first_cluster.specs.First.{IsFirst, IsRefusedInit}
-use Rattle.cluster_placements.specs.Steps.{IsChanged, kept_in}
+use Rattle.placement_tracks.specs.first_cluster.First.{IsFirst, IsRefusedInit}
+use Rattle.placement_tracks.specs.cluster_placements.Steps.{IsChanged, kept_in}
 use Rattle.cluster_tracks.specs.Numbers.{last_number}
 
 -- ---- `init`

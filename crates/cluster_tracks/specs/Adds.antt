@@ -10,18 +10,18 @@ use Rattle.cluster_core.specs.declared.event.Event.{Event}
 use Rattle.cluster_core.specs.declared.event.Event.TheVariants as event
 use Rattle.cluster_core.specs.declared.event.StepCall.{StepCall}
 use Rattle.cluster_core.specs.declared.event.StepReply.{StepReply}
-use Rattle.session_net.specs.Runs.{slot_at}
-use Rattle.session_net.specs.declared.net.Net.{Net}
-use Rattle.told_by.specs.Lines.{PlainLine}
+use Rattle.placement_tracks.specs.session_net.Runs.{slot_at}
+use Rattle.placement_tracks.specs.session_net.declared.net.Net.{Net}
+use Rattle.placement_tracks.specs.told_by.Lines.{PlainLine}
 use Rattle.transcripts.specs.Deliveries.{LateMessage}
 use Rattle.transcripts.specs.Faults.{Fault}
 use Rattle.transcripts.specs.Record.{TurnPosition}
-use Rattle.call_lines.specs.Laws.{IsNotRefused, Kind, LeavesLine, LeavesServed}
-use Rattle.call_lines.specs.Left.{WereDelivered}
-use Rattle.cluster_members.specs.declared.members.Members.{Members}
-use Rattle.act_lines.specs.Nodes.{LeavesBegun}
-use Rattle.act_lines.specs.Stands.{HasSlots}
-use Rattle.act_lines.specs.Inits.{LeavesAnew}
+use Rattle.placement_tracks.specs.call_lines.Laws.{IsNotRefused, Kind, LeavesLine, LeavesServed}
+use Rattle.placement_tracks.specs.call_lines.Left.{WereDelivered}
+use Rattle.placement_tracks.specs.cluster_members.declared.members.Members.{Members}
+use Rattle.placement_tracks.specs.act_lines.Nodes.{LeavesBegun}
+use Rattle.placement_tracks.specs.act_lines.Stands.{HasSlots}
+use Rattle.placement_tracks.specs.act_lines.Inits.{LeavesAnew}
 use Rattle.cluster_tracks.specs.Failures.{OnlyReplicasStep}
 use Rattle.cluster_tracks.specs.Steps.{AddsLine}
 

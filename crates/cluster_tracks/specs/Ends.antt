@@ -9,14 +9,14 @@ use Rattle.m3_outside.specs.Depots.{Depot}
 use Rattle.m3_outside.specs.DiskState.{DiskState}
 use Rattle.m3_outside.specs.declared.disk.Disk.{Ghosts}
 use Rattle.m3_outside.specs.declared.slot.DiskSlot.{DiskSlot}
-use Rattle.told_runs.specs.Lines.{life_of}
+use Rattle.placement_tracks.specs.told_runs.Lines.{life_of}
 use Rattle.transcripts.specs.Caused.{Caused}
 use Rattle.transcripts.specs.Faults.{Fault, Damaged, is_failing, is_taking}
 use Rattle.transcripts.specs.Kept.{Kept}
-use Rattle.replica_exchange.specs.declared.member.Member.{Member}
-use Rattle.replica_exchange.specs.declared.slot.Slot.{Slot}
-use Rattle.cluster_members.specs.declared.members.Members.{Members}
-use Rattle.first_cluster.specs.Depots.{RisesBy, count_at, disk_slot_of}
+use Rattle.placement_tracks.specs.replica_exchange.declared.member.Member.{Member}
+use Rattle.placement_tracks.specs.replica_exchange.declared.slot.Slot.{Slot}
+use Rattle.placement_tracks.specs.cluster_members.declared.members.Members.{Members}
+use Rattle.placement_tracks.specs.first_cluster.Depots.{RisesBy, count_at, disk_slot_of}
 use Rattle.cluster_tracks.specs.Tracks.{Tracks, faults_of}
 
 -- the replica at a slot, before `init` none

@@ -9,3 +9,12 @@ pub mod Quiet
 pub mod Acts
 pub mod Slots
 pub mod Lines
+pub use Rattle.placement_tracks.specs.cluster_members as cluster_members
+pub use Rattle.placement_tracks.specs.cluster_placements as cluster_placements
+pub use Rattle.placement_tracks.specs.event_trail as event_trail
+pub use Rattle.placement_tracks.specs.first_cluster as first_cluster
+pub use Rattle.placement_tracks.specs.node_calls as node_calls
+pub use Rattle.placement_tracks.specs.replica_calls as replica_calls
+pub use Rattle.placement_tracks.specs.replica_exchange as replica_exchange
+pub use Rattle.placement_tracks.specs.session_net as session_net
+pub use Rattle.transcripts.specs as transcripts

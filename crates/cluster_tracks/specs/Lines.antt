@@ -13,14 +13,14 @@ use Rattle.m3_model.specs.declared.turn.Turn.{Turn}
 use Rattle.m3_outside.specs.Depots.{Depot}
 use Rattle.m3_outside.specs.DiskState.{DiskState}
 use Rattle.m3_outside.specs.declared.disk.Disk.{Ghosts}
-use Rattle.placement_acts.specs.Acts.{is_step_act}
+use Rattle.placement_tracks.specs.placement_acts.Acts.{is_step_act}
 use Rattle.cluster_core.specs.Legal.{Legal}
-use Rattle.replica_calls.specs.Calls.{AreMembersOf}
-use Rattle.session_net.specs.Ready.{IsReady}
+use Rattle.placement_tracks.specs.replica_calls.Calls.{AreMembersOf}
+use Rattle.placement_tracks.specs.session_net.Ready.{IsReady}
 use Rattle.transcripts.specs.Record.{line_of}
-use Rattle.told_moves.specs.Order.{IsInitAct}
-use Rattle.cluster_members.specs.declared.members.Members.{Members}
-use Rattle.cluster_placements.specs.Steps.{MayChange}
+use Rattle.placement_tracks.specs.told_moves.Order.{IsInitAct}
+use Rattle.placement_tracks.specs.cluster_members.declared.members.Members.{Members}
+use Rattle.placement_tracks.specs.cluster_placements.Steps.{MayChange}
 use Rattle.cluster_tracks.specs.Numbers.{numbers_by}
 use Rattle.cluster_tracks.specs.Tracks.{Tracks}
 use Rattle.cluster_tracks.specs.Acts.{Does, IsInitAnswer, IsServedBy, IsStepAnswer, next_call}

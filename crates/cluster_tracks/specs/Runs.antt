@@ -14,12 +14,12 @@ use Rattle.cluster_core.specs.declared.event.Event.{Event}
 use Rattle.cluster_core.specs.declared.event.Event.TheVariants as event
 use Rattle.cluster_core.specs.declared.event.StepCall.{StepCall}
 use Rattle.cluster_core.specs.declared.event.StepReply.TheVariants as reply
-use Rattle.replica_exchange.specs.declared.member.Member.{Member}
-use Rattle.replica_exchange.specs.declared.slot.Slot.{Slot}
-use Rattle.replica_calls.specs.Calls.{Tracked, first_member}
-use Rattle.session_net.specs.Runs.{IsStepped, Ran, Step, steps_of}
-use Rattle.first_cluster.specs.Bare.{HasNoPoints}
-use Rattle.first_cluster.specs.Depots.{disk_slot_of}
+use Rattle.placement_tracks.specs.replica_exchange.declared.member.Member.{Member}
+use Rattle.placement_tracks.specs.replica_exchange.declared.slot.Slot.{Slot}
+use Rattle.placement_tracks.specs.replica_calls.Calls.{Tracked, first_member}
+use Rattle.placement_tracks.specs.session_net.Runs.{IsStepped, Ran, Step, steps_of}
+use Rattle.placement_tracks.specs.first_cluster.Bare.{HasNoPoints}
+use Rattle.placement_tracks.specs.first_cluster.Depots.{disk_slot_of}
 use Rattle.cluster_tracks.specs.Failures.{CountsFaults, OnlyReplicasStep, failures_in}
 
 -- the replica was made over a disk whose count the slot still shows, and which had no points where disks tell

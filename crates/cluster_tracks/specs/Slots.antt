@@ -6,10 +6,10 @@ use Rattle.m3_model.specs.declared.answer.Answer.{Answer}
 use Rattle.m3_outside.specs.DiskState.{DiskState}
 use Rattle.m3_outside.specs.declared.disk.Disk.{Ghosts}
 use Rattle.cluster_core.specs.declared.event.Event.{Event}
-use Rattle.replica_exchange.specs.declared.call_id.CallId.{CallId}
-use Rattle.replica_exchange.specs.declared.slot.Slot.{Slot}
-use Rattle.session_net.specs.Runs.{steps_of}
-use Rattle.cluster_members.specs.declared.members.Members.{Members}
+use Rattle.placement_tracks.specs.replica_exchange.declared.call_id.CallId.{CallId}
+use Rattle.placement_tracks.specs.replica_exchange.declared.slot.Slot.{Slot}
+use Rattle.placement_tracks.specs.session_net.Runs.{steps_of}
+use Rattle.placement_tracks.specs.cluster_members.declared.members.Members.{Members}
 use Rattle.upkeep_lines.specs.Halts.{HaveSameSlots}
 use Rattle.cluster_tracks.specs.Acts.{Does}
 

@@ -13,18 +13,18 @@ use Rattle.m3_outside.specs.declared.disk.Disk.{Ghosts}
 use Rattle.m3_outside.specs.declared.slot.DiskSlot.{DiskSlot}
 use Rattle.cluster_core.specs.Legal.{Legal}
 use Rattle.cluster_core.specs.declared.event.Event.{Event}
-use Rattle.session_net.specs.Runs.{Ran}
-use Rattle.told_runs.specs.Lines.{ServesOne, delivered_on}
+use Rattle.placement_tracks.specs.session_net.Runs.{Ran}
+use Rattle.placement_tracks.specs.told_runs.Lines.{ServesOne, delivered_on}
 use Rattle.transcripts.specs.Deliveries.{LateMessage}
 use Rattle.transcripts.specs.Faults.{Fault}
 use Rattle.transcripts.specs.Record.{TurnPosition, line_of}
-use Rattle.call_lines.specs.Laws.{Kind}
-use Rattle.call_lines.specs.Left.{WereDelivered}
-use Rattle.cluster_members.specs.declared.members.Members.{Members}
-use Rattle.first_cluster.specs.Bare.{AreBare}
-use Rattle.first_cluster.specs.First.{IsFirst}
-use Rattle.act_lines.specs.Stands.{NoneStands, ClusterStands}
-use Rattle.act_lines.specs.Opens.{OpensLow}
+use Rattle.placement_tracks.specs.call_lines.Laws.{Kind}
+use Rattle.placement_tracks.specs.call_lines.Left.{WereDelivered}
+use Rattle.placement_tracks.specs.cluster_members.declared.members.Members.{Members}
+use Rattle.placement_tracks.specs.first_cluster.Bare.{AreBare}
+use Rattle.placement_tracks.specs.first_cluster.First.{IsFirst}
+use Rattle.placement_tracks.specs.act_lines.Stands.{NoneStands, ClusterStands}
+use Rattle.placement_tracks.specs.act_lines.Opens.{OpensLow}
 use Rattle.cluster_tracks.specs.Failures.{OnlyReplicasStep}
 use Rattle.cluster_tracks.specs.Numbers.{numbers_by}
 use Rattle.cluster_tracks.specs.Tracks.{MayStandSo, StandsSo, Tracks, events_of}

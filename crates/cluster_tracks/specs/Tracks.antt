@@ -11,17 +11,17 @@ use Rattle.m3_outside.specs.declared.disk.Disk.{Ghosts}
 use Rattle.m3_outside.specs.declared.slot.DiskSlot.{DiskSlot}
 use Rattle.cluster_core.specs.Legal.{Legal}
 use Rattle.cluster_core.specs.declared.event.Event.{Event}
-use Rattle.told_causes.specs.Faults.{faults_told}
-use Rattle.told_runs.specs.Lines.{IsToldAndServed}
+use Rattle.placement_tracks.specs.told_causes.Faults.{faults_told}
+use Rattle.placement_tracks.specs.told_runs.Lines.{IsToldAndServed}
 use Rattle.transcripts.specs.Deliveries.{LateMessage}
 use Rattle.transcripts.specs.Faults.{Fault}
 use Rattle.transcripts.specs.Record.{TurnPosition}
-use Rattle.call_lines.specs.Left.{WereDelivered}
-use Rattle.cluster_members.specs.declared.members.Members.{Members}
-use Rattle.first_cluster.specs.Bare.{AreBare}
-use Rattle.first_cluster.specs.Slots.{AreApart}
-use Rattle.act_lines.specs.Stands.{NoneStands, ClusterStands}
-use Rattle.act_lines.specs.Opens.{OpensLow}
+use Rattle.placement_tracks.specs.call_lines.Left.{WereDelivered}
+use Rattle.placement_tracks.specs.cluster_members.declared.members.Members.{Members}
+use Rattle.placement_tracks.specs.first_cluster.Bare.{AreBare}
+use Rattle.placement_tracks.specs.first_cluster.Slots.{AreApart}
+use Rattle.placement_tracks.specs.act_lines.Stands.{NoneStands, ClusterStands}
+use Rattle.placement_tracks.specs.act_lines.Opens.{OpensLow}
 use Rattle.cluster_tracks.specs.Numbers.{IsNumbered}
 use Rattle.cluster_tracks.specs.Runs.{HaveRun}
 

@@ -1,5 +1,5 @@
 //! The turns of a run tracked by its list of events.
-ghost use Rattle.told_by.specs.Lines.{ClockLine, InitLine, PlainLine, ReadLine, WriteLine};
+ghost use Rattle.placement_tracks.specs.told_by.Lines.{ClockLine, InitLine, PlainLine, ReadLine, WriteLine};
 ghost use Rattle.cluster_tracks.specs.Adds.{AnewAdds, BegunAdds, CallAdds, ServedAdds, StepsAreOfSlots};
 ghost use Rattle.cluster_tracks.specs.Ends.{CausedWhereTracked, KeptWhereTracked, ShownWhereTracked};
 ghost use Rattle.cluster_tracks.specs.Failures.{CountGoesOn, OtherSlotsStay};
@@ -8,10 +8,10 @@ ghost use Rattle.cluster_tracks.specs.Quiet.{QuietLinesStandOn, QuietTurnsMakeNo
 ghost use Rattle.cluster_tracks.specs.Runs.{RunFindsNoDamage, RunGoesOn, RunIsCounted, RunOpensEmpty};
 ghost use Rattle.cluster_tracks.specs.Steps.{FirstStandsSo, StandsAfterLine, TracksAtFirst, TracksOn};
 
-use cluster_members::Members;
 use m3_outside::Disk;
-use replica_calls::Replicas;
-use session_net::Net;
+use placement_tracks::cluster_members::Members;
+use placement_tracks::replica_calls::Replicas;
+use placement_tracks::session_net::Net;
 
 /// Each disk counts the faults for which its slot's steps were refused, also those of the steps that come; and a slot that takes
 /// none of them has its replica as before.

@@ -9,3 +9,9 @@ pub use lines::{
     acts_keep_slots, calls_are_tracked, inits_are_tracked, lines_are_tracked, nodes_are_tracked,
     settings_are_tracked, steps_are_tracked, upkeep_is_tracked,
 };
+
+// Libraries that the rows of crates above need not name.
+pub use cluster_upkeep;
+pub use placement_tracks::{
+    cluster_members, cluster_placements, first_cluster, node_calls, replica_exchange,
+};

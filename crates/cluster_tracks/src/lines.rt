@@ -2,8 +2,8 @@
 ghost use Rattle.cluster_tracks.specs.Lines.{BootstrapsAreTracked, DeliveriesAreTracked, FatesAreTracked, FetchesAreTracked, FlushesAreTracked, InitsAreTracked, LinesAreTracked, MatchesAreTracked, MomentsAreTracked, NamespacesAreTracked, OrdersAreTracked, RestartsAreTracked, SnapshotsAreTracked, StatusIsTracked, StepsAreTracked, StopsAreTracked, TicksAreTracked, WritesAreTracked};
 ghost use Rattle.cluster_tracks.specs.Slots.{ActsKeepSlots};
 
-use cluster_members::Members;
 use m3_outside::Disk;
+use placement_tracks::cluster_members::Members;
 
 /// An act that makes no placement leaves the one that stands, the slots, and which of them have replicas; a slot without one takes no step.
 pub fn acts_keep_slots<D: Disk>(members: &Members<D>)

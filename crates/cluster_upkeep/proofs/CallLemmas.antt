@@ -17,20 +17,20 @@ use Rattle.cluster_core.specs.declared.event.StepCall.{StepCall}
 use Rattle.cluster_core.specs.declared.event.StepCall.TheVariants as call
 use Rattle.cluster_core.specs.declared.event.StepReply.{StepReply}
 use Rattle.cluster_core.specs.declared.event.StepReply.TheVariants as reply
-use Rattle.replica_machine.specs.Damages.{IsFileDamage}
-use Rattle.replica_machine.specs.Machines.{IsOwn, IsRefusedFor, MachineState, refusal}
-use Rattle.replica_machine.specs.Steps.{reply_by}
-use Rattle.replica_exchange.specs.MachineCalls.{HasRoom, Promise, AddsStep, result_of}
-use Rattle.replica_exchange.specs.Promises.{Reports, Saves}
-use Rattle.replica_exchange.proofs.ExchangeLemmas.{exchanged, exchanged_alone}
-use Rattle.replica_exchange.specs.declared.call_err.CallErr.{CallErr}
-use Rattle.replica_exchange.specs.declared.call_err.CallErr.TheVariants as call_err
-use Rattle.replica_exchange.specs.declared.member.Member.{Member}
-use Rattle.replica_exchange.specs.declared.slot.Slot.{Slot}
-use Rattle.replica_calls.specs.Calls.{Tracked, IsMissed, MayCall, MayTell, WasCalled}
-use Rattle.session_net.specs.Messages.{exchange}
-use Rattle.session_net.specs.Runs.{Ran}
-use Rattle.session_net.proofs.RunLemmas.{ran_called}
+use Rattle.node_calls.specs.replica_machine.Damages.{IsFileDamage}
+use Rattle.node_calls.specs.replica_machine.Machines.{IsOwn, IsRefusedFor, MachineState, refusal}
+use Rattle.node_calls.specs.replica_machine.Steps.{reply_by}
+use Rattle.node_calls.specs.replica_exchange.MachineCalls.{HasRoom, Promise, AddsStep, result_of}
+use Rattle.node_calls.specs.replica_exchange.Promises.{Reports, Saves}
+use Rattle.node_calls.proofs.replica_exchange_proofs.ExchangeLemmas.{exchanged, exchanged_alone}
+use Rattle.node_calls.specs.replica_exchange.declared.call_err.CallErr.{CallErr}
+use Rattle.node_calls.specs.replica_exchange.declared.call_err.CallErr.TheVariants as call_err
+use Rattle.node_calls.specs.replica_exchange.declared.member.Member.{Member}
+use Rattle.node_calls.specs.replica_exchange.declared.slot.Slot.{Slot}
+use Rattle.node_calls.specs.replica_calls.Calls.{Tracked, IsMissed, MayCall, MayTell, WasCalled}
+use Rattle.node_calls.specs.session_net.Messages.{exchange}
+use Rattle.node_calls.specs.session_net.Runs.{Ran}
+use Rattle.node_calls.proofs.session_net_proofs.RunLemmas.{ran_called}
 use Rattle.node_calls.proofs.RunLemmas.{was_called}
 use Rattle.cluster_upkeep.specs.Status.{reported}
 use Rattle.cluster_upkeep.specs.Sweeps.{HasSaid}

@@ -19,9 +19,9 @@ use Rattle.placement_core.proofs.ListLemmas.{Any-from_IsIn, IsIn-from_Any, each-
 use Rattle.placement_core.proofs.OrderLemmas.{ascends-map}
 use Rattle.cluster_core.specs.Lists.{At}
 use Rattle.cluster_core.proofs.ListLemmas.{at_in, at_within}
-use Rattle.session_net.specs.Runs.{slot_at}
-use Rattle.session_net.specs.Writes.{AreMembers}
-use Rattle.transcripts.specs.Sweeps.{AreAllMembers, IsSlotBelow}
+use Rattle.node_calls.specs.session_net.Runs.{slot_at}
+use Rattle.node_calls.specs.session_net.Writes.{AreMembers}
+use Rattle.node_calls.specs.transcripts.Sweeps.{AreAllMembers, IsSlotBelow}
 use Rattle.cluster_upkeep.specs.Rows.{AreRowsBelow, HasShardRows, row_at, slot_in}
 use Rattle.cluster_upkeep.specs.declared.rows.Row.{Row}
 

@@ -26,19 +26,19 @@ use Rattle.cluster_core.specs.declared.event.Event.TheVariants as event
 use Rattle.cluster_core.specs.declared.event.StepCall.{StepCall}
 use Rattle.cluster_core.specs.declared.event.StepCall.TheVariants as call
 use Rattle.cluster_core.specs.declared.event.StepReply.TheVariants as reply
-use Rattle.replica_machine.specs.Damages.{IsFileDamage}
-use Rattle.replica_machine.specs.Steps.{reply_by}
-use Rattle.replica_exchange.specs.MachineCalls.{HasRoom}
-use Rattle.replica_exchange.specs.declared.slot.Slot.{Slot}
-use Rattle.replica_calls.specs.Calls.{Tracked}
-use Rattle.session_net.specs.Messages.{exchange}
-use Rattle.session_net.specs.Runs.{Ran, slot_at}
-use Rattle.session_net.proofs.ReadyLemmas.{AreQuiet, IsQuiet, room_after}
-use Rattle.session_net.proofs.RunLemmas.{ran_nothing, ran_then}
+use Rattle.node_calls.specs.replica_machine.Damages.{IsFileDamage}
+use Rattle.node_calls.specs.replica_machine.Steps.{reply_by}
+use Rattle.node_calls.specs.replica_exchange.MachineCalls.{HasRoom}
+use Rattle.node_calls.specs.replica_exchange.declared.slot.Slot.{Slot}
+use Rattle.node_calls.specs.replica_calls.Calls.{Tracked}
+use Rattle.node_calls.specs.session_net.Messages.{exchange}
+use Rattle.node_calls.specs.session_net.Runs.{Ran, slot_at}
+use Rattle.node_calls.proofs.session_net_proofs.ReadyLemmas.{AreQuiet, IsQuiet, room_after}
+use Rattle.node_calls.proofs.session_net_proofs.RunLemmas.{ran_nothing, ran_then}
 use Rattle.node_calls.specs.Members.{Members}
 use Rattle.node_calls.proofs.ListLemmas.{flat_long, flat_push}
 use Rattle.node_calls.proofs.RunLemmas.{quiet_exchange, quiet_flat}
-use Rattle.transcripts.specs.Sweeps.{AreAllMembers, Entry, done_in, failed_in, slot_of}
+use Rattle.node_calls.specs.transcripts.Sweeps.{AreAllMembers, Entry, done_in, failed_in, slot_of}
 use Rattle.cluster_upkeep.specs.Findings.{entry_at}
 use Rattle.cluster_upkeep.specs.Rows.{AreRowsBelow, slot_in}
 use Rattle.cluster_upkeep.specs.Status.{EndsReport, line_of, reported, row_of, told_at}

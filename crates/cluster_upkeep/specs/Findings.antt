@@ -2,8 +2,8 @@
 use Rattle.std.specs.Prelude.{ℕ, ◌+◌, ◌≤◌, Result, vec_len}
 use Rattle.std.specs.Vec.{vec_capacity}
 use Rattle.m3_model.specs.declared.reason.Reason.{Reason}
-use Rattle.replica_exchange.specs.declared.slot.Slot.{Slot}
-use Rattle.transcripts.specs.Sweeps.{Entry}
+use Rattle.node_calls.specs.replica_exchange.declared.slot.Slot.{Slot}
+use Rattle.node_calls.specs.transcripts.Sweeps.{Entry}
 use Rattle.cluster_upkeep.specs.declared.findings.Findings.{Findings}
 
 -- so many further replicas can be noted without memory

@@ -3,8 +3,8 @@ use Rattle.std.specs.Prelude.{◌≡◌, ℕ, zero, suc, List, [], ◌++◌, map
 use Rattle.m3_model.specs.declared.placement.Assignment.{Assignment}
 use Rattle.m3_model.specs.declared.placement.Placement.{Placement}
 use Rattle.placement_core.specs.Shards.{Shard}
-use Rattle.session_net.specs.Runs.{slot_at}
-use Rattle.session_net.specs.Writes.{AreMembers}
+use Rattle.node_calls.specs.session_net.Runs.{slot_at}
+use Rattle.node_calls.specs.session_net.Writes.{AreMembers}
 use Rattle.cluster_upkeep.specs.declared.rows.Row.{Row}
 
 -- the row of an assignment of the shard

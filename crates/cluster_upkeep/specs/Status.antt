@@ -9,9 +9,9 @@ use Rattle.cluster_core.specs.declared.event.Event.{Event}
 use Rattle.cluster_core.specs.declared.event.Event.TheVariants as event
 use Rattle.cluster_core.specs.declared.event.StepCall.TheVariants as call
 use Rattle.cluster_core.specs.declared.event.StepReply.TheVariants as reply
-use Rattle.replica_exchange.specs.declared.slot.Slot.{Slot}
-use Rattle.replica_calls.specs.Calls.{Tracked}
-use Rattle.session_net.specs.Runs.{Ran, slot_at}
+use Rattle.node_calls.specs.replica_exchange.declared.slot.Slot.{Slot}
+use Rattle.node_calls.specs.replica_calls.Calls.{Tracked}
+use Rattle.node_calls.specs.session_net.Runs.{Ran, slot_at}
 use Rattle.cluster_upkeep.specs.declared.rows.Row.{Row}
 
 -- the replica reports, which nobody asks for

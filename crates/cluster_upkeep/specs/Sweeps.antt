@@ -11,13 +11,13 @@ use Rattle.cluster_core.specs.declared.event.Event.{Event}
 use Rattle.cluster_core.specs.declared.event.StepCall.{StepCall}
 use Rattle.cluster_core.specs.declared.event.StepCall.TheVariants as call
 use Rattle.cluster_core.specs.declared.event.StepReply.TheVariants as reply
-use Rattle.replica_machine.specs.Damages.{IsFileDamage}
-use Rattle.replica_machine.specs.Steps.{reply_by}
-use Rattle.replica_exchange.specs.declared.slot.Slot.{Slot}
-use Rattle.replica_calls.specs.Calls.{Tracked}
-use Rattle.session_net.specs.Messages.{exchange}
-use Rattle.session_net.specs.Runs.{Ran}
-use Rattle.transcripts.specs.Sweeps.{Entry, done_in, failed_in, slot_of}
+use Rattle.node_calls.specs.replica_machine.Damages.{IsFileDamage}
+use Rattle.node_calls.specs.replica_machine.Steps.{reply_by}
+use Rattle.node_calls.specs.replica_exchange.declared.slot.Slot.{Slot}
+use Rattle.node_calls.specs.replica_calls.Calls.{Tracked}
+use Rattle.node_calls.specs.session_net.Messages.{exchange}
+use Rattle.node_calls.specs.session_net.Runs.{Ran}
+use Rattle.node_calls.specs.transcripts.Sweeps.{Entry, done_in, failed_in, slot_of}
 use Rattle.cluster_upkeep.specs.Rows.{slot_in}
 use Rattle.cluster_upkeep.specs.declared.rows.Row.{Row}
 use Rattle.cluster_upkeep.specs.declared.sweeps.Job.{Job}

@@ -11,9 +11,9 @@ use Rattle.m3_outside.specs.DiskState.{DiskState}
 use Rattle.m3_outside.specs.declared.disk.Disk.{Ghosts}
 use Rattle.placement_core.specs.Shards.{shard_at}
 use Rattle.cluster_core.specs.declared.event.StepCall.{StepCall}
-use Rattle.replica_exchange.specs.MachineCalls.{HasRoom}
-use Rattle.session_net.specs.Runs.{Ran}
-use Rattle.transcripts.specs.Sweeps.{AreAllMembers, Entry, done_in, failed_in, slot_of}
+use Rattle.node_calls.specs.replica_exchange.MachineCalls.{HasRoom}
+use Rattle.node_calls.specs.session_net.Runs.{Ran}
+use Rattle.node_calls.specs.transcripts.Sweeps.{AreAllMembers, Entry, done_in, failed_in, slot_of}
 use Rattle.node_calls.specs.Members.{Members}
 use Rattle.node_calls.specs.Nodes.{KeepsButBoots}
 use Rattle.cluster_upkeep.specs.Status.{told_at}

@@ -1,11 +1,11 @@
 //! What a sweep finds, one replica after the other.
 ghost use Rattle.std.specs.Prelude.{◌≡◌, ℕ, List, [], ◌∷◌, ◌++◌, suc, IfOk};
 ghost use Rattle.m3_model.specs.declared.answer.Answer.TheVariants as answer;
-ghost use Rattle.transcripts.specs.Sweeps.{Entry, done_in, failed_in};
+ghost use Rattle.node_calls.specs.transcripts.Sweeps.{Entry, done_in, failed_in};
 ghost use Rattle.cluster_upkeep.specs.Findings.{HasRoomFor, entry_at};
 
 use m3_model::{Answer, Memory, Reason, Seq};
-use replica_exchange::Slot;
+use node_calls::replica_exchange::Slot;
 use std::alloc::Global;
 
 /// The replicas that did what was asked, with how much they did, and those that refused, each in the order in which they were asked.

@@ -3,9 +3,9 @@ ghost use Rattle.std.specs.Prelude.{◌≡◌, ◌≢◌, ◌≤◌, ◌+◌, []
 ghost use Rattle.std.specs.FinMap as finite;
 ghost use Rattle.std.specs.Vec.{vec_capacity};
 ghost use Rattle.m3_model.specs.Members.{IsIn};
-ghost use Rattle.replica_exchange.specs.MachineCalls.{HasRoom};
-ghost use Rattle.session_net.specs.Ready.{IsReady};
-ghost use Rattle.session_net.specs.Runs.{Ran};
+ghost use Rattle.node_calls.specs.replica_exchange.MachineCalls.{HasRoom};
+ghost use Rattle.node_calls.specs.session_net.Ready.{IsReady};
+ghost use Rattle.node_calls.specs.session_net.Runs.{Ran};
 ghost use Rattle.node_calls.specs.Halts.{HaveSameSlots};
 ghost use Rattle.cluster_upkeep.specs.Status.{EndsReport, line_of, reported};
 ghost use Rattle.cluster_upkeep.specs.Upkeep.{IsTold};
@@ -15,8 +15,8 @@ use crate::rows::{Row, all_rows};
 use m3_model::{Answer, Report, Seq, StatusLine};
 use m3_outside::Disk;
 use node_calls::Members;
-use replica_calls::Replicas;
-use replica_exchange::Slot;
+use node_calls::replica_calls::Replicas;
+use node_calls::replica_exchange::Slot;
 use std::alloc::Global;
 
 // The line of a replica that reported so.

@@ -3,8 +3,8 @@ ghost use Rattle.std.specs.Prelude.{◌≡◌, ◌<◌, ◌^◌, length, IfOk, O
 ghost use Rattle.cluster_upkeep.specs.Rows.{AreRowsBelow, HasShardRows};
 
 use m3_model::{Memory, Placement, ShardState};
+use node_calls::replica_exchange::Slot;
 use placement_core::members;
-use replica_exchange::Slot;
 use std::alloc::Global;
 
 /// A replica of the placement: its slot, and the state in which its node has the shard.

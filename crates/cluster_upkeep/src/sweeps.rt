@@ -5,8 +5,8 @@ ghost use Rattle.std.specs.List.{All};
 ghost use Rattle.m3_model.specs.Members.{IsIn};
 ghost use Rattle.cluster_core.specs.Earlier.{HasClock};
 ghost use Rattle.cluster_core.specs.declared.event.StepCall.TheVariants as call;
-ghost use Rattle.replica_exchange.specs.MachineCalls.{HasRoom};
-ghost use Rattle.session_net.specs.Ready.{IsReady};
+ghost use Rattle.node_calls.specs.replica_exchange.MachineCalls.{HasRoom};
+ghost use Rattle.node_calls.specs.session_net.Ready.{IsReady};
 ghost use Rattle.node_calls.specs.Halts.{HaveSameSlots};
 ghost use Rattle.cluster_upkeep.specs.Findings.{HasRoomFor};
 ghost use Rattle.cluster_upkeep.specs.Sweeps.{EndsSweep, HasSaid, call_by};
@@ -18,8 +18,8 @@ use crate::rows::{Row, all_rows};
 use m3_model::{Answer, Reason, Rules};
 use m3_outside::Disk;
 use node_calls::Members;
-use replica_calls::Replicas;
-use replica_exchange::{CallErr, Slot};
+use node_calls::replica_calls::Replicas;
+use node_calls::replica_exchange::{CallErr, Slot};
 use std::alloc::Global;
 
 // What all replicas are asked for.

@@ -3,11 +3,11 @@ use Rattle.std.proofs.Common.{◌≡◌, ℕ, ◌+◌, ◌-◌, suc, List, [], �
 use Rattle.std.proofs.lemmas.List.{length-replicate, replicate-append-replicate, append-nil}
 use Rattle.std.specs.FinMap.{get}
 use Rattle.byteorder.specs.Endian.{big_bytes}
-use Rattle.m3_outside.specs.declared.file_name.FileName.{FileName}
-use Rattle.m3_outside.specs.Files.{Files, Torn, Wrote, Stays, IsInside, IsPresent}
-use Rattle.m3_outside.specs.DiskState.{DiskState, StepOf, Elapses}
+use Rattle.log_chunks.specs.m3_outside.declared.file_name.FileName.{FileName}
+use Rattle.log_chunks.specs.m3_outside.Files.{Files, Torn, Wrote, Stays, IsInside, IsPresent}
+use Rattle.log_chunks.specs.m3_outside.DiskState.{DiskState, StepOf, Elapses}
 use Rattle.commit_log.specs.Segment.{segment, written, chunk_bytes, MayAdd, Adds, IsAtRest, IsReady, OthersStay}
-use Rattle.m3_outside.proofs.Names.{get_apart}
+use Rattle.log_chunks.proofs.m3_outside_proofs.Names.{get_apart}
 use Rattle.log_chunks.proofs.Shapes.{closed, begun, gated, run1, run2, run3, run4, run5, may, done, wrote_field, wrote_body, wrote_gate, length-closed}
 
 abbrev zeros : ℕ → List ℕ

@@ -2,14 +2,14 @@
 use Rattle.std.proofs.Common.{◌≡◌, inl, inr, ⊎_elim, ℕ, ◌+◌, ◌<◌, [], replicate, refl, sym, ap, subst, ◌∙◌, arith, true, Some, Ok, Err}
 use Rattle.std.specs.Prelude.{⊤}
 use Rattle.std.specs.FinMap.{get}
-use Rattle.m3_outside.specs.declared.file_name.FileName.{FileName}
-use Rattle.m3_outside.specs.declared.disk_err.DiskErr.{DiskErr}
-use Rattle.m3_outside.specs.declared.disk_err.DiskErr.TheVariants.{Memory, Failed as DiskFailed}
-use Rattle.m3_outside.specs.Files.{Files, Stays, files_with_zeros}
-use Rattle.m3_outside.specs.DiskState.{DiskState, Elapses, Becomes, Told}
-use Rattle.m3_outside.specs.DiskCalls.{Creates, LeavesFiles}
-use Rattle.m3_outside.proofs.Names.{get_here, get_apart}
-use Rattle.m3_outside.proofs.Moments.{elapses_as, elapses_then, becomes_both, becomes_stays}
+use Rattle.log_chunks.specs.m3_outside.declared.file_name.FileName.{FileName}
+use Rattle.log_chunks.specs.m3_outside.declared.disk_err.DiskErr.{DiskErr}
+use Rattle.log_chunks.specs.m3_outside.declared.disk_err.DiskErr.TheVariants.{Memory, Failed as DiskFailed}
+use Rattle.log_chunks.specs.m3_outside.Files.{Files, Stays, files_with_zeros}
+use Rattle.log_chunks.specs.m3_outside.DiskState.{DiskState, Elapses, Becomes, Told}
+use Rattle.log_chunks.specs.m3_outside.DiskCalls.{Creates, LeavesFiles}
+use Rattle.log_chunks.proofs.m3_outside_proofs.Names.{get_here, get_apart}
+use Rattle.log_chunks.proofs.m3_outside_proofs.Moments.{elapses_as, elapses_then, becomes_both, becomes_stays}
 use Rattle.commit_log.specs.Segment.{segment, IsAtRest}
 use Rattle.commit_log.specs.LogEnd.{LogEnd, NoneFrom, NoneAbove, LogEndStands, MayBeginSegment, BeganOrNot}
 

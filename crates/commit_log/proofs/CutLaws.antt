@@ -4,13 +4,13 @@ use Rattle.std.specs.Prelude.{nat_lt}
 use Rattle.std.specs.List.{filter}
 use Rattle.std.proofs.lemmas.Bool.{ltb-false, le-ltb}
 use Rattle.std.specs.FinMap.{get}
-use Rattle.m3_model.specs.Members.{IsIn}
-use Rattle.m3_model.specs.Ascends.{Ascends}
-use Rattle.m3_model.proofs.MemberLemmas.{IsIn-append_left, IsIn-append_right, IsIn-append_cases, map-IsIn}
-use Rattle.m3_outside.specs.Files.{Files}
-use Rattle.m3_outside.specs.DiskState.{DiskState, IsLawfulDisk, StepOf, Elapses}
-use Rattle.m3_outside.specs.Removal.{without_files, MayTakeAway, HasTakenAway}
-use Rattle.m3_outside.proofs.Removal.{none_stays, gone_none, left_same, may_take}
+use Rattle.log_chunks.specs.m3_model.Members.{IsIn}
+use Rattle.log_chunks.specs.m3_model.Ascends.{Ascends}
+use Rattle.log_chunks.proofs.m3_model_proofs.MemberLemmas.{IsIn-append_left, IsIn-append_right, IsIn-append_cases, map-IsIn}
+use Rattle.log_chunks.specs.m3_outside.Files.{Files}
+use Rattle.log_chunks.specs.m3_outside.DiskState.{DiskState, IsLawfulDisk, StepOf, Elapses}
+use Rattle.log_chunks.specs.m3_outside.Removal.{without_files, MayTakeAway, HasTakenAway}
+use Rattle.log_chunks.proofs.m3_outside_proofs.Removal.{none_stays, gone_none, left_same, may_take}
 use Rattle.commit_log.specs.Segment.{segment, IsAtRest}
 use Rattle.commit_log.specs.LogEnd.{LogEnd, NoneAbove, LogEndStands}
 use Rattle.commit_log.specs.Contents.{numbers, PartsHold}

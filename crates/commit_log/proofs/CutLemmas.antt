@@ -1,13 +1,13 @@
 -- Segments that are taken away, by their numbers.
 use Rattle.std.proofs.Common.{◌≡◌, inl, inr, ℕ, ◌<◌, List, [], ◌∷◌, ◌++◌, map, refl, sym, ap, ◌∙◌, arith}
 use Rattle.std.specs.FinMap.{get}
-use Rattle.m3_model.specs.Members.{IsIn}
-use Rattle.m3_model.specs.Ascends.{Ascends}
-use Rattle.m3_model.proofs.MemberLemmas.{IsIn-map}
-use Rattle.m3_outside.specs.declared.file_name.FileName.{FileName}
-use Rattle.m3_outside.specs.Files.{Files, IsPresent}
-use Rattle.m3_outside.specs.Removal.{without_files, MayTakeAway, AreRemovable}
-use Rattle.m3_outside.proofs.Removal.{Distinct, removable}
+use Rattle.log_chunks.specs.m3_model.Members.{IsIn}
+use Rattle.log_chunks.specs.m3_model.Ascends.{Ascends}
+use Rattle.log_chunks.proofs.m3_model_proofs.MemberLemmas.{IsIn-map}
+use Rattle.log_chunks.specs.m3_outside.declared.file_name.FileName.{FileName}
+use Rattle.log_chunks.specs.m3_outside.Files.{Files, IsPresent}
+use Rattle.log_chunks.specs.m3_outside.Removal.{without_files, MayTakeAway, AreRemovable}
+use Rattle.log_chunks.proofs.m3_outside_proofs.Removal.{Distinct, removable}
 use Rattle.commit_log.specs.Segment.{segment}
 use Rattle.commit_log.specs.Contents.{numbers}
 use Rattle.commit_log.specs.Cutting.{numbers_below, segments_below}

@@ -4,8 +4,8 @@ use Rattle.std.specs.Prelude.{unwrap_or, option_map, nat_eq}
 use Rattle.std.proofs.lemmas.List.{take_all, take-take, length-take-le}
 use Rattle.std.proofs.lemmas.Bool.{cases_lt, eqb-true, eq-eqb}
 use Rattle.std.specs.FinMap.{get}
-use Rattle.m3_outside.specs.declared.file_name.FileName.{FileName}
-use Rattle.m3_outside.specs.Files.{Files, IsPresent}
+use Rattle.log_chunks.specs.m3_outside.declared.file_name.FileName.{FileName}
+use Rattle.log_chunks.specs.m3_outside.Files.{Files, IsPresent}
 use Rattle.log_chunks.specs.Fields.{Begins, StopsAt}
 use Rattle.log_chunks.proofs.FieldLemmas.{begins_take}
 use Rattle.commit_log.specs.Segment.{segment, ReadsChunks, IsSegment, HasChunks}

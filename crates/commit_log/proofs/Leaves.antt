@@ -2,11 +2,11 @@
 use Rattle.std.proofs.Common.{◌≡◌, inl, refl, ◌∙◌, arith, Result, Err, IsErrAnd}
 use Rattle.std.specs.Prelude.{IsErrOf}
 use Rattle.std.proofs.lemmas.Result.{err_from_is_err_and}
-use Rattle.m3_outside.specs.DiskState.{DiskState}
-use Rattle.m3_outside.specs.DiskCalls.{LeavesFiles}
-use Rattle.m3_outside.proofs.Moments.{elapses_then}
-use Rattle.m3_outside.specs.declared.disk_err.DiskErr.{DiskErr}
-use Rattle.m3_outside.specs.declared.disk_err.DiskErr.TheVariants.{Memory, Failed as DiskFailed}
+use Rattle.log_chunks.specs.m3_outside.DiskState.{DiskState}
+use Rattle.log_chunks.specs.m3_outside.DiskCalls.{LeavesFiles}
+use Rattle.log_chunks.proofs.m3_outside_proofs.Moments.{elapses_then}
+use Rattle.log_chunks.specs.m3_outside.declared.disk_err.DiskErr.{DiskErr}
+use Rattle.log_chunks.specs.m3_outside.declared.disk_err.DiskErr.TheVariants.{Memory, Failed as DiskFailed}
 
 pub leaves_none : (failed : Type 0) (d : DiskState) → (failed → ⊥) → LeavesFiles failed d d
 leaves_none failed d never = record {

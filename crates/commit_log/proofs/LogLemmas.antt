@@ -4,14 +4,14 @@ use Rattle.std.specs.Prelude.{nat_lt}
 use Rattle.std.proofs.lemmas.List.{append-nil, length-replicate}
 use Rattle.std.proofs.lemmas.Bool.{cases_eq, ltb-true, ltb-false}
 use Rattle.std.specs.FinMap.{get}
-use Rattle.m3_model.specs.Members.{IsIn}
-use Rattle.m3_model.specs.Ascends.{Ascends}
-use Rattle.m3_model.proofs.MemberLemmas.{IsIn-append_left, IsIn-append_cases, IsIn-push}
-use Rattle.m3_model.proofs.Ascending.{Ascends-push}
-use Rattle.m3_outside.specs.declared.file_name.FileName.{FileName}
-use Rattle.m3_outside.specs.Files.{Files, IsPresent, files_with_zeros}
-use Rattle.m3_outside.specs.DiskState.{DiskState, IsLawfulDisk, StepOf, Elapses}
-use Rattle.m3_outside.proofs.Names.{get_here, get_apart}
+use Rattle.log_chunks.specs.m3_model.Members.{IsIn}
+use Rattle.log_chunks.specs.m3_model.Ascends.{Ascends}
+use Rattle.log_chunks.proofs.m3_model_proofs.MemberLemmas.{IsIn-append_left, IsIn-append_cases, IsIn-push}
+use Rattle.log_chunks.proofs.m3_model_proofs.Ascending.{Ascends-push}
+use Rattle.log_chunks.specs.m3_outside.declared.file_name.FileName.{FileName}
+use Rattle.log_chunks.specs.m3_outside.Files.{Files, IsPresent, files_with_zeros}
+use Rattle.log_chunks.specs.m3_outside.DiskState.{DiskState, IsLawfulDisk, StepOf, Elapses}
+use Rattle.log_chunks.proofs.m3_outside_proofs.Names.{get_here, get_apart}
 use Rattle.commit_log.specs.Segment.{segment, written, ReadsChunks, HasChunks, OthersStay, MayAdd, Adds, IsSegment}
 use Rattle.commit_log.specs.LogEnd.{NoneAbove, MayBeginSegment}
 use Rattle.commit_log.specs.Contents.{numbers, PartsHold, HasDamage}

@@ -7,13 +7,13 @@ use Rattle.std.specs.FinMap.{get, keys, entries}
 use Rattle.std.specs.Ordering.{nat_cmp}
 use Rattle.std.specs.Cmp.{ranked}
 use Rattle.std.specs.declared.cmp.Ordering.TheVariants.{Less}
-use Rattle.m3_model.specs.Members.{IsIn}
-use Rattle.m3_model.specs.Ascends.{Ascends}
-use Rattle.m3_model.proofs.FindLemmas.{get-IsIn, IsIn-get, entries_ascend}
-use Rattle.m3_model.proofs.MemberLemmas.{IsIn-map, map-IsIn}
-use Rattle.m3_outside.specs.declared.file_name.FileName.{FileName}
-use Rattle.m3_outside.specs.Files.{Files, IsAbsent, name_cmp}
-use Rattle.m3_outside.proofs.Names.{name_total, name_same}
+use Rattle.log_chunks.specs.m3_model.Members.{IsIn}
+use Rattle.log_chunks.specs.m3_model.Ascends.{Ascends}
+use Rattle.log_chunks.proofs.m3_model_proofs.FindLemmas.{get-IsIn, IsIn-get, entries_ascend}
+use Rattle.log_chunks.proofs.m3_model_proofs.MemberLemmas.{IsIn-map, map-IsIn}
+use Rattle.log_chunks.specs.m3_outside.declared.file_name.FileName.{FileName}
+use Rattle.log_chunks.specs.m3_outside.Files.{Files, IsAbsent, name_cmp}
+use Rattle.log_chunks.proofs.m3_outside_proofs.Names.{name_total, name_same}
 use Rattle.commit_log.specs.Segment.{segment}
 use Rattle.commit_log.specs.LogEnd.{NoneFrom}
 use Rattle.commit_log.specs.Contents.{is_segment, numbers_of, numbers, next_after}

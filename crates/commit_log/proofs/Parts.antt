@@ -3,8 +3,8 @@ use Rattle.std.proofs.Common.{◌≡◌, inl, inr, ℕ, List, [], ◌∷◌, ◌
 use Rattle.std.proofs.lemmas.List.{append-nil}
 use Rattle.std.specs.FinMap.{get}
 use Rattle.std.proofs.lemmas.Option.{same_Some}
-use Rattle.m3_model.specs.Members.{IsIn}
-use Rattle.m3_outside.specs.Files.{Files}
+use Rattle.log_chunks.specs.m3_model.Members.{IsIn}
+use Rattle.log_chunks.specs.m3_outside.Files.{Files}
 use Rattle.commit_log.specs.Segment.{segment, ReadsChunks, HasChunks}
 use Rattle.commit_log.specs.Contents.{PartsHold}
 use Rattle.log_chunks.proofs.LawLemmas.{one_reading}

@@ -3,9 +3,9 @@ use Rattle.std.proofs.Common.{add-one, Result, Err, IsErrAnd, IfErr, ◌≡◌, 
 use Rattle.std.proofs.lemmas.List.{append-nil, take-append-drop, take_more}
 use Rattle.std.proofs.Math.Seq.{drop-cons}
 use Rattle.std.proofs.lemmas.Result.{err_from_is_err_and}
-use Rattle.m3_outside.specs.Files.{Files}
-use Rattle.m3_outside.specs.declared.disk_err.DiskErr.{DiskErr}
-use Rattle.m3_outside.specs.declared.disk_err.DiskErr.TheVariants.{Memory, Failed as DiskFailed}
+use Rattle.log_chunks.specs.m3_outside.Files.{Files}
+use Rattle.log_chunks.specs.m3_outside.declared.disk_err.DiskErr.{DiskErr}
+use Rattle.log_chunks.specs.m3_outside.declared.disk_err.DiskErr.TheVariants.{Memory, Failed as DiskFailed}
 use Rattle.commit_log.specs.Errors.{log_err_of}
 use Rattle.commit_log.specs.Contents.{PartsHold, HasDamage, segment_bytes}
 use Rattle.commit_log.specs.Reading.{ReadsMore, MayBreak, FindsAll, MayBeFirstDamage}

@@ -2,8 +2,8 @@
 use Rattle.std.specs.Prelude.{◌≡◌, ℕ, ◌+◌, max, List, [], ◌∷◌, ◌++◌, map, unwrap_or, Bool, ◌==◌, ◌&&◌}
 use Rattle.std.specs.List.{filter}
 use Rattle.std.specs.FinMap.{get, keys}
-use Rattle.m3_outside.specs.Files.{Files}
-use Rattle.m3_outside.specs.declared.file_name.FileName.{FileName}
+use Rattle.log_chunks.specs.m3_outside.Files.{Files}
+use Rattle.log_chunks.specs.m3_outside.declared.file_name.FileName.{FileName}
 use Rattle.log_chunks.specs.Fields.{StopsAt}
 use Rattle.commit_log.specs.Segment.{segment, HasChunks, IsSegment}
 

@@ -1,8 +1,8 @@
 -- Segments below a number, which a cut takes away.
 use Rattle.std.specs.Prelude.{ℕ, List, map, nat_lt, not}
 use Rattle.std.specs.List.{filter}
-use Rattle.m3_outside.specs.Files.{Files}
-use Rattle.m3_outside.specs.declared.file_name.FileName.{FileName}
+use Rattle.log_chunks.specs.m3_outside.Files.{Files}
+use Rattle.log_chunks.specs.m3_outside.declared.file_name.FileName.{FileName}
 use Rattle.commit_log.specs.Segment.{segment}
 use Rattle.commit_log.specs.Contents.{numbers}
 

@@ -1,6 +1,6 @@
 -- A disk's refusal as a log's.
-use Rattle.m3_outside.specs.declared.disk_err.DiskErr.{DiskErr}
-use Rattle.m3_outside.specs.declared.disk_err.DiskErr.TheVariants as disk
+use Rattle.log_chunks.specs.m3_outside.declared.disk_err.DiskErr.{DiskErr}
+use Rattle.log_chunks.specs.m3_outside.declared.disk_err.DiskErr.TheVariants as disk
 use Rattle.commit_log.specs.declared.log_err.LogErr.{LogErr}
 use Rattle.commit_log.specs.declared.log_err.LogErr.TheVariants as errors
 

@@ -1,8 +1,8 @@
 -- The end of a log: the segment that chunks go into, and the offset there.
 use Rattle.std.specs.Prelude.{◌≡◌, ◌⊎◌, ℕ, ◌<◌, ◌≤◌, Bool, true}
-use Rattle.m3_model.specs.declared.limits.TheConstants.{SEGMENT_BYTES}
-use Rattle.m3_outside.specs.Files.{Files, IsAbsent, DoneOrNot, files_with_zeros}
-use Rattle.m3_outside.specs.DiskState.{DiskState, Told, Becomes}
+use Rattle.log_chunks.specs.m3_model.declared.limits.TheConstants.{SEGMENT_BYTES}
+use Rattle.log_chunks.specs.m3_outside.Files.{Files, IsAbsent, DoneOrNot, files_with_zeros}
+use Rattle.log_chunks.specs.m3_outside.DiskState.{DiskState, Told, Becomes}
 use Rattle.commit_log.specs.Segment.{segment, IsKept, IsReady}
 
 pub record LogEnd : Type 0 where

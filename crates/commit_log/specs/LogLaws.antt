@@ -1,11 +1,11 @@
 -- What the calls of a log do to all that a reader finds, on any disk.
 use Rattle.std.specs.Prelude.{◌≡◌, ◌⊎◌, ◌↔◌, ℕ, ◌<◌, ◌≤◌, true, List, [], ◌∷◌, ◌++◌, length}
-use Rattle.m3_model.specs.Members.{IsIn}
-use Rattle.m3_model.specs.Ascends.{Ascends}
-use Rattle.m3_model.specs.declared.limits.TheConstants.{SEGMENT_BYTES}
-use Rattle.m3_outside.specs.Files.{Files, IsPresent}
-use Rattle.m3_outside.specs.DiskState.{DiskState, EachImage, StepOf, Elapses, Becomes}
-use Rattle.m3_outside.specs.Removal.{without_files, MayTakeAway}
+use Rattle.log_chunks.specs.m3_model.Members.{IsIn}
+use Rattle.log_chunks.specs.m3_model.Ascends.{Ascends}
+use Rattle.log_chunks.specs.m3_model.declared.limits.TheConstants.{SEGMENT_BYTES}
+use Rattle.log_chunks.specs.m3_outside.Files.{Files, IsPresent}
+use Rattle.log_chunks.specs.m3_outside.DiskState.{DiskState, EachImage, StepOf, Elapses, Becomes}
+use Rattle.log_chunks.specs.m3_outside.Removal.{without_files, MayTakeAway}
 use Rattle.commit_log.specs.Segment.{segment, written, ReadsChunks, MayAdd, Adds}
 use Rattle.commit_log.specs.LogEnd.{NoneAbove, MayBeginSegment}
 use Rattle.commit_log.specs.Cutting.{numbers_below, numbers_from, segments_below}

@@ -1,7 +1,7 @@
 -- What the reading of a segment finds.
 use Rattle.std.specs.Prelude.{◌≡◌, ⊤, ℕ, ◌+◌, ◌<◌, ◌↔◌, List, ◌++◌, length, take, Bool, IsTrue}
-use Rattle.m3_model.specs.declared.limits.TheConstants.{SEGMENT_BYTES}
-use Rattle.m3_outside.specs.Files.{Files}
+use Rattle.log_chunks.specs.m3_model.declared.limits.TheConstants.{SEGMENT_BYTES}
+use Rattle.log_chunks.specs.m3_outside.Files.{Files}
 use Rattle.log_chunks.specs.Fields.{StopsAt}
 use Rattle.commit_log.specs.Segment.{ReadsChunks, IsSegment}
 pub use Rattle.log_chunks.specs.Offsets.{ChunkStands, EndStands, BadStands, IsNext}

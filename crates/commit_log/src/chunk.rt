@@ -1,12 +1,12 @@
 ghost use Rattle.std.specs.Prelude.{◌≡◌, ℕ, ◌+◌, ◌≤◌, true, length, IsErr, OnOk};
-ghost use Rattle.m3_outside.specs.Files.{Files};
-ghost use Rattle.m3_outside.specs.Causes.{CountsFaults};
-ghost use Rattle.m3_outside.specs.DiskState.{DiskState, Elapses, StepOf};
+ghost use Rattle.log_chunks.specs.m3_outside.Files.{Files};
+ghost use Rattle.log_chunks.specs.m3_outside.Causes.{CountsFaults};
+ghost use Rattle.log_chunks.specs.m3_outside.DiskState.{DiskState, Elapses, StepOf};
 ghost use Rattle.commit_log.specs.Segment.{segment, MayAdd, Adds, OthersStay, IsReady, IsKept};
 
 use byteorder::{BigEndian, ByteOrder};
+use log_chunks::m3_outside::{Disk, Failed, FileName};
 use log_chunks::{HEAD_BYTES, OPEN};
-use m3_outside::{Disk, Failed, FileName};
 
 /// The file of the segment of this number.
 pub(crate) fn segment_name(number: u64) -> FileName

@@ -1,18 +1,18 @@
 ghost use Rattle.std.specs.Prelude.{◌≡◌, ◌≤◌, true, length, map, vec_len, IsErrOf, IfOk, OnOk};
-ghost use Rattle.m3_outside.specs.Causes.{CountsFaults};
-ghost use Rattle.m3_outside.specs.DiskState.{DiskState, Elapses, Becomes};
-ghost use Rattle.m3_outside.specs.DiskCalls.{LeavesFiles};
-ghost use Rattle.m3_outside.specs.Removal.{without_files, MayTakeAway, HasTakenAway};
-ghost use Rattle.m3_outside.specs.declared.disk_err.DiskErr.TheVariants.{Failed as DiskFailed, Memory as WantOfMemory};
+ghost use Rattle.log_chunks.specs.m3_outside.Causes.{CountsFaults};
+ghost use Rattle.log_chunks.specs.m3_outside.DiskState.{DiskState, Elapses, Becomes};
+ghost use Rattle.log_chunks.specs.m3_outside.DiskCalls.{LeavesFiles};
+ghost use Rattle.log_chunks.specs.m3_outside.Removal.{without_files, MayTakeAway, HasTakenAway};
+ghost use Rattle.log_chunks.specs.m3_outside.declared.disk_err.DiskErr.TheVariants.{Failed as DiskFailed, Memory as WantOfMemory};
 ghost use Rattle.commit_log.specs.LogEnd.{LogEnd, LogEndStands};
 ghost use Rattle.commit_log.specs.Segment.{segment};
 ghost use Rattle.commit_log.specs.Cutting.{numbers_below, segments_below};
 
 use crate::chunk::segment_name;
 use crate::read::segment_numbers;
-use m3_model::Memory;
-use m3_outside::take_away::take_away;
-use m3_outside::{Disk, DiskErr, FileName};
+use log_chunks::m3_model::Memory;
+use log_chunks::m3_outside::take_away::take_away;
+use log_chunks::m3_outside::{Disk, DiskErr, FileName};
 use std::alloc::Global;
 
 // The names of the segments of these numbers.

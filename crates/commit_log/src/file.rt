@@ -1,18 +1,18 @@
 ghost use Rattle.std.specs.Prelude.{◌≡◌, ◌≤◌, ℕ, List, true, Some, length, take, IfOk, IsErrOf};
 ghost use Rattle.std.specs.FinMap.{get};
-ghost use Rattle.m3_model.specs.declared.limits.TheConstants.{SEGMENT_BYTES};
-ghost use Rattle.m3_outside.specs.Causes.{CountsFaults};
-ghost use Rattle.m3_outside.specs.Files.{IsInside, IsPresent};
-ghost use Rattle.m3_outside.specs.DiskState.{DiskState, Told};
-ghost use Rattle.m3_outside.specs.DiskCalls.{LeavesFiles};
-ghost use Rattle.m3_outside.specs.declared.disk_err.DiskErr.TheVariants.{Failed as DiskFailed, Memory as WantOfMemory};
+ghost use Rattle.log_chunks.specs.m3_model.declared.limits.TheConstants.{SEGMENT_BYTES};
+ghost use Rattle.log_chunks.specs.m3_outside.Causes.{CountsFaults};
+ghost use Rattle.log_chunks.specs.m3_outside.Files.{IsInside, IsPresent};
+ghost use Rattle.log_chunks.specs.m3_outside.DiskState.{DiskState, Told};
+ghost use Rattle.log_chunks.specs.m3_outside.DiskCalls.{LeavesFiles};
+ghost use Rattle.log_chunks.specs.m3_outside.declared.disk_err.DiskErr.TheVariants.{Failed as DiskFailed, Memory as WantOfMemory};
 ghost use Rattle.commit_log.specs.Contents.{segment_bytes};
 ghost use Rattle.commit_log.specs.Reading.{IsFront};
 ghost use Rattle.commit_log.specs.Segment.{segment};
 
 use crate::chunk::segment_name;
-use m3_model::limits::SEGMENT_BYTES;
-use m3_outside::{Disk, DiskErr, FileName};
+use log_chunks::m3_model::limits::SEGMENT_BYTES;
+use log_chunks::m3_outside::{Disk, DiskErr, FileName};
 use std::alloc::Global;
 
 /// The first bytes of a segment's file, at most as many as a segment has.

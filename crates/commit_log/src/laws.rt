@@ -1,11 +1,11 @@
 //! Laws over the definitions of logs.
 ghost use Rattle.std.specs.Prelude.{◌≡◌, ℕ, ◌≤◌, List, length};
-ghost use Rattle.m3_model.specs.declared.limits.TheConstants.{SEGMENT_BYTES};
-ghost use Rattle.m3_outside.specs.Files.{Files};
+ghost use Rattle.log_chunks.specs.m3_model.declared.limits.TheConstants.{SEGMENT_BYTES};
+ghost use Rattle.log_chunks.specs.m3_outside.Files.{Files};
 ghost use Rattle.commit_log.specs.Segment.{ReadsChunks};
 ghost use Rattle.commit_log.specs.LogLaws.{NothingBehindGate, NumbersAreThere, LogIsOne, DamagedIsNone, ReaderFindsLog, AppendGrowsLog, BeginLeavesLog, CutLeavesEnd};
 
-use m3_outside::Disk;
+use log_chunks::m3_outside::Disk;
 
 /// A segment reads as at most one list of chunks.
 pub fn chunks_are_one()

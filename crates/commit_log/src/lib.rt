@@ -16,3 +16,6 @@ pub use log::Log;
 pub use log_chunks::{ChunkAt, get_chunk};
 pub use log_err::LogErr;
 pub use read::{Found, Segments, list_segments, next_after, read_all};
+
+// Libraries that the rows of crates above need not name.
+pub use log_chunks::{m3_model, m3_outside, wire_bytes};

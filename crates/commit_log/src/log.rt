@@ -1,17 +1,17 @@
 ghost use Rattle.std.specs.Prelude.{◌≡◌, ◌⊎◌, ℕ, ◌+◌, ◌<◌, ◌≤◌, Bool, true, false, ◌↔◌, IsTrue, length, IfOk, IsErr, IsErrOf, OnOk, OnErr};
-ghost use Rattle.m3_model.specs.declared.limits.TheConstants.{NUMBER_END, SEGMENT_BYTES};
-ghost use Rattle.m3_outside.specs.Files.{Files, files_with_zeros};
-ghost use Rattle.m3_outside.specs.Causes.{CountsFaults};
-ghost use Rattle.m3_outside.specs.DiskState.{DiskState, Told, Elapses, StepOf, Becomes};
-ghost use Rattle.m3_outside.specs.DiskCalls.{LeavesFiles};
-ghost use Rattle.m3_outside.specs.declared.disk_err.DiskErr.TheVariants.{Failed as DiskFailed, Memory as WantOfMemory};
+ghost use Rattle.log_chunks.specs.m3_model.declared.limits.TheConstants.{NUMBER_END, SEGMENT_BYTES};
+ghost use Rattle.log_chunks.specs.m3_outside.Files.{Files, files_with_zeros};
+ghost use Rattle.log_chunks.specs.m3_outside.Causes.{CountsFaults};
+ghost use Rattle.log_chunks.specs.m3_outside.DiskState.{DiskState, Told, Elapses, StepOf, Becomes};
+ghost use Rattle.log_chunks.specs.m3_outside.DiskCalls.{LeavesFiles};
+ghost use Rattle.log_chunks.specs.m3_outside.declared.disk_err.DiskErr.TheVariants.{Failed as DiskFailed, Memory as WantOfMemory};
 ghost use Rattle.commit_log.specs.Segment.{segment, MayAdd, Adds, OthersStay};
 ghost use Rattle.commit_log.specs.LogEnd.{NoneFrom, LogEndStands, IsReadyFor, MayBeginSegment, BeganOrNot};
 
 use crate::chunk::{put_chunk, segment_name};
 use log_chunks::HEAD_BYTES;
-use m3_model::limits::{NUMBER_END, SEGMENT_BYTES};
-use m3_outside::{Disk, DiskErr, Failed};
+use log_chunks::m3_model::limits::{NUMBER_END, SEGMENT_BYTES};
+use log_chunks::m3_outside::{Disk, DiskErr, Failed};
 use std::marker::Model;
 
 // The device calls of an append that use up room.

@@ -1,9 +1,9 @@
 ghost use Rattle.std.specs.Prelude.{◌≡◌, ◌<◌, ◌≤◌, ℕ, true, ◌↔◌, IsTrue, IfOk, OnOk, IfErr, IfSome, IfNone, IsErr, IsErrOf};
-ghost use Rattle.m3_model.specs.declared.limits.TheConstants.{NUMBER_END};
-ghost use Rattle.m3_outside.specs.Causes.{CountsFaults};
-ghost use Rattle.m3_outside.specs.DiskState.{DiskState, Told};
-ghost use Rattle.m3_outside.specs.DiskCalls.{LeavesFiles};
-ghost use Rattle.m3_outside.specs.declared.disk_err.DiskErr.TheVariants.{Failed as DiskFailed};
+ghost use Rattle.log_chunks.specs.m3_model.declared.limits.TheConstants.{NUMBER_END};
+ghost use Rattle.log_chunks.specs.m3_outside.Causes.{CountsFaults};
+ghost use Rattle.log_chunks.specs.m3_outside.DiskState.{DiskState, Told};
+ghost use Rattle.log_chunks.specs.m3_outside.DiskCalls.{LeavesFiles};
+ghost use Rattle.log_chunks.specs.m3_outside.declared.disk_err.DiskErr.TheVariants.{Failed as DiskFailed};
 ghost use Rattle.commit_log.specs.Contents as contents;
 ghost use Rattle.commit_log.specs.Contents.{LogHolds, numbers};
 ghost use Rattle.commit_log.specs.LogEnd.{NoneFrom};
@@ -13,9 +13,9 @@ ghost use Rattle.commit_log.specs.declared.log_err.LogErr.TheVariants as errors;
 use crate::file::read_front;
 use crate::log_err::LogErr;
 use crate::segment::read_chunks;
-use m3_model::Seq;
-use m3_model::limits::NUMBER_END;
-use m3_outside::{Disk, DiskErr, FileName};
+use log_chunks::m3_model::Seq;
+use log_chunks::m3_model::limits::NUMBER_END;
+use log_chunks::m3_outside::{Disk, DiskErr, FileName};
 use std::alloc::Global;
 
 /// What a log holds.

@@ -1,12 +1,12 @@
 ghost use Rattle.std.specs.Prelude.{◌≤◌, ℕ, List, length, OnOk, IfErr, IsErrOf};
-ghost use Rattle.m3_model.specs.declared.limits.TheConstants.{SEGMENT_BYTES};
+ghost use Rattle.log_chunks.specs.m3_model.declared.limits.TheConstants.{SEGMENT_BYTES};
 ghost use Rattle.commit_log.specs.Reading.{IsFront, ReadsMore, MayBreak};
 ghost use Rattle.commit_log.specs.declared.log_err.LogErr.TheVariants as errors;
 
 use crate::file::Front;
 use crate::log_err::LogErr;
+use log_chunks::m3_model::Seq;
 use log_chunks::{ChunkAt, get_chunk};
-use m3_model::Seq;
 use std::alloc::Global;
 
 /// Appends the chunks of the segment of this number, whose file begins so.

@@ -2,11 +2,11 @@
 ghost use Rattle.std.specs.Prelude.{◌<◌};
 ghost use Rattle.std.specs.List.{All};
 
+use cluster_members::replica_exchange::Slot;
 use cluster_words::{letter_of_node, spell_standing};
 use m3_model::{Memory, Rules};
 use m3_outside::Disk;
 use replica_doubles::{Double, Job};
-use replica_exchange::Slot;
 use std::alloc::Global;
 
 /// Has each replica do the job, and spells how much each did, and the reasons of those that refused.

@@ -3,12 +3,12 @@ use crate::sessions::{deliver, read, write};
 use crate::sweeps::{status, sweep};
 use cluster_core::{Asked, Event};
 use cluster_members::Members;
+use cluster_members::replica_exchange::Slot;
+use cluster_members::session_net::Net;
 use cluster_words::{letter_of_node, spell_placement};
 use m3_model::{Act, Duplicate, Matcher, Memory, Pick, Point, ReadLevel, Rules, Seq, Text};
 use m3_outside::Disk;
 use replica_doubles::{Change, Double, Job, Range};
-use replica_exchange::Slot;
-use session_net::Net;
 use std::alloc::Global;
 
 // ---- the opening and the rules

@@ -9,8 +9,8 @@ ghost use Rattle.event_trail.specs.Trails.{IsLegalOver, IsLawfulOver};
 use crate::past::Past;
 use crate::views::EventView;
 use event_book::Full;
-use m3_model::{Placement, Rules};
 use m3_outside::Disk;
+use placement_core::m3_model::{Placement, Rules};
 use std::marker::{Model, PhantomData};
 
 // So many events a list takes.

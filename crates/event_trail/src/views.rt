@@ -6,7 +6,7 @@ ghost use Rattle.cluster_core.specs.declared.event.Event.TheVariants as event;
 ghost use Rattle.cluster_core.specs.declared.event.StepCall.TheVariants as call;
 ghost use Rattle.cluster_core.specs.declared.event.StepReply.TheVariants as reply;
 
-use m3_model::{Pick, Placement, Point, Reason, Report, Rules, Seq, Series};
+use placement_core::m3_model::{Pick, Placement, Point, Reason, Report, Rules, Seq, Series};
 use std::marker::Model;
 use std::snapshot::Snapshot;
 

@@ -3,10 +3,10 @@ use Rattle.std.proofs.Common.{◌≡◌, ℕ, ℤ, pos, List, [], get_or, Result
 use Rattle.std.specs.Int.{w64}
 use Rattle.std.proofs.lemmas.List.Elements.{All-from_get_or}
 use Rattle.std.proofs.lemmas.Result.{err_from_is_err_and}
-use Rattle.m3_model.specs.declared.point.Series.{Series}
-use Rattle.m3_model.proofs.Lists.{IsIn-get_or}
-use Rattle.wire_bytes.specs.Volumes.{VolumeHead, IsVolume, data_bytes}
-use Rattle.volume_bytes.specs.Heads.{AllFit}
+use Rattle.fileset_read.specs.m3_model.declared.point.Series.{Series}
+use Rattle.fileset_read.proofs.m3_model_proofs.Lists.{IsIn-get_or}
+use Rattle.fileset_read.specs.wire_bytes.Volumes.{VolumeHead, IsVolume, data_bytes}
+use Rattle.fileset_read.specs.volume_bytes.Heads.{AllFit}
 use Rattle.fileset_read.specs.Rows.{AreSpelled, Gives}
 use Rattle.fileset_read.specs.declared.row_err.RowErr.{RowErr}
 use Rattle.fileset_read.specs.declared.row_err.RowErr.TheVariants as errors

@@ -1,13 +1,13 @@
 -- Head, data and what the data gives, in the files of one volume.
 use Rattle.std.proofs.Common.{◌≡◌, inl, inr, ℕ, ◌<◌, ◌≤◌, List, [], ◌∷◌, Option, refl, sym, ap, subst, ◌∙◌, arith}
-use Rattle.m3_model.specs.declared.limits.TheConstants.{MOST_NAMESPACES, NUMBER_END, TIME_END}
-use Rattle.m3_model.specs.declared.point.Series.{Series}
-use Rattle.m3_outside.specs.Files.{Files}
-use Rattle.m3_outside.specs.declared.file_name.FileName.{FileName}
-use Rattle.wire_bytes.specs.Volumes.{VolumeHead, IsVolume, Part, Info, Summaries, Index, Data, Bloom, data_bytes, part_bytes}
-use Rattle.wire_bytes.proofs.VolumeLemmas.{same_rows}
-use Rattle.shard_files.specs.Parts.{part_name}
-use Rattle.shard_files.specs.Damage.{Damage, OfForm, Look, AtForm, AtHead, bytes_at, BreaksForm, IsInfo, IsData, IsDerived, FormOf}
+use Rattle.fileset_read.specs.m3_model.declared.limits.TheConstants.{MOST_NAMESPACES, NUMBER_END, TIME_END}
+use Rattle.fileset_read.specs.m3_model.declared.point.Series.{Series}
+use Rattle.fileset_read.specs.m3_outside.Files.{Files}
+use Rattle.fileset_read.specs.m3_outside.declared.file_name.FileName.{FileName}
+use Rattle.fileset_read.specs.wire_bytes.Volumes.{VolumeHead, IsVolume, Part, Info, Summaries, Index, Data, Bloom, data_bytes, part_bytes}
+use Rattle.fileset_read.proofs.wire_bytes_proofs.VolumeLemmas.{same_rows}
+use Rattle.fileset_read.specs.shard_files.Parts.{part_name}
+use Rattle.fileset_read.specs.shard_files.Damage.{Damage, OfForm, Look, AtForm, AtHead, bytes_at, BreaksForm, IsInfo, IsData, IsDerived, FormOf}
 use Rattle.fileset_check.specs.PartFiles.{AreParts, Spells, bytes_in, file_of}
 use Rattle.fileset_check.specs.Told.{LookTells, BreaksHead, IsUnfit, HeadStops, IsInside}
 use Rattle.fileset_check.proofs.StopLemmas.{breaks_as}

@@ -6,13 +6,13 @@ use Rattle.std.specs.FinMap.{get}
 use Rattle.std.proofs.lemmas.Option.{same_Some}
 use Rattle.sha2.specs.Sha256.{sha256}
 use Rattle.sha2.proofs.Facts256.{length-sha256}
-use Rattle.m3_model.specs.Members.{IsIn}
-use Rattle.m3_outside.specs.Files.{Files, IsAbsent}
-use Rattle.m3_outside.specs.declared.file_name.FileName.{FileName}
-use Rattle.wire_bytes.specs.Fields.{StopsAt}
-use Rattle.wire_bytes.specs.Volumes.{Part, Info, Summaries, Index, Data, Bloom, Digests, Checkpoint}
-use Rattle.shard_files.specs.Parts.{part_name, kind_of}
-use Rattle.shard_files.specs.Damage.{Damage, OfForm, OfDigest, Look, AtForm, AtDigest, bytes_at, BreaksForm, BreaksDigest, IsGone, Differs, BreaksKept, IsGate, kept_of}
+use Rattle.fileset_read.specs.m3_model.Members.{IsIn}
+use Rattle.fileset_read.specs.m3_outside.Files.{Files, IsAbsent}
+use Rattle.fileset_read.specs.m3_outside.declared.file_name.FileName.{FileName}
+use Rattle.fileset_read.specs.wire_bytes.Fields.{StopsAt}
+use Rattle.fileset_read.specs.wire_bytes.Volumes.{Part, Info, Summaries, Index, Data, Bloom, Digests, Checkpoint}
+use Rattle.fileset_read.specs.shard_files.Parts.{part_name, kind_of}
+use Rattle.fileset_read.specs.shard_files.Damage.{Damage, OfForm, OfDigest, Look, AtForm, AtDigest, bytes_at, BreaksForm, BreaksDigest, IsGone, Differs, BreaksKept, IsGate, kept_of}
 use Rattle.fileset_check.specs.PartFiles.{AreParts, AreDigests, AreSealed, Keeps, part_in, bytes_in, file_of}
 use Rattle.fileset_check.specs.Told.{LookTells, at_gates, at_digests}
 

@@ -1,8 +1,8 @@
 -- The first of some looks that tells anything, and errors that tell of it.
 use Rattle.std.proofs.Common.{◌≡◌, inl, inr, ℕ, List, [], ◌∷◌, ◌++◌, Result, Ok, Err, IsErrAnd, IfErr, refl, sym, ap, subst, ◌∙◌, append_assoc}
 use Rattle.std.proofs.lemmas.Result.{err_from_is_err_and}
-use Rattle.m3_model.specs.Members.{IsIn}
-use Rattle.shard_files.specs.Damage.{Damage, FirstFound}
+use Rattle.fileset_read.specs.m3_model.Members.{IsIn}
+use Rattle.fileset_read.specs.shard_files.Damage.{Damage, FirstFound}
 use Rattle.fileset_check.specs.Told.{Says, MayTell, of_part}
 use Rattle.fileset_check.specs.declared.part_err.PartErr.{PartErr}
 use Rattle.fileset_check.specs.declared.part_err.PartErr.TheVariants as faults

@@ -1,9 +1,9 @@
 -- The first of five files that doesn't keep to its digest.
 use Rattle.std.proofs.Common.{◌≡◌, ℕ, List, [], ◌∷◌, take, drop, Option, arith}
-use Rattle.m3_outside.specs.Files.{Files}
-use Rattle.m3_outside.specs.declared.file_name.FileName.{FileName}
-use Rattle.wire_bytes.specs.Volumes.{Info, Summaries, Index, Data, Bloom}
-use Rattle.shard_files.specs.Damage.{Damage, Look, AtDigest, BreaksDigest}
+use Rattle.fileset_read.specs.m3_outside.Files.{Files}
+use Rattle.fileset_read.specs.m3_outside.declared.file_name.FileName.{FileName}
+use Rattle.fileset_read.specs.wire_bytes.Volumes.{Info, Summaries, Index, Data, Bloom}
+use Rattle.fileset_read.specs.shard_files.Damage.{Damage, Look, AtDigest, BreaksDigest}
 use Rattle.fileset_check.specs.PartFiles.{AreParts, AreDigests, Keeps, part_in, file_of}
 use Rattle.fileset_check.specs.Told.{LookTells, FirstTells, at_gates, at_five, at_digests}
 use Rattle.fileset_check.proofs.FirstLemmas.{first_here, first_there, first_behind}

@@ -3,9 +3,9 @@ use Rattle.std.proofs.Common.{◌≡◌, ◌⊎◌, inl, inr, ℕ, zero, suc, �
 use Rattle.std.proofs.lemmas.List.{length-take-le, length-replicate, take_all, take_at}
 use Rattle.std.proofs.lemmas.Bool.{cases_lt}
 use Rattle.std.proofs.Math.Seq.{drop-cons}
-use Rattle.wire_bytes.specs.Fields.{Begins, StopsAt}
-use Rattle.wire_bytes.proofs.StopLemmas.{one_spelling_stops}
-use Rattle.shard_files.specs.Damage.{IsGate}
+use Rattle.fileset_read.specs.wire_bytes.Fields.{Begins, StopsAt}
+use Rattle.fileset_read.proofs.wire_bytes_proofs.StopLemmas.{one_spelling_stops}
+use Rattle.fileset_read.specs.shard_files.Damage.{IsGate}
 use Rattle.fileset_check.specs.PartFiles.{Spells}
 
 abbrev pub HasLength : ℕ → List ℕ → Type 0

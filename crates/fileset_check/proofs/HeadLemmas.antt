@@ -1,14 +1,14 @@
 -- The info of a volume as numbers one after another, and its head.
 use Rattle.std.proofs.Common.{◌≡◌, inl, inr, ℕ, ◌+◌, ◌-◌, ◌<◌, ◌≤◌, ◌^◌, List, [], ◌∷◌, ◌++◌, length, drop, refl, sym, ap, subst, ◌∙◌, arith, append_assoc, append-nil}
 use Rattle.byteorder.specs.Endian.{big_bytes}
-use Rattle.m3_model.specs.declared.limits.TheConstants.{DURATION_END, MOST_NAMESPACES, NUMBER_END, TIME_END}
-use Rattle.m3_outside.specs.declared.file_name.FileName.{FileName}
-use Rattle.wire_bytes.specs.Fields.{Stands, StopsAt}
-use Rattle.wire_bytes.specs.Numbers.{ANumber}
-use Rattle.wire_bytes.specs.Volumes.{VolumeHead, IsHead, Info, info_of}
-use Rattle.wire_bytes.proofs.PointLemmas.{number_parts}
-use Rattle.shard_files.specs.Parts.{part_name, part_of}
-use Rattle.shard_files.specs.Damage.{IsInfo, IsSomeInfo}
+use Rattle.fileset_read.specs.m3_model.declared.limits.TheConstants.{DURATION_END, MOST_NAMESPACES, NUMBER_END, TIME_END}
+use Rattle.fileset_read.specs.m3_outside.declared.file_name.FileName.{FileName}
+use Rattle.fileset_read.specs.wire_bytes.Fields.{Stands, StopsAt}
+use Rattle.fileset_read.specs.wire_bytes.Numbers.{ANumber}
+use Rattle.fileset_read.specs.wire_bytes.Volumes.{VolumeHead, IsHead, Info, info_of}
+use Rattle.fileset_read.proofs.wire_bytes_proofs.PointLemmas.{number_parts}
+use Rattle.fileset_read.specs.shard_files.Parts.{part_name, part_of}
+use Rattle.fileset_read.specs.shard_files.Damage.{IsInfo, IsSomeInfo}
 use Rattle.fileset_read.proofs.RowLemmas.{number_stands}
 use Rattle.fileset_check.specs.Numbers.{IsField, AreFields, NumberThen, AreNumbers, info_fields}
 use Rattle.fileset_check.specs.Told.{IsInside}
@@ -190,4 +190,4 @@ one_head ns start number v w bytes x y =
     λ i. record { format = (a.format ∙ sym b.format) i; ns = (a.ns_is ∙ sym b.ns_is) i; start = (a.start_is ∙ sym b.start_is) i; size = size i; number = (a.number_is ∙ sym b.number_is) i }
   where
     same_number_at : Stands (big_bytes 8 v.size) bytes 10 18 → Stands (big_bytes 8 w.size) bytes 10 18 → v.size < DURATION_END → w.size < DURATION_END → v.size ≡ w.size
-    same_number_at s t small low = Rattle.wire_bytes.proofs.NumberLemmas.same_number 8 v.size w.size 10 bytes (omega (arith, small)) (omega (arith, low)) s t
+    same_number_at s t small low = Rattle.fileset_read.proofs.wire_bytes_proofs.NumberLemmas.same_number 8 v.size w.size 10 bytes (omega (arith, small)) (omega (arith, low)) s t

@@ -1,16 +1,16 @@
 -- What is told of volumes, as damage of all files.
 use Rattle.std.proofs.Common.{◌≡◌, inl, inr, ℕ, List, [], ◌∷◌, ◌++◌, map, refl, sym, ap, subst, ◌∙◌, append_assoc}
 use Rattle.std.proofs.lemmas.List.{map-append}
-use Rattle.m3_model.specs.Members.{IsIn}
-use Rattle.m3_model.proofs.MemberLemmas.{IsIn-map, IsIn-append_right}
-use Rattle.m3_outside.specs.Files.{Files}
-use Rattle.m3_outside.specs.declared.file_name.FileName.{FileName}
-use Rattle.commit_log.specs.Contents.{numbers}
-use Rattle.wire_bytes.specs.Volumes.{Part, Info, Summaries, Index, Data, Bloom, Digests, Checkpoint}
-use Rattle.shard_files.specs.Parts.{part_name, counted_volumes, counted_snapshots, IsKnown}
-use Rattle.shard_files.specs.Damage.{Damage, OfForm, Look, AtForm, AtDigest, AtHead, LookFinds, FirstFound, looks, bytes_at, Location, InVolume, InSnapshot, InSegment, LocationFinds, last_of, locations}
-use Rattle.shard_files.proofs.FirstDamageLemmas.{whole_volume}
-use Rattle.shard_files.proofs.VolumeSteps.{of_name}
+use Rattle.fileset_read.specs.m3_model.Members.{IsIn}
+use Rattle.fileset_read.proofs.m3_model_proofs.MemberLemmas.{IsIn-map, IsIn-append_right}
+use Rattle.fileset_read.specs.m3_outside.Files.{Files}
+use Rattle.fileset_read.specs.m3_outside.declared.file_name.FileName.{FileName}
+use Rattle.fileset_read.specs.commit_log.Contents.{numbers}
+use Rattle.fileset_read.specs.wire_bytes.Volumes.{Part, Info, Summaries, Index, Data, Bloom, Digests, Checkpoint}
+use Rattle.fileset_read.specs.shard_files.Parts.{part_name, counted_volumes, counted_snapshots, IsKnown}
+use Rattle.fileset_read.specs.shard_files.Damage.{Damage, OfForm, Look, AtForm, AtDigest, AtHead, LookFinds, FirstFound, looks, bytes_at, Location, InVolume, InSnapshot, InSegment, LocationFinds, last_of, locations}
+use Rattle.fileset_read.proofs.shard_files_proofs.FirstDamageLemmas.{whole_volume}
+use Rattle.fileset_read.proofs.shard_files_proofs.VolumeSteps.{of_name}
 use Rattle.fileset_check.specs.Told.{LookTells, HeadStops, IsInside, VolumesTell, BreaksHead}
 use Rattle.fileset_check.specs.Laws.{ToldAreUnsound, ToldIsFirst}
 use Rattle.fileset_check.proofs.WholeLemmas.{known_none}
@@ -60,7 +60,7 @@ module _ (ns start number : ℕ) (files : Files) where
     found = tells_finds f.one d other inside f.found;
   }
 
-whole_location : (files : Files) (name : FileName) (k : Rattle.shard_files.specs.Parts.KnownVolume) → IsKnown files name k → (d : Damage) → LocationFinds files (InVolume name) d → ⊥
+whole_location : (files : Files) (name : FileName) (k : Rattle.fileset_read.specs.shard_files.Parts.KnownVolume) → IsKnown files name k → (d : Damage) → LocationFinds files (InVolume name) d → ⊥
 whole_location files name k known d f = let g = subst (λ (q : FileName). LocationFinds files (InVolume q) d) known.named f in whole_volume k.head k.rows files known.holds g.one d g.found
 
 pub told_is_first : ToldIsFirst

@@ -4,12 +4,12 @@ use Rattle.std.proofs.lemmas.List.{drop_more}
 use Rattle.std.proofs.Math.ListN.{drop_of_length-le}
 use Rattle.std.proofs.lemmas.List.Sums.{sum_by-cons}
 use Rattle.std.specs.Cmp.Lexicographic.{nat_list_cmp_total}
-use Rattle.m3_model.specs.Ascends.{Ascends}
-use Rattle.m3_model.specs.Members.{IsIn}
-use Rattle.m3_model.specs.Tags.{IsBelow}
-use Rattle.m3_model.specs.declared.point.Series.{Series}
-use Rattle.wire_bytes.specs.Volumes.{VolumeHead, IsVolume, IsHead, count_of, row_bytes, data_bytes}
-use Rattle.volume_bytes.proofs.RowLemmas.{length_row}
+use Rattle.fileset_read.specs.m3_model.Ascends.{Ascends}
+use Rattle.fileset_read.specs.m3_model.Members.{IsIn}
+use Rattle.fileset_read.specs.m3_model.Tags.{IsBelow}
+use Rattle.fileset_read.specs.m3_model.declared.point.Series.{Series}
+use Rattle.fileset_read.specs.wire_bytes.Volumes.{VolumeHead, IsVolume, IsHead, count_of, row_bytes, data_bytes}
+use Rattle.fileset_read.proofs.volume_bytes_proofs.RowLemmas.{length_row}
 use Rattle.fileset_check.specs.Lawful.{AreTimes, IsRowIn, AreRows}
 
 -- ---- times

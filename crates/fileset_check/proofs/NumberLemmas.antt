@@ -3,13 +3,13 @@ use Rattle.std.proofs.Common.{◌≡◌, ℕ, suc, ◌+◌, ◌-◌, ◌<◌, �
 use Rattle.std.proofs.lemmas.List.{drop_more, take-append-drop, length-take-le, take_at}
 use Rattle.std.proofs.Math.ListN.{drop_of_length-le}
 use Rattle.byteorder.specs.Endian.{big_bytes}
-use Rattle.wire_bytes.specs.Fields.{Stands, Begins, GoesOn, Misfits, IsFault, StopsAt}
-use Rattle.wire_bytes.specs.Numbers.{ANumber}
-use Rattle.wire_bytes.specs.declared.wire_err.WireErr.{WireErr}
-use Rattle.wire_bytes.specs.declared.wire_err.WireErr.TheVariants as errors
-use Rattle.wire_bytes.proofs.FieldLemmas.{front_of, begins_take}
-use Rattle.wire_bytes.proofs.NumberLemmas.{length_number}
-use Rattle.wire_bytes.proofs.PointLemmas.{both_parts}
+use Rattle.fileset_read.specs.wire_bytes.Fields.{Stands, Begins, GoesOn, Misfits, IsFault, StopsAt}
+use Rattle.fileset_read.specs.wire_bytes.Numbers.{ANumber}
+use Rattle.fileset_read.specs.wire_bytes.declared.wire_err.WireErr.{WireErr}
+use Rattle.fileset_read.specs.wire_bytes.declared.wire_err.WireErr.TheVariants as errors
+use Rattle.fileset_read.proofs.wire_bytes_proofs.FieldLemmas.{front_of, begins_take}
+use Rattle.fileset_read.proofs.wire_bytes_proofs.NumberLemmas.{length_number}
+use Rattle.fileset_read.proofs.wire_bytes_proofs.PointLemmas.{both_parts}
 use Rattle.fileset_check.specs.Numbers.{IsField, AreFields, NumberThen, AreNumbers, offset_of}
 use Rattle.fileset_check.specs.declared.numbers.Field.{Field}
 

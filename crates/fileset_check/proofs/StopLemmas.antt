@@ -1,9 +1,9 @@
 -- Where bytes stop to have a form that is another one by another name.
 use Rattle.std.proofs.Common.{◌≡◌, ℕ, List, sym, ap, subst}
-use Rattle.m3_outside.specs.Files.{Files}
-use Rattle.m3_outside.specs.declared.file_name.FileName.{FileName}
-use Rattle.wire_bytes.specs.Fields.{StopsAt}
-use Rattle.shard_files.specs.Damage.{Damage, BreaksForm}
+use Rattle.fileset_read.specs.m3_outside.Files.{Files}
+use Rattle.fileset_read.specs.m3_outside.declared.file_name.FileName.{FileName}
+use Rattle.fileset_read.specs.wire_bytes.Fields.{StopsAt}
+use Rattle.fileset_read.specs.shard_files.Damage.{Damage, BreaksForm}
 
 pub stops_as : (F G : List ℕ → Type 0) (bytes : List ℕ) (at : ℕ) → ((b : List ℕ) → F b → G b) → ((b : List ℕ) → G b → F b) → StopsAt F bytes at → StopsAt G bytes at
 stops_as F G bytes at to from s = record {

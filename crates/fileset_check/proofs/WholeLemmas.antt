@@ -5,20 +5,20 @@ use Rattle.std.specs.FinMap.{get}
 use Rattle.std.proofs.lemmas.List.{drop-drop, drop_more, take_more, take_all, map-append}
 use Rattle.std.proofs.lemmas.Result.{err_from_is_err_and}
 use Rattle.sha2.specs.Sha256.{sha256}
-use Rattle.m3_model.specs.Members.{IsIn}
-use Rattle.m3_model.proofs.MemberLemmas.{IsIn-map}
-use Rattle.m3_model.proofs.Lists.{IsIn-get_or}
-use Rattle.m3_model.specs.declared.point.Series.{Series}
-use Rattle.m3_outside.specs.Files.{Files}
-use Rattle.m3_outside.specs.declared.file_name.FileName.{FileName}
-use Rattle.wire_bytes.specs.Volumes.{VolumeHead, IsVolume, Part, Info, Summaries, Index, Data, Bloom, Digests, Checkpoint, part_bytes, data_bytes, digests_bytes, count_of}
-use Rattle.shard_files.specs.Parts.{part_name, part_of, kind_of, VolumeHolds, KnownVolume, IsKnown, AreKnown, counted_volumes, is_volume_checkpoint}
-use Rattle.shard_files.specs.Damage.{Damage, Look, AtForm, AtDigest, AtHead, IsInfo, bytes_at}
-use Rattle.shard_files.proofs.CountedLemmas.{counted_asked}
-use Rattle.shard_files.proofs.PartLemmas.{volume_kind}
-use Rattle.shard_files.proofs.FirstDamageLemmas.{whole_volume}
-use Rattle.shard_files.proofs.VolumeSteps.{of_known}
-use Rattle.volume_bytes.specs.Heads.{head_of}
+use Rattle.fileset_read.specs.m3_model.Members.{IsIn}
+use Rattle.fileset_read.proofs.m3_model_proofs.MemberLemmas.{IsIn-map}
+use Rattle.fileset_read.proofs.m3_model_proofs.Lists.{IsIn-get_or}
+use Rattle.fileset_read.specs.m3_model.declared.point.Series.{Series}
+use Rattle.fileset_read.specs.m3_outside.Files.{Files}
+use Rattle.fileset_read.specs.m3_outside.declared.file_name.FileName.{FileName}
+use Rattle.fileset_read.specs.wire_bytes.Volumes.{VolumeHead, IsVolume, Part, Info, Summaries, Index, Data, Bloom, Digests, Checkpoint, part_bytes, data_bytes, digests_bytes, count_of}
+use Rattle.fileset_read.specs.shard_files.Parts.{part_name, part_of, kind_of, VolumeHolds, KnownVolume, IsKnown, AreKnown, counted_volumes, is_volume_checkpoint}
+use Rattle.fileset_read.specs.shard_files.Damage.{Damage, Look, AtForm, AtDigest, AtHead, IsInfo, bytes_at}
+use Rattle.fileset_read.proofs.shard_files_proofs.CountedLemmas.{counted_asked}
+use Rattle.fileset_read.proofs.shard_files_proofs.PartLemmas.{volume_kind}
+use Rattle.fileset_read.proofs.shard_files_proofs.FirstDamageLemmas.{whole_volume}
+use Rattle.fileset_read.proofs.shard_files_proofs.VolumeSteps.{of_known}
+use Rattle.fileset_read.specs.volume_bytes.Heads.{head_of}
 use Rattle.fileset_read.specs.Volumes.{IsThere}
 use Rattle.fileset_check.specs.PartFiles.{AreParts, AreSealed, AreDerived, Keeps, bytes_in, part_in, file_of}
 use Rattle.fileset_check.specs.Told.{LookTells, VolumeTells, VolumesTell, HeadStops}

@@ -1,9 +1,9 @@
 -- Series that a volume may have, told one after another.
 use Rattle.std.specs.Prelude.{⊤, ℕ, ℤ, ◌+◌, ◌*◌, ◌<◌, ◌≤◌, ◌^◌, List, [], ◌∷◌, length, IsUtf8, FitsSigned}
 use Rattle.std.specs.Int.{w64}
-use Rattle.m3_model.specs.Tags.{IsBelow}
-use Rattle.m3_model.specs.declared.limits.TheConstants.{MOST_ID_BYTES}
-use Rattle.m3_model.specs.declared.point.Series.{Series}
+use Rattle.fileset_read.specs.m3_model.Tags.{IsBelow}
+use Rattle.fileset_read.specs.m3_model.declared.limits.TheConstants.{MOST_ID_BYTES}
+use Rattle.fileset_read.specs.m3_model.declared.point.Series.{Series}
 
 -- the times ascend, from this one on and below the end, and the values fit their field
 abbrev pub AreTimes : ℕ → ℕ → List (ℕ × ℤ) → Type 0

@@ -1,9 +1,9 @@
 -- What is told of volumes is damage of the files.
 use Rattle.std.specs.Prelude.{◌≡◌, ℕ, List}
-use Rattle.m3_outside.specs.Files.{Files}
-use Rattle.wire_bytes.specs.Volumes.{Data}
-use Rattle.shard_files.specs.Parts.{KnownVolume, VolumesAre}
-use Rattle.shard_files.specs.Damage.{Damage, AtForm, FirstDamage}
+use Rattle.fileset_read.specs.m3_outside.Files.{Files}
+use Rattle.fileset_read.specs.wire_bytes.Volumes.{Data}
+use Rattle.fileset_read.specs.shard_files.Parts.{KnownVolume, VolumesAre}
+use Rattle.fileset_read.specs.shard_files.Damage.{Damage, AtForm, FirstDamage}
 use Rattle.fileset_check.specs.Told.{IsInside, VolumesTell}
 
 -- where something is told, the volumes that count aren't all whole

@@ -1,9 +1,9 @@
 -- Numbers that stand one after another, each within its bounds.
 use Rattle.std.specs.Prelude.{◌≡◌, ⊤, ℕ, ◌-◌, ◌≤◌, ◌<◌, ◌^◌, List, [], ◌∷◌, ◌++◌}
-use Rattle.m3_model.specs.declared.limits.TheConstants.{DURATION_END}
-use Rattle.wire_bytes.specs.Numbers.{ANumber}
-use Rattle.wire_bytes.specs.declared.wire_err.WireErr.{WireErr}
-use Rattle.wire_bytes.specs.declared.wire_err.WireErr.TheVariants as errors
+use Rattle.fileset_read.specs.m3_model.declared.limits.TheConstants.{DURATION_END}
+use Rattle.fileset_read.specs.wire_bytes.Numbers.{ANumber}
+use Rattle.fileset_read.specs.wire_bytes.declared.wire_err.WireErr.{WireErr}
+use Rattle.fileset_read.specs.wire_bytes.declared.wire_err.WireErr.TheVariants as errors
 use Rattle.fileset_check.specs.declared.numbers.Field.{Field}
 
 -- some number has these bounds, and each that has them fits its bytes

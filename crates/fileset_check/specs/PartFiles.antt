@@ -2,14 +2,14 @@
 use Rattle.std.specs.Prelude.{◌≡◌, ⊤, ℕ, ◌-◌, ◌≤◌, List, [], ◌∷◌, length, take, drop, get_or, unwrap_or, Option, Some, None}
 use Rattle.std.specs.FinMap.{get}
 use Rattle.sha2.specs.Sha256.{sha256}
-use Rattle.m3_model.specs.declared.point.Series.{Series}
-use Rattle.m3_outside.specs.Files.{Files}
-use Rattle.m3_outside.specs.declared.file_name.FileName.{FileName}
-use Rattle.wire_bytes.specs.Volumes.{VolumeHead, IsVolume, Part, Info, Summaries, Index, Bloom, data_bytes, part_bytes}
-use Rattle.shard_files.specs.Damage.{IsInfo}
-use Rattle.volume_bytes.specs.Heads.{head_of}
-use Rattle.volume_bytes.specs.Tables.{AreTables}
-use Rattle.volume_bytes.specs.declared.heads.Head.{Head}
+use Rattle.fileset_read.specs.m3_model.declared.point.Series.{Series}
+use Rattle.fileset_read.specs.m3_outside.Files.{Files}
+use Rattle.fileset_read.specs.m3_outside.declared.file_name.FileName.{FileName}
+use Rattle.fileset_read.specs.wire_bytes.Volumes.{VolumeHead, IsVolume, Part, Info, Summaries, Index, Bloom, data_bytes, part_bytes}
+use Rattle.fileset_read.specs.shard_files.Damage.{IsInfo}
+use Rattle.fileset_read.specs.volume_bytes.Heads.{head_of}
+use Rattle.fileset_read.specs.volume_bytes.Tables.{AreTables}
+use Rattle.fileset_read.specs.volume_bytes.declared.heads.Head.{Head}
 use Rattle.fileset_read.specs.declared.row_err.RowErr.{RowErr}
 use Rattle.fileset_read.specs.declared.row_err.RowErr.TheVariants as errors
 use Rattle.fileset_check.specs.declared.body.Body.{Body}

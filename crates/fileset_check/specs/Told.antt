@@ -1,14 +1,14 @@
 -- What is told of a volume that isn't whole.
 use Rattle.std.specs.Prelude.{◌≡◌, ◌⊎◌, ⊤, ℕ, ◌<◌, List, [], ◌∷◌, ◌++◌}
-use Rattle.m3_model.specs.declared.limits.TheConstants.{MOST_NAMESPACES, NUMBER_END, TIME_END}
-use Rattle.m3_outside.specs.Files.{Files}
-use Rattle.m3_outside.specs.declared.disk_err.DiskErr.{DiskErr}
-use Rattle.m3_outside.specs.declared.disk_err.DiskErr.TheVariants as disk
-use Rattle.m3_outside.specs.declared.file_name.FileName.{FileName}
-use Rattle.wire_bytes.specs.Fields.{StopsAt}
-use Rattle.wire_bytes.specs.Volumes.{Part, Info, Summaries, Index, Data, Bloom, Digests, Checkpoint}
-use Rattle.shard_files.specs.Parts.{part_name, counted_volumes, KnownVolume, AreKnown}
-use Rattle.shard_files.specs.Damage.{Damage, OfForm, OfDigest, Look, AtForm, AtDigest, AtHead, looks, FirstFound, FormOf, IsSomeInfo, LookFinds, bytes_at}
+use Rattle.fileset_read.specs.m3_model.declared.limits.TheConstants.{MOST_NAMESPACES, NUMBER_END, TIME_END}
+use Rattle.fileset_read.specs.m3_outside.Files.{Files}
+use Rattle.fileset_read.specs.m3_outside.declared.disk_err.DiskErr.{DiskErr}
+use Rattle.fileset_read.specs.m3_outside.declared.disk_err.DiskErr.TheVariants as disk
+use Rattle.fileset_read.specs.m3_outside.declared.file_name.FileName.{FileName}
+use Rattle.fileset_read.specs.wire_bytes.Fields.{StopsAt}
+use Rattle.fileset_read.specs.wire_bytes.Volumes.{Part, Info, Summaries, Index, Data, Bloom, Digests, Checkpoint}
+use Rattle.fileset_read.specs.shard_files.Parts.{part_name, counted_volumes, KnownVolume, AreKnown}
+use Rattle.fileset_read.specs.shard_files.Damage.{Damage, OfForm, OfDigest, Look, AtForm, AtDigest, AtHead, looks, FirstFound, FormOf, IsSomeInfo, LookFinds, bytes_at}
 use Rattle.fileset_check.specs.declared.check_err.CheckErr.{CheckErr}
 use Rattle.fileset_check.specs.declared.check_err.CheckErr.TheVariants as failures
 use Rattle.fileset_check.specs.declared.part_err.PartErr.{PartErr}

@@ -1,9 +1,9 @@
 -- Volumes that are there whole, as they are listed.
 use Rattle.std.specs.Prelude.{◌≡◌, List, map, length}
-use Rattle.m3_outside.specs.Files.{Files}
-use Rattle.m3_outside.specs.declared.file_name.FileName.{FileName}
-use Rattle.wire_bytes.specs.Volumes.{count_of}
-use Rattle.shard_files.specs.Parts.{KnownVolume, AreKnown, IsKnown, counted_volumes}
+use Rattle.fileset_read.specs.m3_outside.Files.{Files}
+use Rattle.fileset_read.specs.m3_outside.declared.file_name.FileName.{FileName}
+use Rattle.fileset_read.specs.wire_bytes.Volumes.{count_of}
+use Rattle.fileset_read.specs.shard_files.Parts.{KnownVolume, AreKnown, IsKnown, counted_volumes}
 use Rattle.fileset_check.specs.declared.volume.Volume.{Volume}
 
 -- which volume it is, with the numbers of its series and points

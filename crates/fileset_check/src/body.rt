@@ -1,12 +1,12 @@
 ghost use Rattle.std.specs.Prelude.{IfOk, IfErr};
-ghost use Rattle.volume_bytes.specs.Heads.{head_of};
+ghost use Rattle.fileset_read.specs.volume_bytes.Heads.{head_of};
 ghost use Rattle.fileset_check.specs.PartFiles.{IsBody, MayBeNoData};
 
 use crate::lawful::is_volume;
+use fileset_read::m3_model::{Seq, Series};
+use fileset_read::volume_bytes::{Head, Tables, tables_of};
 use fileset_read::{RowErr, rows_in};
-use m3_model::{Seq, Series};
 use std::alloc::Global;
-use volume_bytes::{Head, Tables, tables_of};
 
 /// The series of a volume, and the bytes that they give.
 #[derive(Drop)]

@@ -1,15 +1,15 @@
 ghost use Rattle.std.specs.Prelude.{◌≡◌, ◌+◌, ◌≤◌, ◌∷◌, length, take, drop, IfOk, IfErr, OnOk, Some};
-ghost use Rattle.m3_outside.specs.Files.{Files};
-ghost use Rattle.shard_files.specs.Damage.{BreaksDigest, BreaksForm, IsGate};
+ghost use Rattle.fileset_read.specs.m3_outside.Files.{Files};
+ghost use Rattle.fileset_read.specs.shard_files.Damage.{BreaksDigest, BreaksForm, IsGate};
 ghost use Rattle.fileset_check.specs.PartFiles.{AreDigests, AreParts, AreSealed, Keeps, bytes_in, file_of, part_in};
 ghost use Rattle.fileset_check.specs.Told.{FirstTells, Says, at_digests, at_gates};
 
 use crate::gate::gate_stop;
 use crate::part_err::PartErr;
 use crate::parts::{bytes_in, file_of, is_there};
-use m3_model::Seq;
-use m3_outside::FileName;
-use wire_bytes::digest;
+use fileset_read::m3_model::Seq;
+use fileset_read::m3_outside::FileName;
+use fileset_read::wire_bytes::digest;
 
 // How many bytes a digest has, and how many the digests of five files.
 const DIGEST_BYTES: usize = 32;

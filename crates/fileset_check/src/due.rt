@@ -1,8 +1,8 @@
 ghost use Rattle.std.specs.Prelude.{◌≡◌, ◌≤◌, length, IfErr, OnOk};
-ghost use Rattle.m3_outside.specs.Files.{Files};
-ghost use Rattle.wire_bytes.specs.Volumes.{Bloom, Info, part_bytes};
-ghost use Rattle.shard_files.specs.Damage.{BreaksForm};
-ghost use Rattle.volume_bytes.specs.Heads.{head_of};
+ghost use Rattle.fileset_read.specs.m3_outside.Files.{Files};
+ghost use Rattle.fileset_read.specs.wire_bytes.Volumes.{Bloom, Info, part_bytes};
+ghost use Rattle.fileset_read.specs.shard_files.Damage.{BreaksForm};
+ghost use Rattle.fileset_read.specs.volume_bytes.Heads.{head_of};
 ghost use Rattle.fileset_check.specs.PartFiles.{AreDerived, AreParts, HasHead, IsBody, Spells, bytes_in, file_of};
 ghost use Rattle.fileset_check.specs.Told.{FirstTells, Says, at_derived};
 
@@ -10,10 +10,10 @@ use crate::body::Body;
 use crate::gate::first_difference;
 use crate::part_err::PartErr;
 use crate::parts::{bytes_in, file_of};
-use m3_model::Seq;
-use m3_outside::FileName;
+use fileset_read::m3_model::Seq;
+use fileset_read::m3_outside::FileName;
+use fileset_read::volume_bytes::{Head, bloom_filter, info};
 use std::alloc::Global;
-use volume_bytes::{Head, bloom_filter, info};
 
 // Tells where the file of this kind has other bytes than are due.
 fn check_due(of: FileName, parts: &[Option<Seq<u8>>], kind: u8, due: &[u8]) -> Result<(), PartErr>

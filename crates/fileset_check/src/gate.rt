@@ -1,6 +1,6 @@
 ghost use Rattle.std.specs.Prelude.{IfNone, IfSome};
-ghost use Rattle.wire_bytes.specs.Fields.{StopsAt};
-ghost use Rattle.shard_files.specs.Damage.{IsGate};
+ghost use Rattle.fileset_read.specs.wire_bytes.Fields.{StopsAt};
+ghost use Rattle.fileset_read.specs.shard_files.Damage.{IsGate};
 ghost use Rattle.fileset_check.specs.PartFiles.{Spells};
 
 // An open gate.

@@ -1,15 +1,15 @@
 ghost use Rattle.std.specs.Prelude.{◌≡◌, ◌↔◌, IfOk, IfErr, IfNone, IfSome, IsTrue};
-ghost use Rattle.wire_bytes.specs.Fields.{StopsAt};
-ghost use Rattle.shard_files.specs.Damage.{IsSomeInfo};
+ghost use Rattle.fileset_read.specs.wire_bytes.Fields.{StopsAt};
+ghost use Rattle.fileset_read.specs.shard_files.Damage.{IsSomeInfo};
 ghost use Rattle.fileset_check.specs.Numbers.{info_fields};
 ghost use Rattle.fileset_check.specs.PartFiles.{HasHead};
 ghost use Rattle.fileset_check.specs.Told.{HeadStops, IsInside};
 
 use crate::numbers::{Field, field_of, number_stop};
-use m3_model::limits::{DURATION_END, MOST_NAMESPACES, NUMBER_END, TIME_END};
-use m3_outside::FileName;
-use volume_bytes::Head;
-use wire_bytes::get_number;
+use fileset_read::m3_model::limits::{DURATION_END, MOST_NAMESPACES, NUMBER_END, TIME_END};
+use fileset_read::m3_outside::FileName;
+use fileset_read::volume_bytes::Head;
+use fileset_read::wire_bytes::get_number;
 
 // The format of the volumes that are read.
 const FORMAT: u64 = 1;

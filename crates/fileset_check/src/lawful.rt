@@ -1,12 +1,14 @@
 ghost use Rattle.std.specs.Prelude.{◌↔◌, ◌≤◌, ◌^◌, [], IsTrue};
-ghost use Rattle.wire_bytes.specs.Volumes.{IsHead, IsVolume};
-ghost use Rattle.volume_bytes.specs.Heads.{head_of};
+ghost use Rattle.fileset_read.specs.wire_bytes.Volumes.{IsHead, IsVolume};
+ghost use Rattle.fileset_read.specs.volume_bytes.Heads.{head_of};
 ghost use Rattle.fileset_check.specs.Lawful.{AreRows, AreTimes, IsRowIn};
 
-use m3_model::Series;
-use m3_model::limits::{DURATION_END, MOST_ID_BYTES, MOST_NAMESPACES, NUMBER_END, TIME_END};
+use fileset_read::m3_model::Series;
+use fileset_read::m3_model::limits::{
+    DURATION_END, MOST_ID_BYTES, MOST_NAMESPACES, NUMBER_END, TIME_END,
+};
+use fileset_read::volume_bytes::Head;
 use std::cmp::Ordering;
-use volume_bytes::Head;
 
 // Above all numbers of series that a volume may have, and of points that one of these may have.
 const COUNT_END: usize = 1 << 28;

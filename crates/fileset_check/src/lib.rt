@@ -20,3 +20,7 @@ pub use check_err::CheckErr;
 pub use lawful::is_volume;
 pub use listing::volumes;
 pub use volume::{Volume, check_volume};
+
+// Libraries that the rows of crates above need not name.
+pub use fileset_read;
+pub use fileset_read::{commit_log, m3_model, m3_outside, shard_files, volume_bytes, wire_bytes};

@@ -1,10 +1,10 @@
 ghost use Rattle.std.specs.Prelude.{◌≡◌, [], true, IfOk, IfErr, OnOk, IsErrOf};
-ghost use Rattle.m3_model.specs.Members.{IsIn};
-ghost use Rattle.m3_outside.specs.Causes.{CountsFaults};
-ghost use Rattle.m3_outside.specs.DiskState.{DiskState, Told};
-ghost use Rattle.m3_outside.specs.DiskCalls.{LeavesFiles};
-ghost use Rattle.shard_files.specs.Parts.{counted_volumes};
-ghost use Rattle.volume_bytes.specs.Heads.{head_of};
+ghost use Rattle.fileset_read.specs.m3_model.Members.{IsIn};
+ghost use Rattle.fileset_read.specs.m3_outside.Causes.{CountsFaults};
+ghost use Rattle.fileset_read.specs.m3_outside.DiskState.{DiskState, Told};
+ghost use Rattle.fileset_read.specs.m3_outside.DiskCalls.{LeavesFiles};
+ghost use Rattle.fileset_read.specs.shard_files.Parts.{counted_volumes};
+ghost use Rattle.fileset_read.specs.volume_bytes.Heads.{head_of};
 ghost use Rattle.fileset_read.specs.Volumes.{IsThere};
 ghost use Rattle.fileset_check.specs.Told.{MayTell, VolumesTell};
 ghost use Rattle.fileset_check.specs.Whole.{AreVolumes};
@@ -14,8 +14,8 @@ ghost use Rattle.fileset_check.specs.declared.check_err.CheckErr.TheVariants as 
 use crate::check_err::CheckErr;
 use crate::volume::{Volume, check_volume};
 use fileset_read::counted;
-use m3_model::Seq;
-use m3_outside::{Disk, FileName};
+use fileset_read::m3_model::Seq;
+use fileset_read::m3_outside::{Disk, FileName};
 use std::alloc::Global;
 
 // Appends the volumes of these checkpoints.

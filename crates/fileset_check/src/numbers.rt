@@ -1,8 +1,8 @@
 ghost use Rattle.std.specs.Prelude.{◌≡◌, IfNone, IfSome};
-ghost use Rattle.wire_bytes.specs.Fields.{StopsAt};
+ghost use Rattle.fileset_read.specs.wire_bytes.Fields.{StopsAt};
 ghost use Rattle.fileset_check.specs.Numbers.{AreFields, AreNumbers, offset_of};
 
-use wire_bytes::{WireErr, get_between};
+use fileset_read::wire_bytes::{WireErr, get_between};
 
 /// A number from `low` to `high` in `width` bytes, the highest first.
 #[derive(Clone, Copy)]

@@ -1,12 +1,12 @@
 ghost use Rattle.std.specs.Prelude.{◌≡◌, ◌≤◌, true, IfOk, IsErrOf, length, is_some};
-ghost use Rattle.m3_outside.specs.DiskState.{DiskState};
-ghost use Rattle.m3_outside.specs.DiskCalls.{LeavesFiles};
-ghost use Rattle.m3_outside.specs.declared.disk_err.DiskErr.TheVariants.{Failed as DiskFailed};
+ghost use Rattle.fileset_read.specs.m3_outside.DiskState.{DiskState};
+ghost use Rattle.fileset_read.specs.m3_outside.DiskCalls.{LeavesFiles};
+ghost use Rattle.fileset_read.specs.m3_outside.declared.disk_err.DiskErr.TheVariants.{Failed as DiskFailed};
 ghost use Rattle.fileset_check.specs.PartFiles.{AreParts, bytes_in, file_of, part_in};
 
+use fileset_read::m3_model::Seq;
+use fileset_read::m3_outside::{Disk, DiskErr, FileName};
 use fileset_read::read_file;
-use m3_model::Seq;
-use m3_outside::{Disk, DiskErr, FileName};
 use std::alloc::Global;
 
 /// The name of the file of this kind of the volume of which this is a file.

@@ -1,9 +1,9 @@
 ghost use Rattle.std.specs.Prelude.{◌≡◌, true, length, IfOk, IfErr, IsErrOf};
-ghost use Rattle.m3_outside.specs.Causes.{CountsFaults};
-ghost use Rattle.m3_outside.specs.Files.{Files};
-ghost use Rattle.m3_outside.specs.DiskState.{DiskState};
-ghost use Rattle.m3_outside.specs.DiskCalls.{LeavesFiles};
-ghost use Rattle.volume_bytes.specs.Heads.{head_of};
+ghost use Rattle.fileset_read.specs.m3_outside.Causes.{CountsFaults};
+ghost use Rattle.fileset_read.specs.m3_outside.Files.{Files};
+ghost use Rattle.fileset_read.specs.m3_outside.DiskState.{DiskState};
+ghost use Rattle.fileset_read.specs.m3_outside.DiskCalls.{LeavesFiles};
+ghost use Rattle.fileset_read.specs.volume_bytes.Heads.{head_of};
 ghost use Rattle.fileset_check.specs.PartFiles.{AreParts, HasHead, IsBody, bytes_in, file_of};
 ghost use Rattle.fileset_check.specs.Told.{BreaksHead, IsUnfit, MayTell, Says, VolumeTells};
 ghost use Rattle.fileset_check.specs.Whole.{IsListed};
@@ -17,10 +17,10 @@ use crate::head::read_head;
 use crate::part_err::PartErr;
 use crate::parts::{bytes_in, file_of, read_parts};
 use fileset_read::RowErr;
-use m3_model::Seq;
-use m3_outside::{Disk, FileName};
+use fileset_read::m3_model::Seq;
+use fileset_read::m3_outside::{Disk, FileName};
+use fileset_read::volume_bytes::Head;
 use std::alloc::Global;
-use volume_bytes::Head;
 
 /// A volume that counts and is there whole: which one it is, and how many series and points it has.
 #[derive(Clone, Copy, Debug, PartialEq, Eq)]

@@ -5,10 +5,10 @@ use Rattle.std.specs.FinMap.{nat_cmp-IsAntisymmetric, slice_cmp-IsAntisymmetric}
 use Rattle.std.specs.Cmp.Lexicographic.{slice_cmp, nat_list_cmp_total}
 use Rattle.std.specs.declared.cmp.Ordering.{Ordering}
 use Rattle.std.specs.declared.cmp.Ordering.TheVariants.{Less, Equal, Greater}
-use Rattle.m3_model.specs.Ascends.{Ascends}
-use Rattle.m3_model.specs.Members.{IsIn}
-use Rattle.m3_model.specs.Tags.{IsBelow}
-use Rattle.m3_model.specs.declared.point.Series.{Series}
+use Rattle.wire_bytes.specs.m3_model.Ascends.{Ascends}
+use Rattle.wire_bytes.specs.m3_model.Members.{IsIn}
+use Rattle.wire_bytes.specs.m3_model.Tags.{IsBelow}
+use Rattle.wire_bytes.specs.m3_model.declared.point.Series.{Series}
 
 pub same_text : (a b : List ℕ) → slice_cmp nat_cmp a b ≡ Equal → a ≡ b
 same_text a b e = slice_cmp-IsAntisymmetric nat_cmp-IsAntisymmetric a b e

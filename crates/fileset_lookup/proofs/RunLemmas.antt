@@ -2,11 +2,11 @@
 use Rattle.std.proofs.Common.{◌≡◌, inl, ℕ, suc, ◌+◌, ◌%◌, ◌<◌, ◌≤◌, ◌^◌, List, [], ◌∷◌, ◌++◌, length, take, drop, Option, Some, None, refl, sym, ap, subst, ◌∙◌, arith, append_assoc, length-append, length-drop}
 use Rattle.std.proofs.lemmas.List.{length-take, take-append-drop}
 use Rattle.byteorder.specs.Endian.{big_bytes}
-use Rattle.m3_model.specs.Ascends.{Ascends}
-use Rattle.m3_model.specs.Members.{IsIn}
-use Rattle.m3_model.specs.Tags.{IsBelow}
-use Rattle.m3_model.specs.declared.point.Series.{Series}
-use Rattle.m3_model.proofs.MemberLemmas.{IsIn-append_right}
+use Rattle.wire_bytes.specs.m3_model.Ascends.{Ascends}
+use Rattle.wire_bytes.specs.m3_model.Members.{IsIn}
+use Rattle.wire_bytes.specs.m3_model.Tags.{IsBelow}
+use Rattle.wire_bytes.specs.m3_model.declared.point.Series.{Series}
+use Rattle.wire_bytes.proofs.m3_model_proofs.MemberLemmas.{IsIn-append_right}
 use Rattle.wire_bytes.specs.Volumes.{VolumeHead, IsVolume, id_bytes, index_entry, summaries_from}
 use Rattle.fileset_lookup.specs.Runs.{Run, AreAbove, offset_of, piece_from, FindsPiece}
 use Rattle.fileset_lookup.proofs.OrderLemmas.{Before, below_reached, ascends_before, above_from}

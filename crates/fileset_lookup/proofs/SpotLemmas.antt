@@ -2,11 +2,11 @@
 use Rattle.std.proofs.Common.{◌≡◌, ◌⊎◌, inl, inr, ℕ, ◌+◌, ◌<◌, ◌^◌, List, [], ◌∷◌, ◌++◌, length, refl, sym, ap, subst, ◌∙◌, arith, append_assoc, append-nil, length-append}
 use Rattle.std.proofs.lemmas.List.Concat.{flat_map-append}
 use Rattle.byteorder.specs.Endian.{big_bytes}
-use Rattle.m3_model.specs.Ascends.{Ascends}
-use Rattle.m3_model.specs.Members.{IsIn}
-use Rattle.m3_model.specs.Tags.{IsBelow}
-use Rattle.m3_model.specs.declared.point.Series.{Series}
-use Rattle.m3_model.proofs.MemberLemmas.{IsIn-append_left, IsIn-append_right, IsIn-append_cases}
+use Rattle.wire_bytes.specs.m3_model.Ascends.{Ascends}
+use Rattle.wire_bytes.specs.m3_model.Members.{IsIn}
+use Rattle.wire_bytes.specs.m3_model.Tags.{IsBelow}
+use Rattle.wire_bytes.specs.m3_model.declared.point.Series.{Series}
+use Rattle.wire_bytes.proofs.m3_model_proofs.MemberLemmas.{IsIn-append_left, IsIn-append_right, IsIn-append_cases}
 use Rattle.wire_bytes.specs.Volumes.{VolumeHead, IsVolume, id_bytes, row_bytes, data_bytes, index_entry, index_from}
 use Rattle.volume_bytes.proofs.RowLemmas.{length_row}
 use Rattle.fileset_lookup.specs.Spots.{IsSpot}

@@ -1,8 +1,8 @@
 -- What summaries tell of an identifier: the rows among which its series is, if it is there.
 use Rattle.std.specs.Prelude.{◌≡◌, ℕ, ◌%◌, ◌≤◌, List, [], ◌∷◌, ◌++◌, length, Option, Some, None, Result, Ok, Err}
-use Rattle.m3_model.specs.Members.{IsIn}
-use Rattle.m3_model.specs.Tags.{IsBelow}
-use Rattle.m3_model.specs.declared.point.Series.{Series}
+use Rattle.wire_bytes.specs.m3_model.Members.{IsIn}
+use Rattle.wire_bytes.specs.m3_model.Tags.{IsBelow}
+use Rattle.wire_bytes.specs.m3_model.declared.point.Series.{Series}
 use Rattle.wire_bytes.specs.Volumes.{index_bytes}
 use Rattle.wire_bytes.specs.declared.wire_err.WireErr.{WireErr}
 use Rattle.fileset_lookup.specs.declared.summaries.Piece.{Piece}

@@ -1,7 +1,7 @@
 -- Where the series of an identifier stands in the data of a volume, as its entry in the index tells.
 use Rattle.std.specs.Prelude.{◌≡◌, ℕ, List, ◌∷◌, ◌++◌, length, Option, Some, None}
-use Rattle.m3_model.specs.Members.{IsIn}
-use Rattle.m3_model.specs.declared.point.Series.{Series}
+use Rattle.wire_bytes.specs.m3_model.Members.{IsIn}
+use Rattle.wire_bytes.specs.m3_model.declared.point.Series.{Series}
 use Rattle.wire_bytes.specs.Volumes.{row_bytes, data_bytes}
 use Rattle.fileset_lookup.specs.declared.entries.Spot.{Spot}
 

@@ -1,8 +1,8 @@
 ghost use Rattle.std.specs.Prelude.{◌≡◌, true, ℕ, ◌-◌, ◌*◌, ◌%◌, ◌/◌, ◌<◌, ◌≤◌, ◌^◌, List, length, drop};
 ghost use Rattle.std.specs.List.{list_all};
 ghost use Rattle.byteorder.specs.Endian.{big_number};
-ghost use Rattle.m3_model.specs.Members.{IsIn};
-ghost use Rattle.m3_model.specs.declared.point.Series.{Series as Row};
+ghost use Rattle.wire_bytes.specs.m3_model.Members.{IsIn};
+ghost use Rattle.wire_bytes.specs.m3_model.declared.point.Series.{Series as Row};
 ghost use Rattle.wire_bytes.specs.Volumes.{bits_of, bloom_bytes, is_set};
 ghost use Rattle.fileset_lookup.specs.Bits.{bit_in, is_filter, may_hold};
 

@@ -1,6 +1,6 @@
 ghost use Rattle.std.specs.Prelude.{◌≡◌, ◌<◌, ◌^◌, ◌++◌, List, ℕ, length, IfOk};
 ghost use Rattle.byteorder.specs.Endian.{big_bytes};
-ghost use Rattle.m3_model.specs.declared.point.Series.{Series as Row};
+ghost use Rattle.wire_bytes.specs.m3_model.declared.point.Series.{Series as Row};
 ghost use Rattle.wire_bytes.specs.Volumes.{VolumeHead, IsVolume, id_bytes, summaries_bytes};
 ghost use Rattle.fileset_lookup.specs.Runs.{Gives, FindsPiece, FindsStart, piece_from};
 

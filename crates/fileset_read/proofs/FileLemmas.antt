@@ -3,10 +3,10 @@ use Rattle.std.proofs.Common.{◌≡◌, ℕ, List, length, take, refl, sym, ap,
 use Rattle.std.specs.Prelude.{option_map}
 use Rattle.std.specs.FinMap.{get}
 use Rattle.std.proofs.Math.Seq.{take-length}
-use Rattle.m3_model.specs.declared.point.Series.{Series}
-use Rattle.m3_outside.specs.Files.{Files}
-use Rattle.m3_outside.specs.declared.file_name.FileName.{FileName}
-use Rattle.wire_bytes.specs.Volumes.{VolumeHead, IsVolume, Data, data_bytes}
+use Rattle.shard_files.specs.m3_model.declared.point.Series.{Series}
+use Rattle.shard_files.specs.m3_outside.Files.{Files}
+use Rattle.shard_files.specs.m3_outside.declared.file_name.FileName.{FileName}
+use Rattle.shard_files.specs.wire_bytes.Volumes.{VolumeHead, IsVolume, Data, data_bytes}
 use Rattle.shard_files.specs.Parts.{VolumeHolds, part_of}
 use Rattle.fileset_read.specs.Rows.{AreSpelled, Gives}
 use Rattle.fileset_read.specs.Volumes.{in_file, IsUndamaged}

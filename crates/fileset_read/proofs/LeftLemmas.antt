@@ -4,12 +4,12 @@ use Rattle.std.proofs.Math.Facts.{Fits-of_z}
 use Rattle.std.proofs.Math.ListN.{drop_of_length-le}
 use Rattle.std.specs.Int.{cast_unsigned}
 use Rattle.byteorder.specs.Endian.{big_bytes}
-use Rattle.m3_model.specs.Members.{IsIn}
-use Rattle.m3_model.proofs.MemberLemmas.{IsIn-append_right}
-use Rattle.m3_model.specs.declared.point.Series.{Series}
-use Rattle.wire_bytes.specs.Fields.{Stands}
-use Rattle.wire_bytes.specs.Volumes.{pair_bytes, row_bytes, data_bytes}
-use Rattle.wire_bytes.proofs.PointLemmas.{word_fits}
+use Rattle.shard_files.specs.m3_model.Members.{IsIn}
+use Rattle.shard_files.proofs.m3_model_proofs.MemberLemmas.{IsIn-append_right}
+use Rattle.shard_files.specs.m3_model.declared.point.Series.{Series}
+use Rattle.shard_files.specs.wire_bytes.Fields.{Stands}
+use Rattle.shard_files.specs.wire_bytes.Volumes.{pair_bytes, row_bytes, data_bytes}
+use Rattle.shard_files.proofs.wire_bytes_proofs.PointLemmas.{word_fits}
 use Rattle.volume_bytes.proofs.RowLemmas.{length_row}
 use Rattle.std.proofs.lemmas.Result.{err_from_is_err_and}
 use Rattle.fileset_read.specs.Rows.{ArePairs, IsSpelled, AreSpelled, Gives, RowStands}

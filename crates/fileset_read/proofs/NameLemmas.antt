@@ -3,12 +3,12 @@ use Rattle.std.proofs.Common.{◌≡◌, inl, inr, ℕ, ◌+◌, ◌<◌, List, 
 use Rattle.std.specs.Prelude.{filter, option_map, IsErr}
 use Rattle.std.specs.FinMap.{get, keys, entries}
 use Rattle.std.proofs.lemmas.List.Elements.{filter_more}
-use Rattle.m3_model.specs.Members.{IsIn}
-use Rattle.m3_model.proofs.FindLemmas.{IsIn-get}
-use Rattle.m3_outside.specs.declared.failed.Failed.{Failed}
-use Rattle.m3_outside.specs.declared.file_name.FileName.{FileName}
-use Rattle.m3_outside.specs.Files.{Files, name_cmp}
-use Rattle.m3_outside.proofs.Names.{name_total, name_same}
+use Rattle.shard_files.specs.m3_model.Members.{IsIn}
+use Rattle.shard_files.proofs.m3_model_proofs.FindLemmas.{IsIn-get}
+use Rattle.shard_files.specs.m3_outside.declared.failed.Failed.{Failed}
+use Rattle.shard_files.specs.m3_outside.declared.file_name.FileName.{FileName}
+use Rattle.shard_files.specs.m3_outside.Files.{Files, name_cmp}
+use Rattle.shard_files.proofs.m3_outside_proofs.Names.{name_total, name_same}
 use Rattle.shard_files.specs.Parts.{is_open, counts, is_volume_checkpoint, counted_volumes}
 use Rattle.fileset_read.specs.Volumes.{is_counted}
 

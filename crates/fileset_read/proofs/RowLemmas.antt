@@ -2,10 +2,10 @@
 use Rattle.std.proofs.Common.{◌≡◌, ℕ, ◌+◌, ◌*◌, ◌-◌, ◌≤◌, List, ◌++◌, length, take, drop, flat_map, refl, sym, ap, subst, ◌∙◌, arith, append_assoc, length-append, length-drop}
 use Rattle.std.proofs.lemmas.List.{take_at, drop_at, drop-drop}
 use Rattle.byteorder.specs.Endian.{big_bytes}
-use Rattle.m3_model.specs.declared.point.Series.{Series}
-use Rattle.wire_bytes.specs.Fields.{Stands}
-use Rattle.wire_bytes.specs.Volumes.{id_bytes, pair_bytes, row_bytes}
-use Rattle.wire_bytes.proofs.NumberLemmas.{length_number}
+use Rattle.shard_files.specs.m3_model.declared.point.Series.{Series}
+use Rattle.shard_files.specs.wire_bytes.Fields.{Stands}
+use Rattle.shard_files.specs.wire_bytes.Volumes.{id_bytes, pair_bytes, row_bytes}
+use Rattle.shard_files.proofs.wire_bytes_proofs.NumberLemmas.{length_number}
 use Rattle.volume_bytes.proofs.RowLemmas.{length_row}
 use Rattle.fileset_read.specs.Rows.{RowStands}
 

@@ -1,10 +1,10 @@
 -- What is read of the data of a volume.
 use Rattle.std.specs.Prelude.{◌≡◌, ⊤, ℕ, ℤ, ◌+◌, ◌*◌, ◌<◌, ◌≤◌, ◌^◌, List, ◌++◌, length, take, drop, flat_map, Option, Some, None, Result, Ok, Err, IsUtf8, FitsSigned}
 use Rattle.std.specs.Int.{w64}
-use Rattle.m3_model.specs.Members.{IsIn}
-use Rattle.m3_model.specs.declared.point.Series.{Series}
-use Rattle.wire_bytes.specs.Volumes.{pair_bytes}
-use Rattle.wire_bytes.specs.declared.wire_err.WireErr.{WireErr}
+use Rattle.shard_files.specs.m3_model.Members.{IsIn}
+use Rattle.shard_files.specs.m3_model.declared.point.Series.{Series}
+use Rattle.shard_files.specs.wire_bytes.Volumes.{pair_bytes}
+use Rattle.shard_files.specs.wire_bytes.declared.wire_err.WireErr.{WireErr}
 use Rattle.fileset_read.specs.declared.row_at.RowAt.{RowAt}
 use Rattle.fileset_read.specs.declared.row_err.RowErr.{RowErr}
 use Rattle.fileset_read.specs.declared.row_err.RowErr.TheVariants as errors

@@ -1,12 +1,12 @@
 -- Volumes that are there, and why one isn't read.
 use Rattle.std.specs.Prelude.{⊤, Bool, ◌&&◌, List}
 use Rattle.std.specs.FinMap.{get}
-use Rattle.m3_model.specs.declared.point.Series.{Series}
-use Rattle.m3_outside.specs.Files.{Files}
-use Rattle.m3_outside.specs.declared.file_name.FileName.{FileName}
-use Rattle.m3_outside.specs.declared.disk_err.DiskErr.{DiskErr}
-use Rattle.m3_outside.specs.declared.disk_err.DiskErr.TheVariants as disk
-use Rattle.wire_bytes.specs.Volumes.{VolumeHead}
+use Rattle.shard_files.specs.m3_model.declared.point.Series.{Series}
+use Rattle.shard_files.specs.m3_outside.Files.{Files}
+use Rattle.shard_files.specs.m3_outside.declared.file_name.FileName.{FileName}
+use Rattle.shard_files.specs.m3_outside.declared.disk_err.DiskErr.{DiskErr}
+use Rattle.shard_files.specs.m3_outside.declared.disk_err.DiskErr.TheVariants as disk
+use Rattle.shard_files.specs.wire_bytes.Volumes.{VolumeHead}
 use Rattle.shard_files.specs.Parts.{VolumeHolds, is_open, is_volume_checkpoint}
 use Rattle.fileset_read.specs.declared.row_err.RowErr.{RowErr}
 use Rattle.fileset_read.specs.declared.row_err.RowErr.TheVariants as errors

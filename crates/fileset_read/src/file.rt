@@ -1,12 +1,12 @@
 ghost use Rattle.std.specs.Prelude.{◌≡◌, true, ℕ, List, length, take, Some, IfOk, IsErrOf, option_map};
 ghost use Rattle.std.specs.FinMap.{get};
-ghost use Rattle.m3_outside.specs.Causes.{CountsFaults};
-ghost use Rattle.m3_outside.specs.DiskState.{DiskState, Told};
-ghost use Rattle.m3_outside.specs.DiskCalls.{LeavesFiles};
-ghost use Rattle.m3_outside.specs.declared.disk_err.DiskErr.TheVariants.{Failed as DiskFailed, Memory as WantOfMemory};
+ghost use Rattle.shard_files.specs.m3_outside.Causes.{CountsFaults};
+ghost use Rattle.shard_files.specs.m3_outside.DiskState.{DiskState, Told};
+ghost use Rattle.shard_files.specs.m3_outside.DiskCalls.{LeavesFiles};
+ghost use Rattle.shard_files.specs.m3_outside.declared.disk_err.DiskErr.TheVariants.{Failed as DiskFailed, Memory as WantOfMemory};
 
-use m3_model::Seq;
-use m3_outside::{Disk, DiskErr, FileName};
+use shard_files::m3_model::Seq;
+use shard_files::m3_outside::{Disk, DiskErr, FileName};
 use std::alloc::Global;
 
 // The bytes of a file of this size.

@@ -16,3 +16,8 @@ pub use names::counted;
 pub use row_err::RowErr;
 pub use series::rows_in;
 pub use volume::{row, rows};
+
+// Libraries that the rows of crates above need not name.
+pub use shard_files;
+pub use shard_files::{commit_log, m3_model, m3_outside, wire_bytes};
+pub use volume_bytes;

@@ -1,15 +1,15 @@
 ghost use Rattle.std.specs.Prelude.{◌≡◌, ◌++◌, [], ◌∷◌, true, if◌then◌else◌, filter, IfOk, OnOk, IsErr, IsErrOf};
 ghost use Rattle.std.specs.FinMap.{get};
-ghost use Rattle.m3_outside.specs.Causes.{CountsFaults};
-ghost use Rattle.m3_outside.specs.DiskState.{DiskState};
-ghost use Rattle.m3_outside.specs.DiskCalls.{LeavesFiles};
-ghost use Rattle.m3_outside.specs.declared.disk_err.DiskErr.TheVariants.{Failed as DiskFailed};
+ghost use Rattle.shard_files.specs.m3_outside.Causes.{CountsFaults};
+ghost use Rattle.shard_files.specs.m3_outside.DiskState.{DiskState};
+ghost use Rattle.shard_files.specs.m3_outside.DiskCalls.{LeavesFiles};
+ghost use Rattle.shard_files.specs.m3_outside.declared.disk_err.DiskErr.TheVariants.{Failed as DiskFailed};
 ghost use Rattle.shard_files.specs.Parts as parts;
 ghost use Rattle.shard_files.specs.Parts.{counted_volumes};
 ghost use Rattle.fileset_read.specs.Volumes.{is_counted};
 
-use m3_model::{Memory, Seq};
-use m3_outside::{Disk, DiskErr, Failed, FileName};
+use shard_files::m3_model::{Memory, Seq};
+use shard_files::m3_outside::{Disk, DiskErr, Failed, FileName};
 use std::alloc::Global;
 
 // An open gate.

@@ -1,9 +1,9 @@
 ghost use Rattle.std.specs.Prelude.{◌≡◌, ◌<◌, ◌≤◌, ◌++◌, List, ℕ, length, drop, IfOk};
-ghost use Rattle.m3_model.specs.declared.point.Series.{Series as Row};
-ghost use Rattle.wire_bytes.specs.Volumes.{row_bytes};
+ghost use Rattle.shard_files.specs.m3_model.declared.point.Series.{Series as Row};
+ghost use Rattle.shard_files.specs.wire_bytes.Volumes.{row_bytes};
 ghost use Rattle.fileset_read.specs.Rows.{AreInside, FindsRow, IsSpelled};
 
-use wire_bytes::{WireErr, get_number};
+use shard_files::wire_bytes::{WireErr, get_number};
 
 /// The record of a series in the data of a volume: its identifier is the bytes from `id_from` to `id_to`, `count` times with
 /// their values stand from `from` on, and `next` is the offset behind them.

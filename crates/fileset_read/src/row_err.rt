@@ -1,7 +1,7 @@
-use m3_model::Memory;
+use shard_files::m3_model::Memory;
+use shard_files::wire_bytes::WireErr;
 use std::alloc::AllocFailed;
 use thiserror::Error;
-use wire_bytes::WireErr;
 
 /// Why bytes aren't read as series.
 #[derive(Clone, Copy, Debug, Error)]

@@ -1,13 +1,13 @@
 ghost use Rattle.std.specs.Prelude.{◌≡◌, ◌↔◌, ◌+◌, ◌-◌, ◌*◌, ◌≤◌, ◌++◌, List, ℕ, ℤ, length, take, drop, flat_map, IsTrue};
-ghost use Rattle.m3_model.specs.declared.point.Series.{Series as Row};
-ghost use Rattle.wire_bytes.specs.Volumes.{data_bytes, pair_bytes};
+ghost use Rattle.shard_files.specs.m3_model.declared.point.Series.{Series as Row};
+ghost use Rattle.shard_files.specs.wire_bytes.Volumes.{data_bytes, pair_bytes};
 ghost use Rattle.fileset_read.specs.Rows.{ArePairs, AreInside, AreSpelled, Gives, IsSeriesOf, IsSpelled, RowStands};
 
 use crate::row_at::{RowAt, find_row};
 use crate::row_err::RowErr;
-use m3_model::{Seq, Series, Text};
+use shard_files::m3_model::{Seq, Series, Text};
+use shard_files::wire_bytes::get_number;
 use std::alloc::Global;
-use wire_bytes::get_number;
 
 // So many times and values, from the offset on.
 fn read_pairs(

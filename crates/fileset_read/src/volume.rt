@@ -1,10 +1,10 @@
 ghost use Rattle.std.specs.Prelude.{◌≡◌, true, List, ℕ, Some, IfOk, IfErr, IsErrOf};
 ghost use Rattle.std.specs.FinMap.{get};
-ghost use Rattle.m3_model.specs.declared.point.Series.{Series as Row};
-ghost use Rattle.m3_outside.specs.Causes.{CountsFaults};
-ghost use Rattle.m3_outside.specs.DiskState.{DiskState, Told};
-ghost use Rattle.m3_outside.specs.DiskCalls.{LeavesFiles};
-ghost use Rattle.wire_bytes.specs.Volumes.{Data};
+ghost use Rattle.shard_files.specs.m3_model.declared.point.Series.{Series as Row};
+ghost use Rattle.shard_files.specs.m3_outside.Causes.{CountsFaults};
+ghost use Rattle.shard_files.specs.m3_outside.DiskState.{DiskState, Told};
+ghost use Rattle.shard_files.specs.m3_outside.DiskCalls.{LeavesFiles};
+ghost use Rattle.shard_files.specs.wire_bytes.Volumes.{Data};
 ghost use Rattle.shard_files.specs.Parts.{VolumeHolds, part_of};
 ghost use Rattle.volume_bytes.specs.Heads.{head_of};
 ghost use Rattle.fileset_read.specs.Rows.{IsSeriesOf};
@@ -15,8 +15,8 @@ use crate::file::read_file;
 use crate::file_err::FileErr;
 use crate::row_err::RowErr;
 use crate::series::{rows_in, series_in};
-use m3_model::{Seq, Series};
-use m3_outside::{Disk, FileName};
+use shard_files::m3_model::{Seq, Series};
+use shard_files::m3_outside::{Disk, FileName};
 use std::alloc::Global;
 use volume_bytes::Head;
 

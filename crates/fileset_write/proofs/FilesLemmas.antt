@@ -3,14 +3,14 @@ use Rattle.std.proofs.Common.{add-one, ◌≡◌, inl, inr, ℕ, ◌+◌, ◌<�
 use Rattle.std.proofs.lemmas.List.{take-append-drop, take_more}
 use Rattle.std.proofs.Math.Seq.{drop-cons}
 use Rattle.std.specs.FinMap.{get}
-use Rattle.m3_model.specs.Members.{IsIn}
-use Rattle.m3_model.proofs.MemberLemmas.{IsIn-append_right, map-IsIn}
-use Rattle.m3_outside.specs.Causes.{CountsFaults}
-use Rattle.m3_outside.specs.declared.file_name.FileName.{FileName}
-use Rattle.m3_outside.specs.Files.{Files, IsAbsent}
-use Rattle.m3_outside.specs.DiskState.{DiskState, Elapses, Becomes}
-use Rattle.m3_outside.proofs.Moments.{elapses_then, becomes_both, same_becomes, counts_then}
-use Rattle.m3_outside.proofs.Names.{get_apart}
+use Rattle.shard_files.specs.m3_model.Members.{IsIn}
+use Rattle.shard_files.proofs.m3_model_proofs.MemberLemmas.{IsIn-append_right, map-IsIn}
+use Rattle.shard_files.specs.m3_outside.Causes.{CountsFaults}
+use Rattle.shard_files.specs.m3_outside.declared.file_name.FileName.{FileName}
+use Rattle.shard_files.specs.m3_outside.Files.{Files, IsAbsent}
+use Rattle.shard_files.specs.m3_outside.DiskState.{DiskState, Elapses, Becomes}
+use Rattle.shard_files.proofs.m3_outside_proofs.Moments.{elapses_then, becomes_both, same_becomes, counts_then}
+use Rattle.shard_files.proofs.m3_outside_proofs.Names.{get_apart}
 use Rattle.fileset_write.specs.declared.new_file.NewFile.{NewFile}
 use Rattle.fileset_write.specs.Putting.{MayPut, OthersOf, AreAbsent, AreApart, names_of, with_file, with_files}
 

@@ -4,11 +4,11 @@ use Rattle.std.specs.Prelude.{is_some, option_map, filter}
 use Rattle.std.specs.FinMap.{get}
 use Rattle.std.proofs.lemmas.List.{take_more, get_or-drop, drop-drop}
 use Rattle.std.proofs.lemmas.List.Elements.{filter-append}
-use Rattle.m3_model.proofs.Lists.{IsIn-filter, IsIn-filter_passes}
-use Rattle.m3_outside.specs.declared.file_name.FileName.{FileName}
-use Rattle.m3_outside.specs.Files.{Files}
-use Rattle.m3_outside.specs.Removal.{AreRemovable}
-use Rattle.m3_outside.proofs.Removal.{Distinct, removable}
+use Rattle.shard_files.proofs.m3_model_proofs.Lists.{IsIn-filter, IsIn-filter_passes}
+use Rattle.shard_files.specs.m3_outside.declared.file_name.FileName.{FileName}
+use Rattle.shard_files.specs.m3_outside.Files.{Files}
+use Rattle.shard_files.specs.m3_outside.Removal.{AreRemovable}
+use Rattle.shard_files.proofs.m3_outside_proofs.Removal.{Distinct, removable}
 use Rattle.shard_files.specs.Steps.{those_there, files_of_volume, parts_there}
 use Rattle.fileset_write.proofs.WriteLemmas.{apart_by_kinds, seven_kinds}
 

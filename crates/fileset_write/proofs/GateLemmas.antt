@@ -2,13 +2,13 @@
 use Rattle.std.proofs.Common.{◌≡◌, ◌⊎◌, inl, inr, ⊎_elim, ℕ, List, [], ◌∷◌, length, true, false, Bool, ◌==◌, refl, sym, ap, subst, ◌∙◌, Some, arith, rules}
 use Rattle.std.specs.FinMap.{get, insert}
 use Rattle.std.proofs.lemmas.Option.{same_Some}
-use Rattle.m3_model.specs.Members.{IsIn}
-use Rattle.m3_outside.specs.declared.file_name.FileName.{FileName}
-use Rattle.m3_outside.specs.Files.{Files, Torn, Wrote, Stays, IsInside, IsPresent, IsAbsent, patched}
-use Rattle.m3_outside.specs.DiskState.{DiskState, StepOf, Elapses, Becomes}
-use Rattle.m3_outside.specs.DiskCalls.{LeavesFiles}
-use Rattle.m3_outside.proofs.Names.{get_here, get_apart, is_insert, insert_over}
-use Rattle.m3_outside.proofs.Moments.{elapses_as, elapses_then, elapses_from, becomes_both, becomes_stays, step_as}
+use Rattle.shard_files.specs.m3_model.Members.{IsIn}
+use Rattle.shard_files.specs.m3_outside.declared.file_name.FileName.{FileName}
+use Rattle.shard_files.specs.m3_outside.Files.{Files, Torn, Wrote, Stays, IsInside, IsPresent, IsAbsent, patched}
+use Rattle.shard_files.specs.m3_outside.DiskState.{DiskState, StepOf, Elapses, Becomes}
+use Rattle.shard_files.specs.m3_outside.DiskCalls.{LeavesFiles}
+use Rattle.shard_files.proofs.m3_outside_proofs.Names.{get_here, get_apart, is_insert, insert_over}
+use Rattle.shard_files.proofs.m3_outside_proofs.Moments.{elapses_as, elapses_then, elapses_from, becomes_both, becomes_stays, step_as}
 use Rattle.shard_files.specs.Parts.{is_open}
 use Rattle.fileset_write.specs.declared.new_file.NewFile.{NewFile}
 use Rattle.fileset_write.proofs.FilesLemmas.{made_others}

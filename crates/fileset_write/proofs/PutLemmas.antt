@@ -1,18 +1,18 @@
 -- A file that is made, written behind its zeros and synced, over any disk.
 use Rattle.std.proofs.Common.{◌≡◌, ◌⊎◌, inl, inr, ℕ, ◌+◌, List, [], ◌++◌, length, replicate, true, refl, sym, ap, subst, ◌∙◌, Some, arith, Result, Err}
 use Rattle.std.specs.Prelude.{⊤, IsErrOf}
-use Rattle.m3_outside.specs.declared.disk_err.DiskErr.{DiskErr}
-use Rattle.m3_outside.specs.declared.disk_err.DiskErr.TheVariants.{Memory, Failed as DiskFailed}
+use Rattle.shard_files.specs.m3_outside.declared.disk_err.DiskErr.{DiskErr}
+use Rattle.shard_files.specs.m3_outside.declared.disk_err.DiskErr.TheVariants.{Memory, Failed as DiskFailed}
 use Rattle.std.proofs.lemmas.List.{length-replicate, replicate-append-replicate, append-nil}
 use Rattle.std.specs.FinMap.{get, insert}
 use Rattle.std.proofs.lemmas.Option.{same_Some}
-use Rattle.m3_outside.specs.declared.file_name.FileName.{FileName}
-use Rattle.m3_outside.specs.Files.{Files, Torn, Wrote, Stays, DoneOrNot, IsInside, IsPresent, patched, files_with_zeros}
-use Rattle.m3_outside.specs.DiskState.{DiskState, Elapses, Becomes}
-use Rattle.m3_outside.specs.DiskCalls.{LeavesFiles}
-use Rattle.m3_outside.proofs.Names.{get_here, get_apart, is_insert, insert_over}
-use Rattle.m3_outside.proofs.Moments.{elapses_as, elapses_from, becomes_both}
-use Rattle.m3_outside.proofs.Patches.{patched_parts}
+use Rattle.shard_files.specs.m3_outside.declared.file_name.FileName.{FileName}
+use Rattle.shard_files.specs.m3_outside.Files.{Files, Torn, Wrote, Stays, DoneOrNot, IsInside, IsPresent, patched, files_with_zeros}
+use Rattle.shard_files.specs.m3_outside.DiskState.{DiskState, Elapses, Becomes}
+use Rattle.shard_files.specs.m3_outside.DiskCalls.{LeavesFiles}
+use Rattle.shard_files.proofs.m3_outside_proofs.Names.{get_here, get_apart, is_insert, insert_over}
+use Rattle.shard_files.proofs.m3_outside_proofs.Moments.{elapses_as, elapses_from, becomes_both}
+use Rattle.shard_files.proofs.m3_outside_proofs.Patches.{patched_parts}
 use Rattle.fileset_write.specs.Putting.{MayPut, behind, with_file}
 
 zeros_parts : (front n : ℕ) → replicate {A = ℕ} (front + n) 0 ≡ replicate front 0 ++ (replicate n 0 ++ [])

@@ -3,9 +3,9 @@ use Rattle.std.proofs.Common.{◌≡◌, ℕ, ℤ, pos, List, ◌++◌, get_or, 
 use Rattle.std.specs.Int.{w64}
 use Rattle.std.proofs.lemmas.List.Elements.{All-from_get_or}
 use Rattle.sha2.specs.Sha256.{sha256}
-use Rattle.m3_model.specs.declared.point.Series.{Series}
-use Rattle.m3_model.proofs.Lists.{IsIn-get_or}
-use Rattle.wire_bytes.specs.Volumes.{VolumeHead, IsVolume, info_bytes, summaries_bytes, index_bytes, data_bytes, bloom_bytes, digests_bytes}
+use Rattle.shard_files.specs.m3_model.declared.point.Series.{Series}
+use Rattle.shard_files.proofs.m3_model_proofs.Lists.{IsIn-get_or}
+use Rattle.shard_files.specs.wire_bytes.Volumes.{VolumeHead, IsVolume, info_bytes, summaries_bytes, index_bytes, data_bytes, bloom_bytes, digests_bytes}
 use Rattle.volume_bytes.specs.Heads.{AllFit}
 
 -- a volume's rows fit the fields of their records

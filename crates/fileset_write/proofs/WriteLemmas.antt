@@ -4,17 +4,17 @@ use Rattle.std.specs.List.{list_any}
 use Rattle.std.specs.FinMap.{get}
 use Rattle.std.proofs.Math.Bool.{or-true}
 use Rattle.sha2.specs.Sha256.{sha256}
-use Rattle.m3_model.specs.Members.{IsIn}
-use Rattle.m3_model.specs.declared.limits.TheConstants.{NUMBER_END}
-use Rattle.m3_model.proofs.MemberLemmas.{IsIn-map, map-IsIn}
-use Rattle.m3_model.specs.declared.point.Series.{Series}
-use Rattle.m3_outside.specs.declared.file_name.FileName.{FileName}
-use Rattle.m3_outside.specs.Files.{Files, IsAbsent}
-use Rattle.m3_outside.specs.DiskState.{DiskState, StepOf, Elapses, Becomes, IsLawfulDisk}
-use Rattle.m3_outside.specs.DiskCalls.{LeavesFiles}
-use Rattle.m3_outside.proofs.Names.{get_here, get_apart}
-use Rattle.m3_outside.proofs.Moments.{elapses_as, elapses_then}
-use Rattle.wire_bytes.specs.Volumes.{VolumeHead, IsVolume, Part, Info, Summaries, Index, Data, Bloom, Digests, Checkpoint, part_bytes, digests_bytes}
+use Rattle.shard_files.specs.m3_model.Members.{IsIn}
+use Rattle.shard_files.specs.m3_model.declared.limits.TheConstants.{NUMBER_END}
+use Rattle.shard_files.proofs.m3_model_proofs.MemberLemmas.{IsIn-map, map-IsIn}
+use Rattle.shard_files.specs.m3_model.declared.point.Series.{Series}
+use Rattle.shard_files.specs.m3_outside.declared.file_name.FileName.{FileName}
+use Rattle.shard_files.specs.m3_outside.Files.{Files, IsAbsent}
+use Rattle.shard_files.specs.m3_outside.DiskState.{DiskState, StepOf, Elapses, Becomes, IsLawfulDisk}
+use Rattle.shard_files.specs.m3_outside.DiskCalls.{LeavesFiles}
+use Rattle.shard_files.proofs.m3_outside_proofs.Names.{get_here, get_apart}
+use Rattle.shard_files.proofs.m3_outside_proofs.Moments.{elapses_as, elapses_then}
+use Rattle.shard_files.specs.wire_bytes.Volumes.{VolumeHead, IsVolume, Part, Info, Summaries, Index, Data, Bloom, Digests, Checkpoint, part_bytes, digests_bytes}
 use Rattle.shard_files.specs.Parts.{is_open, part_of, VolumeHolds}
 use Rattle.shard_files.specs.Steps.{next_volume, volume_after, files_of_volume, IsPartOf, MayWrite, Wrote, WroteNone}
 use Rattle.shard_files.proofs.NextLemmas.{next_volume_is_new}

@@ -1,8 +1,8 @@
 -- Volumes that are to be written.
 use Rattle.std.specs.Prelude.{◌≡◌, List, [], ◌∷◌, map}
 use Rattle.sha2.specs.Sha256.{sha256}
-use Rattle.m3_model.specs.declared.point.Series.{Series}
-use Rattle.wire_bytes.specs.Volumes.{VolumeHead, Part, Info, Summaries, Index, Data, Bloom, Digests, Checkpoint, part_bytes, digests_bytes}
+use Rattle.shard_files.specs.m3_model.declared.point.Series.{Series}
+use Rattle.shard_files.specs.wire_bytes.Volumes.{VolumeHead, Part, Info, Summaries, Index, Data, Bloom, Digests, Checkpoint, part_bytes, digests_bytes}
 use Rattle.shard_files.specs.Parts.{part_of}
 use Rattle.fileset_write.specs.declared.new_file.NewFile.{NewFile}
 use Rattle.fileset_write.specs.declared.volume.NewVolume.{NewVolume}

@@ -1,10 +1,10 @@
 -- Files that are made one after another, and a checkpoint whose gate is opened last.
 use Rattle.std.specs.Prelude.{◌≡◌, ◌⊎◌, ⊤, ℕ, false, List, [], ◌∷◌, ◌++◌, length, map, replicate, Some}
 use Rattle.std.specs.FinMap.{get, insert}
-use Rattle.m3_model.specs.Members.{IsIn}
-use Rattle.m3_outside.specs.Files.{Files, IsAbsent}
-use Rattle.m3_outside.specs.DiskState.{DiskState, Told, EachImage}
-use Rattle.m3_outside.specs.declared.file_name.FileName.{FileName}
+use Rattle.shard_files.specs.m3_model.Members.{IsIn}
+use Rattle.shard_files.specs.m3_outside.Files.{Files, IsAbsent}
+use Rattle.shard_files.specs.m3_outside.DiskState.{DiskState, Told, EachImage}
+use Rattle.shard_files.specs.m3_outside.declared.file_name.FileName.{FileName}
 use Rattle.shard_files.specs.Parts.{is_open}
 use Rattle.shard_files.specs.Steps.{OthersStay}
 use Rattle.fileset_write.specs.declared.new_file.NewFile.{NewFile}

@@ -1,13 +1,13 @@
 ghost use Rattle.std.specs.Prelude.{◌≡◌, ◌∷◌, true, IsErrOf, OnOk};
-ghost use Rattle.m3_outside.specs.Files.{Files, IsAbsent};
-ghost use Rattle.m3_outside.specs.Causes.{CountsFaults};
-ghost use Rattle.m3_outside.specs.DiskState.{DiskState, Told, Elapses, StepOf, Becomes};
-ghost use Rattle.m3_outside.specs.declared.disk_err.DiskErr.TheVariants.{Failed as DiskFailed, Memory as WantOfMemory};
+ghost use Rattle.shard_files.specs.m3_outside.Files.{Files, IsAbsent};
+ghost use Rattle.shard_files.specs.m3_outside.Causes.{CountsFaults};
+ghost use Rattle.shard_files.specs.m3_outside.DiskState.{DiskState, Told, Elapses, StepOf, Becomes};
+ghost use Rattle.shard_files.specs.m3_outside.declared.disk_err.DiskErr.TheVariants.{Failed as DiskFailed, Memory as WantOfMemory};
 ghost use Rattle.fileset_write.specs.Putting.{IsShut, MayOpen, MayPutAll, PutNone, AreAbsent, AreApart, names_of, opened, with_volume};
 
 use crate::new_file::NewFile;
 use crate::put_file::{CALLS, put_file, put_files};
-use m3_outside::{Disk, DiskErr, FileName};
+use shard_files::m3_outside::{Disk, DiskErr, FileName};
 
 // An open gate.
 const OPEN: u8 = 1;

@@ -1,14 +1,14 @@
 ghost use Rattle.std.specs.Prelude.{◌≡◌, ◌<◌, true, map, IfOk, IsErrOf};
-ghost use Rattle.m3_model.specs.declared.limits.TheConstants.{NUMBER_END};
-ghost use Rattle.m3_outside.specs.DiskState.{DiskState};
-ghost use Rattle.m3_outside.specs.DiskCalls.{LeavesFiles};
-ghost use Rattle.m3_outside.specs.declared.disk_err.DiskErr.TheVariants.{Failed as DiskFailed};
-ghost use Rattle.commit_log.specs.Contents as contents;
+ghost use Rattle.shard_files.specs.m3_model.declared.limits.TheConstants.{NUMBER_END};
+ghost use Rattle.shard_files.specs.m3_outside.DiskState.{DiskState};
+ghost use Rattle.shard_files.specs.m3_outside.DiskCalls.{LeavesFiles};
+ghost use Rattle.shard_files.specs.m3_outside.declared.disk_err.DiskErr.TheVariants.{Failed as DiskFailed};
+ghost use Rattle.shard_files.specs.commit_log.Contents as contents;
 ghost use Rattle.shard_files.specs.Steps as steps;
 ghost use Rattle.shard_files.specs.Steps.{next_volume};
 
-use commit_log::next_after;
-use m3_outside::{Disk, DiskErr, FileName};
+use shard_files::commit_log::next_after;
+use shard_files::m3_outside::{Disk, DiskErr, FileName};
 use std::alloc::Global;
 
 // Whether the name is that of a file of some volume of this namespace and this start.

@@ -1,12 +1,12 @@
 ghost use Rattle.std.specs.Prelude.{◌≡◌, ◌+◌, ◌<◌, ◌≤◌, ◌^◌, true, length, IsErrOf, OnOk};
-ghost use Rattle.m3_outside.specs.Files.{IsAbsent};
-ghost use Rattle.m3_outside.specs.Causes.{CountsFaults};
-ghost use Rattle.m3_outside.specs.DiskState.{DiskState, Told, Elapses, Becomes};
-ghost use Rattle.m3_outside.specs.declared.disk_err.DiskErr.TheVariants.{Failed as DiskFailed, Memory as WantOfMemory};
+ghost use Rattle.shard_files.specs.m3_outside.Files.{IsAbsent};
+ghost use Rattle.shard_files.specs.m3_outside.Causes.{CountsFaults};
+ghost use Rattle.shard_files.specs.m3_outside.DiskState.{DiskState, Told, Elapses, Becomes};
+ghost use Rattle.shard_files.specs.m3_outside.declared.disk_err.DiskErr.TheVariants.{Failed as DiskFailed, Memory as WantOfMemory};
 ghost use Rattle.fileset_write.specs.Putting.{MayPut, OthersOf, AreAbsent, AreApart, behind, names_of, with_file, with_files};
 
 use crate::new_file::NewFile;
-use m3_outside::{Disk, DiskErr, FileName};
+use shard_files::m3_outside::{Disk, DiskErr, FileName};
 
 /// Room for a write and a sync.
 pub(crate) const CALLS: u64 = 2;

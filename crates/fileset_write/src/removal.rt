@@ -1,13 +1,13 @@
 ghost use Rattle.std.specs.Prelude.{◌≡◌, ◌+◌, ◌<◌, ◌≤◌, true, if◌then◌else◌, [], ◌∷◌, ◌++◌, take, drop, length, IfOk, IsErr, IsErrOf, OnOk};
-ghost use Rattle.m3_outside.specs.Causes.{CountsFaults};
-ghost use Rattle.m3_outside.specs.DiskState.{DiskState, Elapses, Becomes};
-ghost use Rattle.m3_outside.specs.DiskCalls.{LeavesFiles};
-ghost use Rattle.m3_outside.specs.Removal.{without_files, MayTakeAway, HasTakenAway};
-ghost use Rattle.m3_outside.specs.declared.disk_err.DiskErr.TheVariants.{Failed as DiskFailed, Memory as WantOfMemory};
+ghost use Rattle.shard_files.specs.m3_outside.Causes.{CountsFaults};
+ghost use Rattle.shard_files.specs.m3_outside.DiskState.{DiskState, Elapses, Becomes};
+ghost use Rattle.shard_files.specs.m3_outside.DiskCalls.{LeavesFiles};
+ghost use Rattle.shard_files.specs.m3_outside.Removal.{without_files, MayTakeAway, HasTakenAway};
+ghost use Rattle.shard_files.specs.m3_outside.declared.disk_err.DiskErr.TheVariants.{Failed as DiskFailed, Memory as WantOfMemory};
 ghost use Rattle.shard_files.specs.Steps.{files_of_volume, parts_there, those_there};
 
-use m3_outside::take_away::take_away;
-use m3_outside::{Disk, DiskErr, Failed, FileName};
+use shard_files::m3_outside::take_away::take_away;
+use shard_files::m3_outside::{Disk, DiskErr, Failed, FileName};
 
 // How many files a volume has.
 const FILES: usize = 7;

@@ -1,14 +1,14 @@
 ghost use Rattle.std.specs.Prelude.{◌≡◌, IfOk};
-ghost use Rattle.wire_bytes.specs.Volumes.{IsVolume};
+ghost use Rattle.shard_files.specs.wire_bytes.Volumes.{IsVolume};
 ghost use Rattle.volume_bytes.specs.Heads.{head_of};
 ghost use Rattle.fileset_write.specs.NewVolumes.{IsNewVolume};
 
 use crate::new_file::NewFile;
-use m3_model::{Memory, Seq, Series};
-use m3_outside::FileName;
+use shard_files::m3_model::{Memory, Seq, Series};
+use shard_files::m3_outside::FileName;
+use shard_files::wire_bytes::digest;
 use std::alloc::Global;
 use volume_bytes::{Head, Tables, bloom_filter, digests, info, tables_of};
-use wire_bytes::digest;
 
 /// A volume that is to be written.
 #[derive(Drop)]

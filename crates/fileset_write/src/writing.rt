@@ -1,17 +1,17 @@
 ghost use Rattle.std.specs.Prelude.{◌≡◌, ◌<◌, ◌≤◌, true, IfOk, IsErr, IsErrOf, OnOk};
-ghost use Rattle.m3_model.specs.declared.limits.TheConstants.{NUMBER_END};
-ghost use Rattle.m3_outside.specs.Files.{Files};
-ghost use Rattle.m3_outside.specs.Causes.{CountsFaults};
-ghost use Rattle.m3_outside.specs.DiskState.{DiskState, Elapses, StepOf};
-ghost use Rattle.m3_outside.specs.declared.disk_err.DiskErr.TheVariants.{Failed as DiskFailed, Memory as WantOfMemory};
-ghost use Rattle.wire_bytes.specs.Volumes.{IsVolume};
+ghost use Rattle.shard_files.specs.m3_model.declared.limits.TheConstants.{NUMBER_END};
+ghost use Rattle.shard_files.specs.m3_outside.Files.{Files};
+ghost use Rattle.shard_files.specs.m3_outside.Causes.{CountsFaults};
+ghost use Rattle.shard_files.specs.m3_outside.DiskState.{DiskState, Elapses, StepOf};
+ghost use Rattle.shard_files.specs.m3_outside.declared.disk_err.DiskErr.TheVariants.{Failed as DiskFailed, Memory as WantOfMemory};
+ghost use Rattle.shard_files.specs.wire_bytes.Volumes.{IsVolume};
 ghost use Rattle.shard_files.specs.Steps.{next_volume, volume_after, MayWrite, Wrote, WroteNone};
 
 use crate::gate::put_all;
 use crate::next_number::next_number;
 use crate::volume::new_volume;
-use m3_model::{Seq, Series};
-use m3_outside::{Disk, DiskErr};
+use shard_files::m3_model::{Seq, Series};
+use shard_files::m3_outside::{Disk, DiskErr};
 use std::alloc::Global;
 use volume_bytes::Head;
 

@@ -10,23 +10,23 @@ use Rattle.m3_outside.specs.Files.{Files}
 use Rattle.m3_outside.specs.Slots.{Held, Unused, Here, Out, MayGive}
 use Rattle.m3_outside.specs.declared.disk.Disk.{Ghosts}
 use Rattle.placement_core.proofs.ListLemmas.{each-from_All, IsIn-from_Any}
-use Rattle.shard_files.specs.FilesHold.{FilesHold}
-use Rattle.shard_files.specs.Once.{IsEachOnce}
-use Rattle.shard_files.proofs.FilesHoldLemmas.{files_hold_one, no_files_hold_nothing}
-use Rattle.cluster_core.specs.Replicas.{after, fresh}
-use Rattle.cluster_core.specs.declared.event.StepCall.TheVariants as call
-use Rattle.cluster_core.specs.declared.event.StepReply.{StepReply}
-use Rattle.cluster_core.specs.declared.event.StepReply.TheVariants as reply
-use Rattle.replica_machine.specs.Bases.{CameFrom}
-use Rattle.replica_machine.specs.Boots.{BeganFrom, MayBeUnowned}
-use Rattle.replica_machine.specs.Machines.{IsHeldBy, MachineState, first_machine}
-use Rattle.replica_machine.specs.Steps.{IsStep}
-use Rattle.replica_machine.specs.declared.machine.Began.{Began}
-use Rattle.replica_machine.proofs.OtherLemmas.{first_follows}
-use Rattle.replica_exchange.specs.Promises.{Begins}
-use Rattle.replica_exchange.specs.declared.member.Member.{Member}
-use Rattle.replica_exchange.specs.declared.slot.Slot.{Slot}
-use Rattle.replica_calls.specs.Calls.{first_member}
+use Rattle.cluster_members.specs.shard_files.FilesHold.{FilesHold}
+use Rattle.cluster_members.specs.shard_files.Once.{IsEachOnce}
+use Rattle.cluster_members.proofs.shard_files_proofs.FilesHoldLemmas.{files_hold_one, no_files_hold_nothing}
+use Rattle.cluster_members.specs.cluster_core.Replicas.{after, fresh}
+use Rattle.cluster_members.specs.cluster_core.declared.event.StepCall.TheVariants as call
+use Rattle.cluster_members.specs.cluster_core.declared.event.StepReply.{StepReply}
+use Rattle.cluster_members.specs.cluster_core.declared.event.StepReply.TheVariants as reply
+use Rattle.cluster_members.specs.replica_machine.Bases.{CameFrom}
+use Rattle.cluster_members.specs.replica_machine.Boots.{BeganFrom, MayBeUnowned}
+use Rattle.cluster_members.specs.replica_machine.Machines.{IsHeldBy, MachineState, first_machine}
+use Rattle.cluster_members.specs.replica_machine.Steps.{IsStep}
+use Rattle.cluster_members.specs.replica_machine.declared.machine.Began.{Began}
+use Rattle.cluster_members.proofs.replica_machine_proofs.OtherLemmas.{first_follows}
+use Rattle.cluster_members.specs.replica_exchange.Promises.{Begins}
+use Rattle.cluster_members.specs.replica_exchange.declared.member.Member.{Member}
+use Rattle.cluster_members.specs.replica_exchange.declared.slot.Slot.{Slot}
+use Rattle.cluster_members.specs.replica_calls.Calls.{first_member}
 use Rattle.cluster_members.specs.declared.members.Members.{Members}
 use Rattle.first_cluster.specs.Bare.{BeginsBare, FirstBeginsBare, HasNoPoints, IsBare, ReturnedBare}
 use Rattle.first_cluster.specs.Begins.{Said}

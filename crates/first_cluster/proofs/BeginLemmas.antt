@@ -11,24 +11,24 @@ use Rattle.m3_model.specs.Members.{IsIn}
 use Rattle.m3_model.proofs.MemberLemmas.{IsIn-append_cases, map-IsIn}
 use Rattle.m3_model.specs.declared.reason.Reason.TheVariants as reason
 use Rattle.m3_outside.specs.DiskState.{DiskState}
-use Rattle.cluster_core.specs.Earlier.{HasTenure}
-use Rattle.cluster_core.specs.declared.event.Event.{Event}
-use Rattle.cluster_core.specs.declared.event.StepCall.TheVariants as call
-use Rattle.cluster_core.specs.declared.event.StepReply.{StepReply}
-use Rattle.cluster_core.specs.declared.event.StepReply.TheVariants as reply
-use Rattle.replica_machine.specs.declared.machine.Began.{Began}
-use Rattle.replica_exchange.specs.MachineCalls.{AddsBoth, HasRoom, result_of}
-use Rattle.replica_exchange.specs.Promises.{Begins}
-use Rattle.replica_exchange.specs.declared.call_err.CallErr.{CallErr}
-use Rattle.replica_exchange.specs.declared.call_err.CallErr.TheVariants as call_err
-use Rattle.replica_exchange.specs.declared.member.Member.{Member}
-use Rattle.replica_exchange.specs.declared.slot.Slot.{Slot}
-use Rattle.replica_calls.specs.Calls.{Tracked, MayCall, WasCalled, IsMissed}
-use Rattle.replica_calls.specs.Slots.{slot_cmp}
-use Rattle.replica_calls.proofs.SlotLemmas.{get-insert_here}
-use Rattle.session_net.specs.Runs.{IsStepped, Ran, Step, step_in, steps_of}
-use Rattle.session_net.proofs.ReadyLemmas.{any_after, room_after, there_after}
-use Rattle.session_net.proofs.RunLemmas.{ran_called, ran_nothing, ran_then}
+use Rattle.cluster_members.specs.cluster_core.Earlier.{HasTenure}
+use Rattle.cluster_members.specs.cluster_core.declared.event.Event.{Event}
+use Rattle.cluster_members.specs.cluster_core.declared.event.StepCall.TheVariants as call
+use Rattle.cluster_members.specs.cluster_core.declared.event.StepReply.{StepReply}
+use Rattle.cluster_members.specs.cluster_core.declared.event.StepReply.TheVariants as reply
+use Rattle.cluster_members.specs.replica_machine.declared.machine.Began.{Began}
+use Rattle.cluster_members.specs.replica_exchange.MachineCalls.{AddsBoth, HasRoom, result_of}
+use Rattle.cluster_members.specs.replica_exchange.Promises.{Begins}
+use Rattle.cluster_members.specs.replica_exchange.declared.call_err.CallErr.{CallErr}
+use Rattle.cluster_members.specs.replica_exchange.declared.call_err.CallErr.TheVariants as call_err
+use Rattle.cluster_members.specs.replica_exchange.declared.member.Member.{Member}
+use Rattle.cluster_members.specs.replica_exchange.declared.slot.Slot.{Slot}
+use Rattle.cluster_members.specs.replica_calls.Calls.{Tracked, MayCall, WasCalled, IsMissed}
+use Rattle.cluster_members.specs.replica_calls.Slots.{slot_cmp}
+use Rattle.cluster_members.proofs.replica_calls_proofs.SlotLemmas.{get-insert_here}
+use Rattle.cluster_members.specs.session_net.Runs.{IsStepped, Ran, Step, step_in, steps_of}
+use Rattle.cluster_members.proofs.session_net_proofs.ReadyLemmas.{any_after, room_after, there_after}
+use Rattle.cluster_members.proofs.session_net_proofs.RunLemmas.{ran_called, ran_nothing, ran_then}
 use Rattle.first_cluster.specs.Begins.{Said, begin_of, begin_reply, begins_of, IsBegunAt, WantedMemory, WasBegun, HaveBegun, HaveSomeBegun}
 use Rattle.first_cluster.specs.Lending.{first_begin, first_tenure}
 use Rattle.first_cluster.specs.Slots.{AreApart, slots_in}

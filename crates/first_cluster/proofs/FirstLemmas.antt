@@ -20,19 +20,19 @@ use Rattle.m3_outside.specs.Depots.{Depot}
 use Rattle.m3_outside.specs.DiskState.{DiskState}
 use Rattle.m3_outside.specs.Slots.{Out}
 use Rattle.m3_outside.specs.declared.slot.DiskSlot.{DiskSlot}
-use Rattle.cluster_core.specs.declared.event.Event.{Event}
-use Rattle.cluster_core.specs.declared.event.StepReply.{StepReply}
+use Rattle.cluster_members.specs.cluster_core.declared.event.Event.{Event}
+use Rattle.cluster_members.specs.cluster_core.declared.event.StepReply.{StepReply}
 use Rattle.net_plan.specs.declared.late_write.LateWrite.{LateWrite}
 use Rattle.placement_core.specs.Lawful.{IsLawful}
 use Rattle.placement_core.specs.Shards.{Shard, nodes_of, shard_at}
-use Rattle.replica_exchange.specs.MachineCalls.{HasRoom}
-use Rattle.replica_exchange.specs.declared.member.Member.{Member}
-use Rattle.replica_exchange.specs.declared.slot.Slot.{Slot}
-use Rattle.replica_calls.specs.Calls.{Tracked, first_member}
-use Rattle.replica_calls.specs.Slots.{MemberMap}
-use Rattle.session_net.specs.Ready.{IsReady}
-use Rattle.session_net.specs.Runs.{IsStepped, Step, slot_at, steps_of}
-use Rattle.session_net.proofs.ReadyLemmas.{AreQuiet, IsQuiet, ready_after, quiet_both, quiet_none, there_after}
+use Rattle.cluster_members.specs.replica_exchange.MachineCalls.{HasRoom}
+use Rattle.cluster_members.specs.replica_exchange.declared.member.Member.{Member}
+use Rattle.cluster_members.specs.replica_exchange.declared.slot.Slot.{Slot}
+use Rattle.cluster_members.specs.replica_calls.Calls.{Tracked, first_member}
+use Rattle.cluster_members.specs.replica_calls.Slots.{MemberMap}
+use Rattle.cluster_members.specs.session_net.Ready.{IsReady}
+use Rattle.cluster_members.specs.session_net.Runs.{IsStepped, Step, slot_at, steps_of}
+use Rattle.cluster_members.proofs.session_net_proofs.ReadyLemmas.{AreQuiet, IsQuiet, ready_after, quiet_both, quiet_none, there_after}
 use Rattle.first_cluster.specs.Begins.{Said, begin_of, begins_of, HaveBegun, HaveSomeBegun}
 use Rattle.first_cluster.specs.Depots.{AreOut, disk_slot_of}
 use Rattle.first_cluster.specs.First.{IsDiskAnswer, IsRefusedInit, opening_of}

@@ -8,10 +8,10 @@ use Rattle.m3_outside.specs.Causes.{RoseBy, last_count}
 use Rattle.m3_outside.specs.DiskState.{DiskState}
 use Rattle.m3_outside.specs.Slots.{Here, Out, OthersStay}
 use Rattle.m3_outside.specs.declared.slot.DiskSlot.{DiskSlot}
-use Rattle.replica_exchange.specs.declared.member.Member.{Member}
-use Rattle.replica_calls.specs.Slots.{MemberMap, slot_cmp}
-use Rattle.session_net.specs.Runs.{slot_at}
-use Rattle.replica_exchange.specs.declared.slot.Slot.{Slot}
+use Rattle.cluster_members.specs.replica_exchange.declared.member.Member.{Member}
+use Rattle.cluster_members.specs.replica_calls.Slots.{MemberMap, slot_cmp}
+use Rattle.cluster_members.specs.session_net.Runs.{slot_at}
+use Rattle.cluster_members.specs.replica_exchange.declared.slot.Slot.{Slot}
 use Rattle.m3_outside.specs.Depots.{Depot}
 use Rattle.first_cluster.specs.Depots.{AreOut, count_at, disk_slot_of, risen}
 use Rattle.first_cluster.specs.Slots.{AreApart}

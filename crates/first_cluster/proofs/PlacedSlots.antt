@@ -8,13 +8,13 @@ use Rattle.m3_model.proofs.MemberLemmas.{IsIn-append_cases, IsIn-append_left, Is
 use Rattle.placement_core.specs.Lawful.{IsLawful}
 use Rattle.placement_core.specs.Shards.{Shard, nodes_of}
 use Rattle.placement_plan.specs.First.{IsFirstPlacement}
-use Rattle.cluster_core.specs.Earlier.{GivesTenure, HasTenure}
-use Rattle.cluster_core.specs.Lists.{At}
-use Rattle.cluster_core.specs.declared.event.Event.{Event}
-use Rattle.cluster_core.specs.declared.event.Event.TheVariants as event
+use Rattle.cluster_members.specs.cluster_core.Earlier.{GivesTenure, HasTenure}
+use Rattle.cluster_members.specs.cluster_core.Lists.{At}
+use Rattle.cluster_members.specs.cluster_core.declared.event.Event.{Event}
+use Rattle.cluster_members.specs.cluster_core.declared.event.Event.TheVariants as event
 use Rattle.placement_core.proofs.ListLemmas.{Any-from_IsIn, at_within}
-use Rattle.replica_exchange.specs.declared.slot.Slot.{Slot}
-use Rattle.session_net.specs.Runs.{slot_at}
+use Rattle.cluster_members.specs.replica_exchange.declared.slot.Slot.{Slot}
+use Rattle.cluster_members.specs.session_net.Runs.{slot_at}
 use Rattle.first_cluster.specs.Slots.{slots_from, slots_of, slots_in, start_at, starts_from, starts_of}
 use Rattle.first_cluster.specs.declared.start.Start.{Start}
 use Rattle.first_cluster.proofs.ListLemmas.{append_nil, take_at, take_whole}

@@ -4,9 +4,9 @@ use Rattle.std.specs.Prelude.{None}
 use Rattle.std.specs.FinMap.{get, remove, get-remove}
 use Rattle.std.specs.Ordering.{eq_by_cmp}
 use Rattle.m3_outside.specs.declared.slot.DiskSlot.{DiskSlot}
-use Rattle.replica_exchange.specs.declared.slot.Slot.{Slot}
-use Rattle.replica_calls.specs.Slots.{MemberMap, slot_cmp}
-use Rattle.replica_calls.proofs.SlotLemmas.{slot_cmp_total, same_slot}
+use Rattle.cluster_members.specs.replica_exchange.declared.slot.Slot.{Slot}
+use Rattle.cluster_members.specs.replica_calls.Slots.{MemberMap, slot_cmp}
+use Rattle.cluster_members.proofs.replica_calls_proofs.SlotLemmas.{slot_cmp_total, same_slot}
 use Rattle.first_cluster.specs.Depots.{disk_slot_of}
 use Rattle.first_cluster.proofs.SlotLists.{own_slot}
 

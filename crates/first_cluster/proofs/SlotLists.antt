@@ -13,10 +13,10 @@ use Rattle.placement_core.specs.Lawful.{IsLawful}
 use Rattle.placement_core.specs.Shards.{Shard, nodes_of, shard_at}
 use Rattle.transcripts.specs.Placements.{has_replica}
 use Rattle.placement_core.proofs.OrderLemmas.{ascends-map}
-use Rattle.replica_calls.specs.Slots.{slot_cmp}
-use Rattle.session_net.specs.Runs.{slot_at}
-use Rattle.replica_exchange.specs.declared.slot.Slot.{Slot}
-use Rattle.replica_calls.proofs.SlotLemmas.{same_slot, slot_cmp_total}
+use Rattle.cluster_members.specs.replica_calls.Slots.{slot_cmp}
+use Rattle.cluster_members.specs.session_net.Runs.{slot_at}
+use Rattle.cluster_members.specs.replica_exchange.declared.slot.Slot.{Slot}
+use Rattle.cluster_members.proofs.replica_calls_proofs.SlotLemmas.{same_slot, slot_cmp_total}
 use Rattle.first_cluster.specs.Slots.{AreApart, slots_from, slots_of}
 use Rattle.first_cluster.proofs.ListLemmas.{ascends_append, any_of, ascends_on}
 

@@ -7,9 +7,9 @@ use Rattle.m3_model.proofs.MemberLemmas.{IsIn-append_cases, IsIn-append_left, Is
 use Rattle.m3_outside.specs.Causes.{Rose, last_count}
 use Rattle.m3_outside.specs.DiskState.{DiskState, IsEmpty}
 use Rattle.m3_outside.specs.Slots.{MayGive, Out}
-use Rattle.replica_exchange.specs.declared.slot.Slot.{Slot}
-use Rattle.replica_calls.specs.Calls.{first_member}
-use Rattle.replica_calls.specs.Slots.{MemberMap, slot_cmp}
+use Rattle.cluster_members.specs.replica_exchange.declared.slot.Slot.{Slot}
+use Rattle.cluster_members.specs.replica_calls.Calls.{first_member}
+use Rattle.cluster_members.specs.replica_calls.Slots.{MemberMap, slot_cmp}
 use Rattle.m3_outside.specs.Depots.{Depot}
 use Rattle.first_cluster.specs.Depots.{disk_slot_of}
 use Rattle.first_cluster.specs.Slots.{AreApart}

@@ -5,10 +5,10 @@ use Rattle.std.specs.FinMap.{get, insert}
 use Rattle.m3_outside.specs.DiskState.{DiskState, IsEmpty}
 use Rattle.m3_outside.specs.Slots.{Here, Out, MayGive, OthersStay}
 use Rattle.m3_outside.specs.declared.slot.DiskSlot.{DiskSlot}
-use Rattle.replica_exchange.specs.declared.slot.Slot.{Slot}
-use Rattle.replica_calls.specs.Calls.{first_member}
-use Rattle.replica_calls.specs.Slots.{MemberMap}
-use Rattle.replica_calls.proofs.SlotLemmas.{get-insert_here, get-insert_other}
+use Rattle.cluster_members.specs.replica_exchange.declared.slot.Slot.{Slot}
+use Rattle.cluster_members.specs.replica_calls.Calls.{first_member}
+use Rattle.cluster_members.specs.replica_calls.Slots.{MemberMap}
+use Rattle.cluster_members.proofs.replica_calls_proofs.SlotLemmas.{get-insert_here, get-insert_other}
 use Rattle.m3_outside.specs.Depots.{Depot}
 use Rattle.first_cluster.specs.Depots.{disk_slot_of}
 use Rattle.first_cluster.specs.Lending.{IsUntouched, IsGivenBack, IsNewlyTaken, KeepsOthers}

@@ -10,7 +10,7 @@ use Rattle.m3_outside.specs.Files.{Files}
 use Rattle.m3_outside.specs.Slots.{Held, Unused, Here, Out}
 use Rattle.m3_outside.specs.declared.disk.Disk.{Ghosts}
 use Rattle.m3_outside.specs.declared.slot.DiskSlot.{DiskSlot}
-use Rattle.shard_files.specs.FilesHold.{FilesHold}
+use Rattle.cluster_members.specs.shard_files.FilesHold.{FilesHold}
 use Rattle.cluster_members.specs.declared.members.Members.{Members}
 use Rattle.first_cluster.specs.Begins.{Said}
 use Rattle.first_cluster.specs.First.{IsFirst}

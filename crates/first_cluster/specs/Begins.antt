@@ -6,19 +6,19 @@ use Rattle.m3_model.specs.Members.{IsIn}
 use Rattle.m3_model.specs.declared.reason.Reason.{Reason}
 use Rattle.m3_model.specs.declared.reason.Reason.TheVariants as reason
 use Rattle.m3_outside.specs.DiskState.{DiskState}
-use Rattle.cluster_core.specs.declared.event.Event.{Event}
-use Rattle.cluster_core.specs.declared.event.StepCall.TheVariants as call
-use Rattle.cluster_core.specs.declared.event.StepReply.{StepReply}
-use Rattle.cluster_core.specs.declared.event.StepReply.TheVariants as reply
-use Rattle.replica_machine.specs.Steps.{reply_by}
-use Rattle.replica_machine.specs.declared.machine.Began.{Began}
-use Rattle.replica_exchange.specs.Promises.{Begins}
-use Rattle.replica_exchange.specs.declared.member.Member.{Member}
-use Rattle.replica_exchange.specs.declared.slot.Slot.{Slot}
-use Rattle.replica_calls.specs.Calls.{Tracked}
-use Rattle.replica_calls.specs.Slots.{MemberMap}
-use Rattle.session_net.specs.Messages.{exchange}
-use Rattle.session_net.specs.Runs.{Ran}
+use Rattle.cluster_members.specs.cluster_core.declared.event.Event.{Event}
+use Rattle.cluster_members.specs.cluster_core.declared.event.StepCall.TheVariants as call
+use Rattle.cluster_members.specs.cluster_core.declared.event.StepReply.{StepReply}
+use Rattle.cluster_members.specs.cluster_core.declared.event.StepReply.TheVariants as reply
+use Rattle.cluster_members.specs.replica_machine.Steps.{reply_by}
+use Rattle.cluster_members.specs.replica_machine.declared.machine.Began.{Began}
+use Rattle.cluster_members.specs.replica_exchange.Promises.{Begins}
+use Rattle.cluster_members.specs.replica_exchange.declared.member.Member.{Member}
+use Rattle.cluster_members.specs.replica_exchange.declared.slot.Slot.{Slot}
+use Rattle.cluster_members.specs.replica_calls.Calls.{Tracked}
+use Rattle.cluster_members.specs.replica_calls.Slots.{MemberMap}
+use Rattle.cluster_members.specs.session_net.Messages.{exchange}
+use Rattle.cluster_members.specs.session_net.Runs.{Ran}
 use Rattle.first_cluster.specs.declared.start.Start.{Start}
 
 -- What a replica says of its begin.

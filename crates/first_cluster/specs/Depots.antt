@@ -8,9 +8,9 @@ use Rattle.m3_outside.specs.DiskState.{DiskState}
 use Rattle.m3_outside.specs.Slots.{Held, Out}
 use Rattle.m3_outside.specs.declared.disk.Disk.{Ghosts}
 use Rattle.m3_outside.specs.declared.slot.DiskSlot.{DiskSlot}
-use Rattle.replica_exchange.specs.declared.member.Member.{Member}
-use Rattle.replica_exchange.specs.declared.slot.Slot.{Slot}
-use Rattle.replica_calls.specs.Slots.{MemberMap}
+use Rattle.cluster_members.specs.replica_exchange.declared.member.Member.{Member}
+use Rattle.cluster_members.specs.replica_exchange.declared.slot.Slot.{Slot}
+use Rattle.cluster_members.specs.replica_calls.Slots.{MemberMap}
 use Rattle.cluster_members.specs.declared.members.Members.{Members}
 use Rattle.first_cluster.specs.Slots.{AreApart}
 

@@ -15,10 +15,10 @@ use Rattle.net_plan.specs.Fates.{fates_of}
 use Rattle.placement_core.specs.Lawful.{IsLawful}
 use Rattle.placement_plan.specs.First.{IsFirstPlacement, IsInitial, RefusesInitial}
 use Rattle.placement_plan.specs.declared.plan_err.PlaceErr.TheVariants as refused
-use Rattle.cluster_core.specs.declared.event.Event.{Event}
-use Rattle.cluster_core.specs.declared.event.Event.TheVariants as event
-use Rattle.replica_exchange.specs.declared.slot.Slot.{Slot}
-use Rattle.session_net.specs.Runs.{slot_at}
+use Rattle.cluster_members.specs.cluster_core.declared.event.Event.{Event}
+use Rattle.cluster_members.specs.cluster_core.declared.event.Event.TheVariants as event
+use Rattle.cluster_members.specs.replica_exchange.declared.slot.Slot.{Slot}
+use Rattle.cluster_members.specs.session_net.Runs.{slot_at}
 use Rattle.cluster_members.specs.declared.members.Members.{Members}
 use Rattle.first_cluster.specs.Lending.{AreOpened, HasReturned}
 use Rattle.first_cluster.specs.Slots.{slots_in, slots_of, starts_of}

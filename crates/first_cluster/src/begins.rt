@@ -3,18 +3,18 @@ ghost use Rattle.std.specs.Prelude.{◌≡◌, ◌≢◌, ◌*◌, None, Err, le
 ghost use Rattle.std.specs.FinMap as finite;
 ghost use Rattle.m3_model.specs.Members.{IsIn};
 ghost use Rattle.m3_model.specs.declared.reason.Reason.TheVariants as reason;
-ghost use Rattle.cluster_core.specs.Earlier.{HasTenure};
-ghost use Rattle.replica_exchange.specs.MachineCalls.{HasRoom};
-ghost use Rattle.replica_exchange.specs.declared.call_err.CallErr.TheVariants as call_err;
+ghost use Rattle.cluster_members.specs.cluster_core.Earlier.{HasTenure};
+ghost use Rattle.cluster_members.specs.replica_exchange.MachineCalls.{HasRoom};
+ghost use Rattle.cluster_members.specs.replica_exchange.declared.call_err.CallErr.TheVariants as call_err;
 ghost use Rattle.first_cluster.specs.Begins.{WantedMemory, WasBegun, HaveBegun, HaveSomeBegun};
 ghost use Rattle.first_cluster.specs.Slots.{AreApart, slots_in};
 ghost use Rattle.first_cluster.specs.declared.start.Start.{Start as AtStart};
 
 use crate::start::Start;
+use cluster_members::replica_calls::Replicas;
+use cluster_members::replica_exchange::CallErr;
 use m3_model::{Memory, Reason};
 use m3_outside::Disk;
-use replica_calls::Replicas;
-use replica_exchange::CallErr;
 
 // What is counted of the answer of a begin: only want of memory is a refusal.
 fn only_memory(answer: Result<(), CallErr>) -> Result<(), Memory>

@@ -3,7 +3,7 @@ ghost use Rattle.std.specs.Prelude.{◌≡◌, ◌≢◌, ◌<◌, length, IfOk,
 ghost use Rattle.m3_model.specs.Limits.{IsInit};
 ghost use Rattle.m3_outside.specs.Slots.{Out};
 ghost use Rattle.m3_outside.specs.declared.slot.DiskSlot.{DiskSlot};
-ghost use Rattle.session_net.specs.Ready.{IsReady};
+ghost use Rattle.cluster_members.specs.session_net.Ready.{IsReady};
 ghost use Rattle.first_cluster.specs.Depots.{AreOut, depot_by};
 ghost use Rattle.first_cluster.specs.First.{IsFirst, IsDiskAnswer, IsRefusedInit};
 
@@ -11,12 +11,12 @@ use crate::lending::opened;
 use crate::plan::planned;
 use crate::unopened::Unopened;
 use cluster_members::Members;
+use cluster_members::replica_exchange::Slot;
+use cluster_members::session_net::Net;
 use m3_model::{Answer, Duplicate, Placement, Seq, Text};
 use m3_outside::{Disk, Disks};
 use net_plan::Fates;
 use placement_plan::PlaceErr;
-use replica_exchange::Slot;
-use session_net::Net;
 use std::alloc::Global;
 
 // That the disk of the slot couldn't be taken.

@@ -6,11 +6,11 @@ ghost use Rattle.first_cluster.specs.First.{IsPlan};
 ghost use Rattle.first_cluster.specs.Slots.{slots_in, starts_of};
 
 use crate::start::Start;
+use cluster_members::replica_exchange::Slot;
 use first_placement::initial::initial;
 use m3_model::{Duplicate, Memory, MetaState, Placement, Rules, Seq, Text};
 use net_plan::Bag;
 use placement_plan::PlaceErr;
-use replica_exchange::Slot;
 use std::alloc::Global;
 
 // What a cluster is to be.

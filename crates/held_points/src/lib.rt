@@ -9,3 +9,6 @@ mod matching;
 mod ranges;
 
 pub use held::{HeldPoints, hold};
+
+// Libraries that the rows of crates above need not name.
+pub use series_id;

@@ -1,9 +1,9 @@
 -- Isolation groups of nodes, and whether a shard leaves one free.
 use Rattle.std.specs.Prelude.{◌≢◌, ℕ, List, [], slice_get}
 use Rattle.std.specs.Option.{option_map_or}
-use Rattle.m3_model.specs.Members.{IsIn}
-use Rattle.m3_model.specs.declared.placement.Assignment.{Assignment}
-use Rattle.m3_model.specs.declared.placement.Instance.{Instance}
+use Rattle.placement_core.specs.m3_model.Members.{IsIn}
+use Rattle.placement_core.specs.m3_model.declared.placement.Assignment.{Assignment}
+use Rattle.placement_core.specs.m3_model.declared.placement.Instance.{Instance}
 use Rattle.placement_core.specs.Shards.{Shard}
 
 -- the isolation group of the node, empty where there is none

@@ -10,12 +10,12 @@ use Rattle.m3_model.specs.declared.point.Pick.{Pick}
 use Rattle.m3_model.specs.declared.point.Pick.TheVariants as pick
 use Rattle.m3_model.specs.declared.point.Series.{Series}
 use Rattle.m3_model.proofs.MemberLemmas.{IsIn-append_cases, IsIn-append_left, IsIn-append_right}
-use Rattle.m3_outside.specs.Files.{Files}
-use Rattle.wire_bytes.specs.Volumes.{Checkpoint, VolumeHead}
-use Rattle.shard_files.specs.Parts.{KnownVolume, VolumeHolds, part_of}
-use Rattle.shard_files.proofs.PartLemmas.{one_known}
-use Rattle.volume_bytes.specs.declared.heads.Head.{Head}
-use Rattle.volume_bytes.specs.Heads.{head_of}
+use Rattle.volume_points.specs.m3_outside.Files.{Files}
+use Rattle.volume_points.specs.wire_bytes.Volumes.{Checkpoint, VolumeHead}
+use Rattle.volume_points.specs.shard_files.Parts.{KnownVolume, VolumeHolds, part_of}
+use Rattle.volume_points.proofs.shard_files_proofs.PartLemmas.{one_known}
+use Rattle.volume_points.specs.volume_bytes.declared.heads.Head.{Head}
+use Rattle.volume_points.specs.volume_bytes.Heads.{head_of}
 use Rattle.volume_points.specs.Candidates.{AreCandidates}
 use Rattle.volume_points.specs.Picked.{AreAscending}
 use Rattle.block_cache.specs.Blocks.{BlockKey, Blocks, after_forget, after_get, after_put, rows_of, same_block}

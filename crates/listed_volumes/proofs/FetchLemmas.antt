@@ -8,13 +8,13 @@ use Rattle.m3_model.specs.Members.{IsIn}
 use Rattle.m3_model.specs.declared.point.Pick.{Pick}
 use Rattle.m3_model.specs.declared.point.Point.{Point}
 use Rattle.m3_model.specs.declared.point.Series.{Series}
-use Rattle.m3_outside.specs.Files.{Files}
-use Rattle.wire_bytes.specs.Volumes.{points_of_rows}
-use Rattle.shard_files.specs.Parts.{KnownVolume, VolumeHolds}
-use Rattle.shard_files.specs.FilesHold.{volume_points}
-use Rattle.fileset_read.specs.declared.file_err.FileErr.{FileErr}
-use Rattle.volume_bytes.specs.Heads.{head_of}
-use Rattle.series_merge.specs.Merges.{IsMergeOf}
+use Rattle.volume_points.specs.m3_outside.Files.{Files}
+use Rattle.volume_points.specs.wire_bytes.Volumes.{points_of_rows}
+use Rattle.volume_points.specs.shard_files.Parts.{KnownVolume, VolumeHolds}
+use Rattle.volume_points.specs.shard_files.FilesHold.{volume_points}
+use Rattle.volume_points.specs.fileset_read.declared.file_err.FileErr.{FileErr}
+use Rattle.volume_points.specs.volume_bytes.Heads.{head_of}
+use Rattle.volume_points.specs.series_merge.Merges.{IsMergeOf}
 use Rattle.volume_points.proofs.AnswerLemmas.{nothing_found}
 use Rattle.volume_points.proofs.KnownLemmas.{in_drop, in_take}
 use Rattle.volume_points.proofs.ReadLemmas.{answer_both}

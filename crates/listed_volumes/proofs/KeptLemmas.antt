@@ -3,13 +3,13 @@ use Rattle.std.proofs.Common.{◌≡◌, ◌∙◌, List, length, Option, Some, 
 use Rattle.std.specs.Prelude.{None, IfSome, option_map}
 use Rattle.std.specs.Option.{option_copied}
 use Rattle.m3_model.specs.declared.point.Series.{Series}
-use Rattle.m3_outside.specs.Files.{Files}
-use Rattle.wire_bytes.specs.Volumes.{Bloom, Index, Summaries}
-use Rattle.shard_files.specs.Parts.{VolumeHolds}
-use Rattle.volume_bytes.specs.declared.heads.Head.{Head}
-use Rattle.volume_bytes.specs.Heads.{head_of}
-use Rattle.volume_rows.specs.declared.seeker.Seeker.{Seeker}
-use Rattle.volume_rows.specs.Seekers.{IsSeekerOf}
+use Rattle.volume_points.specs.m3_outside.Files.{Files}
+use Rattle.volume_points.specs.wire_bytes.Volumes.{Bloom, Index, Summaries}
+use Rattle.volume_points.specs.shard_files.Parts.{VolumeHolds}
+use Rattle.volume_points.specs.volume_bytes.declared.heads.Head.{Head}
+use Rattle.volume_points.specs.volume_bytes.Heads.{head_of}
+use Rattle.volume_points.specs.volume_rows.declared.seeker.Seeker.{Seeker}
+use Rattle.volume_points.specs.volume_rows.Seekers.{IsSeekerOf}
 use Rattle.listed_volumes.specs.Kept.{HasSeeker}
 
 -- it is what the volume's files have

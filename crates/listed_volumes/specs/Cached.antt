@@ -4,11 +4,11 @@ use Rattle.m3_model.specs.Members.{IsIn}
 use Rattle.m3_model.specs.declared.point.Pick.{Pick}
 use Rattle.m3_model.specs.declared.point.Pick.TheVariants as pick
 use Rattle.m3_model.specs.declared.point.Series.{Series}
-use Rattle.m3_outside.specs.Files.{Files}
-use Rattle.wire_bytes.specs.Volumes.{VolumeHead}
-use Rattle.shard_files.specs.Parts.{KnownVolume}
-use Rattle.volume_bytes.specs.declared.heads.Head.{Head}
-use Rattle.volume_bytes.specs.Heads.{head_of}
+use Rattle.volume_points.specs.m3_outside.Files.{Files}
+use Rattle.volume_points.specs.wire_bytes.Volumes.{VolumeHead}
+use Rattle.volume_points.specs.shard_files.Parts.{KnownVolume}
+use Rattle.volume_points.specs.volume_bytes.declared.heads.Head.{Head}
+use Rattle.volume_points.specs.volume_bytes.Heads.{head_of}
 use Rattle.volume_points.specs.Picked.{AreAscending, IsSelectionOf}
 use Rattle.block_cache.specs.Blocks.{BlockKey, Blocks, no_blocks, rows_of}
 use Rattle.listed_volumes.specs.Listed.{AreHeld}

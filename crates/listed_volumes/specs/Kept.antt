@@ -1,8 +1,8 @@
 -- What is kept of a volume for look-ups.
 use Rattle.std.specs.Prelude.{◌≡◌, List, length, Option, IfSome}
 use Rattle.m3_model.specs.declared.point.Series.{Series}
-use Rattle.wire_bytes.specs.Volumes.{bloom_bytes, index_bytes, summaries_bytes}
-use Rattle.volume_rows.specs.declared.seeker.Seeker.{Seeker}
+use Rattle.volume_points.specs.wire_bytes.Volumes.{bloom_bytes, index_bytes, summaries_bytes}
+use Rattle.volume_points.specs.volume_rows.declared.seeker.Seeker.{Seeker}
 
 -- it has the bloom filter and the summaries of a volume of these rows, and the size of its index
 abbrev pub IsOfRows : List Series → Seeker → Type 0

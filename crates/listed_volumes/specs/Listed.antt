@@ -1,9 +1,9 @@
 -- The volumes of a list.
 use Rattle.std.specs.Prelude.{List, map, IsSome}
 use Rattle.m3_model.specs.Members.{IsIn}
-use Rattle.m3_outside.specs.Files.{Files}
-use Rattle.shard_files.specs.Parts.{KnownVolume, VolumeHolds}
-use Rattle.volume_bytes.specs.Heads.{head_of}
+use Rattle.volume_points.specs.m3_outside.Files.{Files}
+use Rattle.volume_points.specs.shard_files.Parts.{KnownVolume, VolumeHolds}
+use Rattle.volume_points.specs.volume_bytes.Heads.{head_of}
 use Rattle.listed_volumes.specs.declared.volume.ListedVolume.{ListedVolume}
 
 -- the volume, as it is known

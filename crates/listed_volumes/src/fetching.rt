@@ -2,26 +2,26 @@ ghost use Rattle.std.specs.Prelude.{◌≡◌, [], ◌∷◌, true, IfOk, IfErr,
 ghost use Rattle.m3_model.specs.Answers.{IsAnswer};
 ghost use Rattle.m3_model.specs.Contents.{content_of};
 ghost use Rattle.m3_model.specs.Reads.{IsOrdered, space_picked};
-ghost use Rattle.m3_outside.specs.Causes.{CountsFaults};
-ghost use Rattle.m3_outside.specs.DiskState.{DiskState, Told};
-ghost use Rattle.m3_outside.specs.DiskCalls.{LeavesFiles};
-ghost use Rattle.wire_bytes.specs.Volumes.{points_of_rows};
-ghost use Rattle.shard_files.specs.Parts.{VolumeHolds};
-ghost use Rattle.shard_files.specs.FilesHold.{volume_points};
-ghost use Rattle.volume_bytes.specs.Heads.{head_of};
-ghost use Rattle.fileset_read.specs.Volumes.{IsUndamaged};
-ghost use Rattle.fileset_read.specs.declared.file_err.FileErr.TheVariants as failures;
-ghost use Rattle.series_merge.specs.Merges.{IsMergeOf};
+ghost use Rattle.volume_points.specs.m3_outside.Causes.{CountsFaults};
+ghost use Rattle.volume_points.specs.m3_outside.DiskState.{DiskState, Told};
+ghost use Rattle.volume_points.specs.m3_outside.DiskCalls.{LeavesFiles};
+ghost use Rattle.volume_points.specs.wire_bytes.Volumes.{points_of_rows};
+ghost use Rattle.volume_points.specs.shard_files.Parts.{VolumeHolds};
+ghost use Rattle.volume_points.specs.shard_files.FilesHold.{volume_points};
+ghost use Rattle.volume_points.specs.volume_bytes.Heads.{head_of};
+ghost use Rattle.volume_points.specs.fileset_read.Volumes.{IsUndamaged};
+ghost use Rattle.volume_points.specs.fileset_read.declared.file_err.FileErr.TheVariants as failures;
+ghost use Rattle.volume_points.specs.series_merge.Merges.{IsMergeOf};
 ghost use Rattle.listed_volumes.specs.Listed.{AreHeld, known_as, known_in};
 ghost use Rattle.listed_volumes.specs.Cached.{AreRight, IsMatch, StayOfVolumes, StayRight};
 
 use crate::row_cache::RowCache;
 use crate::volume::ListedVolume;
-use fileset_read::FileErr;
 use m3_model::{Pick, Seq, Series};
-use m3_outside::Disk;
-use series_merge::merge;
 use std::alloc::Global;
+use volume_points::fileset_read::FileErr;
+use volume_points::m3_outside::Disk;
+use volume_points::series_merge::merge;
 use volume_points::{checked_rows, may_meet, read_volume, select_from};
 
 // What one volume, which may have some of them, has of the points that a match asks for. Its rows are read, and kept.

@@ -1,16 +1,16 @@
 ghost use Rattle.std.specs.Prelude.{◌≡◌, IfOk, IsSome};
-ghost use Rattle.wire_bytes.specs.Volumes.{IsVolume};
-ghost use Rattle.volume_bytes.specs.Heads.{head_of};
+ghost use Rattle.volume_points.specs.wire_bytes.Volumes.{IsVolume};
+ghost use Rattle.volume_points.specs.volume_bytes.Heads.{head_of};
 ghost use Rattle.listed_volumes.specs.Kept.{HasSeeker, IsOfRows};
 ghost use Rattle.listed_volumes.specs.Listed.{IsReady, known_as};
 
 use crate::volume::ListedVolume;
-use fileset_check::is_volume;
 use m3_model::{Memory, Seq, Series};
 use std::alloc::Global;
 use std::snapshot::Snapshot;
-use volume_bytes::{Head, Tables, bloom_filter, tables_of};
-use volume_rows::Seeker;
+use volume_points::fileset_check::is_volume;
+use volume_points::volume_bytes::{Head, Tables, bloom_filter, tables_of};
+use volume_points::volume_rows::Seeker;
 
 // The seeker of a volume of this head and these rows.
 fn seeker_from(alloc: Global, head: &Head, rows: &[Series]) -> Result<Seeker, Memory>

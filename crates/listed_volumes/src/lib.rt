@@ -12,3 +12,8 @@ pub use keeping::list_volume;
 pub use row_cache::RowCache;
 pub use volume::ListedVolume;
 pub use volume_points::{BlockErr, block_rows, join, read};
+
+// Libraries that the rows of crates above need not name.
+pub use volume_points::{
+    commit_log, fileset_read, held_points, series_id, shard_files, volume_bytes, wire_bytes,
+};

@@ -1,7 +1,7 @@
 //! The rows of the volumes that were matched last.
 ghost use Rattle.std.specs.Prelude.{◌≡◌, ◌⊎◌, is_some, [], ◌∷◌, None, IfOk, IfSome};
 ghost use Rattle.m3_model.specs.Reads.{IsOrdered};
-ghost use Rattle.volume_bytes.specs.Heads.{head_of};
+ghost use Rattle.volume_points.specs.volume_bytes.Heads.{head_of};
 ghost use Rattle.block_cache.specs.Blocks.{no_blocks, rows_of, after_forget, after_get, after_put};
 ghost use Rattle.volume_points.specs.Picked.{AreAscending};
 ghost use Rattle.listed_volumes.specs.Cached.{HasForgotten, IsFoundInRows, blocks_in, cache_key};
@@ -10,8 +10,8 @@ use block_cache::Cache;
 use m3_model::{Memory, Pick, Seq, Series};
 use std::alloc::Global;
 use std::marker::Model;
-use volume_bytes::Head;
 use volume_points::select_from;
+use volume_points::volume_bytes::Head;
 
 /// At most so many volumes have their rows kept.
 const MOST_BLOCKS: usize = 64;

@@ -1,6 +1,6 @@
 -- What stands at an offset in the first bytes of a segment.
 use Rattle.std.specs.Prelude.{◌≡◌, ℕ, ◌+◌, ◌<◌, List, length}
-use Rattle.m3_model.specs.declared.limits.TheConstants.{SEGMENT_BYTES}
+use Rattle.wire_bytes.specs.m3_model.declared.limits.TheConstants.{SEGMENT_BYTES}
 use Rattle.wire_bytes.specs.Fields.{Stands, Begins, StopsAt}
 use Rattle.log_chunks.specs.Segment.{chunk_bytes, ReadsChunks, IsSegment}
 use Rattle.log_chunks.specs.declared.chunk_read.ChunkAt.{ChunkAt}

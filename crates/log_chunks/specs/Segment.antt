@@ -2,7 +2,7 @@
 use Rattle.std.specs.Prelude.{◌≡◌, ◌⊎◌, ⊤, ℕ, ◌+◌, ◌-◌, ◌<◌, ◌≤◌, List, [], ◌∷◌, ◌++◌, length, replicate, Some}
 use Rattle.std.specs.FinMap.{get}
 use Rattle.byteorder.specs.Endian.{big_bytes}
-use Rattle.m3_model.specs.declared.limits.TheConstants.{SEGMENT_BYTES}
+use Rattle.wire_bytes.specs.m3_model.declared.limits.TheConstants.{SEGMENT_BYTES}
 use Rattle.m3_outside.specs.declared.file_name.FileName.{FileName}
 use Rattle.m3_outside.specs.Files.{Files}
 use Rattle.m3_outside.specs.DiskState.{DiskState, Told, EachImage}

@@ -1,10 +1,10 @@
 ghost use Rattle.std.specs.Prelude.{◌≡◌, ℕ, ◌≤◌, List, length, take};
-ghost use Rattle.m3_model.specs.declared.limits.TheConstants.{SEGMENT_BYTES};
+ghost use Rattle.wire_bytes.specs.m3_model.declared.limits.TheConstants.{SEGMENT_BYTES};
 ghost use Rattle.log_chunks.specs.Segment.{written};
 ghost use Rattle.log_chunks.specs.Offsets.{IsNext};
 
 use crate::head::{HEAD_BYTES, OPEN};
-use m3_model::limits::SEGMENT_BYTES;
+use wire_bytes::m3_model::limits::SEGMENT_BYTES;
 use wire_bytes::{WireErr, get_between};
 
 /// What stands at an offset in the first bytes of a segment.

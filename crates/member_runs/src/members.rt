@@ -7,15 +7,15 @@ ghost use Rattle.m3_outside.specs.declared.slot.DiskSlot.{DiskSlot};
 ghost use Rattle.node_calls.specs.Halts.{AreManned};
 ghost use Rattle.member_runs.specs.Ready.{IsReadyCluster};
 
-use cluster_members::{Members, Range};
 use cluster_upkeep::{flush, status, tick};
 use cluster_words::{act_of, spell, three_nodes};
 use first_cluster::first_members;
 use m3_model::{Act, Answer, Memory, Space, Text};
 use m3_outside::{Disk, Disks};
+use node_calls::cluster_members::{Members, Range};
+use node_calls::replica_calls::Replicas;
+use node_calls::replica_exchange::{CallId, Slot};
 use node_calls::{bootstrap, deliver, restart, set_fates, stop};
-use replica_calls::Replicas;
-use replica_exchange::{CallId, Slot};
 use std::alloc::Global;
 
 // Whether each slot has a replica.

@@ -14,31 +14,31 @@ use Rattle.m3_model.specs.declared.reason.Reason.{Reason}
 use Rattle.m3_model.specs.declared.reason.Reason.TheVariants as reason
 use Rattle.m3_outside.specs.DiskState.{DiskState}
 use Rattle.m3_model.proofs.MemberLemmas.{map-IsIn}
-use Rattle.placement_core.specs.Shards.{Shard, nodes_of, shard_at}
-use Rattle.placement_core.proofs.ListLemmas.{Any-from_IsIn}
+use Rattle.cluster_members.specs.placement_core.Shards.{Shard, nodes_of, shard_at}
+use Rattle.cluster_members.proofs.placement_core_proofs.ListLemmas.{Any-from_IsIn}
 use Rattle.transcripts.specs.Waiting.{is_covering}
-use Rattle.cluster_core.specs.Earlier.{GivesTenure, HasTenure, last_place, place_after}
-use Rattle.cluster_core.specs.Lists.{At}
-use Rattle.cluster_core.specs.declared.event.Event.{Event}
-use Rattle.cluster_core.specs.declared.event.Event.TheVariants as event
-use Rattle.cluster_core.specs.declared.event.StepCall.TheVariants as call
-use Rattle.cluster_core.specs.declared.event.StepReply.{StepReply}
-use Rattle.cluster_core.specs.declared.event.StepReply.TheVariants as reply
-use Rattle.replica_machine.specs.Boots.{IsBootReason}
-use Rattle.replica_machine.specs.Machines.{MachineState}
-use Rattle.replica_machine.specs.declared.machine.Began.{Began}
-use Rattle.replica_exchange.specs.MachineCalls.{HasRoom}
-use Rattle.replica_exchange.specs.Promises.{Begins}
-use Rattle.replica_exchange.specs.declared.call_err.CallErr.{CallErr}
-use Rattle.replica_exchange.specs.declared.call_err.CallErr.TheVariants as call_err
-use Rattle.replica_exchange.specs.declared.member.Member.{Member}
-use Rattle.replica_exchange.specs.declared.slot.Slot.{Slot}
-use Rattle.replica_calls.specs.Calls.{AreMembersOf, MayCall, Tracked}
-use Rattle.replica_calls.specs.Slots.{MemberMap}
-use Rattle.session_net.specs.Messages.{exchange}
-use Rattle.session_net.specs.Runs.{IsStepped, Ran, slot_at, steps_of}
-use Rattle.session_net.proofs.ReadyLemmas.{AreQuiet, IsQuiet, place_there, quiet_both, room_after}
-use Rattle.session_net.proofs.RunLemmas.{ran_nothing, ran_then}
+use Rattle.cluster_members.specs.cluster_core.Earlier.{GivesTenure, HasTenure, last_place, place_after}
+use Rattle.cluster_members.specs.cluster_core.Lists.{At}
+use Rattle.cluster_members.specs.cluster_core.declared.event.Event.{Event}
+use Rattle.cluster_members.specs.cluster_core.declared.event.Event.TheVariants as event
+use Rattle.cluster_members.specs.cluster_core.declared.event.StepCall.TheVariants as call
+use Rattle.cluster_members.specs.cluster_core.declared.event.StepReply.{StepReply}
+use Rattle.cluster_members.specs.cluster_core.declared.event.StepReply.TheVariants as reply
+use Rattle.cluster_members.specs.replica_machine.Boots.{IsBootReason}
+use Rattle.cluster_members.specs.replica_machine.Machines.{MachineState}
+use Rattle.cluster_members.specs.replica_machine.declared.machine.Began.{Began}
+use Rattle.cluster_members.specs.replica_exchange.MachineCalls.{HasRoom}
+use Rattle.cluster_members.specs.replica_exchange.Promises.{Begins}
+use Rattle.cluster_members.specs.replica_exchange.declared.call_err.CallErr.{CallErr}
+use Rattle.cluster_members.specs.replica_exchange.declared.call_err.CallErr.TheVariants as call_err
+use Rattle.cluster_members.specs.replica_exchange.declared.member.Member.{Member}
+use Rattle.cluster_members.specs.replica_exchange.declared.slot.Slot.{Slot}
+use Rattle.cluster_members.specs.replica_calls.Calls.{AreMembersOf, MayCall, Tracked}
+use Rattle.cluster_members.specs.replica_calls.Slots.{MemberMap}
+use Rattle.cluster_members.specs.session_net.Messages.{exchange}
+use Rattle.cluster_members.specs.session_net.Runs.{IsStepped, Ran, slot_at, steps_of}
+use Rattle.cluster_members.proofs.session_net_proofs.ReadyLemmas.{AreQuiet, IsQuiet, place_there, quiet_both, room_after}
+use Rattle.cluster_members.proofs.session_net_proofs.RunLemmas.{ran_nothing, ran_then}
 use Rattle.node_calls.specs.Begins.{ArePassed, AreBegun, Assigned, Begun, EndsBoots, IsPassed, IsUnbegun, assigned_at, assigned_below, assigned_by, begin_at, tenure_in}
 use Rattle.node_calls.specs.Boots.{BreaksBegins, EndsBegins, IsBeginTried, IsShardTried}
 use Rattle.node_calls.specs.declared.refused.Refused.{Refused}

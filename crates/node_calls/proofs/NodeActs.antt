@@ -8,7 +8,7 @@ use Rattle.m3_model.specs.declared.reason.Reason.{Reason}
 use Rattle.m3_model.specs.declared.reason.Reason.TheVariants as reason
 use Rattle.m3_outside.specs.DiskState.{DiskState}
 use Rattle.m3_outside.specs.declared.disk.Disk.{Ghosts}
-use Rattle.placement_core.proofs.ListLemmas.{at_index}
+use Rattle.cluster_members.proofs.placement_core_proofs.ListLemmas.{at_index}
 use Rattle.cluster_members.specs.Names.{node_named}
 use Rattle.node_calls.specs.Boots.{refused_answer, IsNumberOf}
 use Rattle.node_calls.specs.Nodes.{IsNode, IsUnstarted, IsRestarted, HasShard, IsNoShard, IsHeldUp, IsBootstrapAnswer}

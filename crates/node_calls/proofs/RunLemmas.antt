@@ -9,25 +9,25 @@ use Rattle.m3_model.specs.declared.reason.Reason.{Reason}
 use Rattle.m3_model.specs.declared.rules.MetaState.{MetaState}
 use Rattle.m3_model.proofs.Lists.{IsIn-flat_map}
 use Rattle.m3_outside.specs.DiskState.{DiskState}
-use Rattle.cluster_core.specs.declared.event.Event.{Event}
-use Rattle.cluster_core.specs.declared.event.StepCall.{StepCall}
-use Rattle.cluster_core.specs.declared.event.StepCall.TheVariants as call
-use Rattle.cluster_core.specs.declared.event.StepReply.{StepReply}
-use Rattle.cluster_core.specs.declared.event.StepReply.TheVariants as reply
+use Rattle.cluster_members.specs.cluster_core.declared.event.Event.{Event}
+use Rattle.cluster_members.specs.cluster_core.declared.event.StepCall.{StepCall}
+use Rattle.cluster_members.specs.cluster_core.declared.event.StepCall.TheVariants as call
+use Rattle.cluster_members.specs.cluster_core.declared.event.StepReply.{StepReply}
+use Rattle.cluster_members.specs.cluster_core.declared.event.StepReply.TheVariants as reply
 use Rattle.net_plan.specs.declared.late_write.LateWrite.{LateWrite}
-use Rattle.replica_machine.specs.Steps.{reply_by}
-use Rattle.replica_exchange.specs.MachineCalls.{Promise, HasRoom, AddsBoth, result_of}
-use Rattle.replica_exchange.specs.Promises.{Stops, Restarts}
-use Rattle.replica_exchange.specs.declared.call_err.CallErr.{CallErr}
-use Rattle.replica_exchange.specs.declared.call_err.CallErr.TheVariants as call_err
-use Rattle.replica_exchange.specs.declared.member.Member.{Member}
-use Rattle.replica_exchange.specs.declared.slot.Slot.{Slot}
-use Rattle.replica_calls.specs.Calls.{Tracked, IsMissed, MayCall, WasCalled}
-use Rattle.session_net.specs.Messages.{exchange}
-use Rattle.session_net.specs.Ready.{IsReady}
-use Rattle.session_net.specs.Runs.{IsStepped, Ran, steps_of}
-use Rattle.session_net.proofs.ReadyLemmas.{AreQuiet, quiet_both, quiet_delivery, ready_after, room_after}
-use Rattle.session_net.proofs.RunLemmas.{ran_called, ran_then}
+use Rattle.cluster_members.specs.replica_machine.Steps.{reply_by}
+use Rattle.cluster_members.specs.replica_exchange.MachineCalls.{Promise, HasRoom, AddsBoth, result_of}
+use Rattle.cluster_members.specs.replica_exchange.Promises.{Stops, Restarts}
+use Rattle.cluster_members.specs.replica_exchange.declared.call_err.CallErr.{CallErr}
+use Rattle.cluster_members.specs.replica_exchange.declared.call_err.CallErr.TheVariants as call_err
+use Rattle.cluster_members.specs.replica_exchange.declared.member.Member.{Member}
+use Rattle.cluster_members.specs.replica_exchange.declared.slot.Slot.{Slot}
+use Rattle.cluster_members.specs.replica_calls.Calls.{Tracked, IsMissed, MayCall, WasCalled}
+use Rattle.cluster_members.specs.session_net.Messages.{exchange}
+use Rattle.cluster_members.specs.session_net.Ready.{IsReady}
+use Rattle.cluster_members.specs.session_net.Runs.{IsStepped, Ran, steps_of}
+use Rattle.cluster_members.proofs.session_net_proofs.ReadyLemmas.{AreQuiet, quiet_both, quiet_delivery, ready_after, room_after}
+use Rattle.cluster_members.proofs.session_net_proofs.RunLemmas.{ran_called, ran_then}
 use Rattle.node_calls.specs.Boots.{EndsRestarts, IsRestartTried}
 use Rattle.node_calls.specs.Halts.{HaveSameSlots, IsRestartRefusal, IsUnrestarted, restart_at, stop_at}
 use Rattle.node_calls.specs.declared.refused.Refused.{Refused}

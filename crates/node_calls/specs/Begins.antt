@@ -7,21 +7,21 @@ use Rattle.m3_model.specs.declared.reason.Damage.{Damage}
 use Rattle.m3_model.specs.declared.reason.Reason.{Reason}
 use Rattle.m3_model.specs.declared.reason.Reason.TheVariants as reason
 use Rattle.m3_outside.specs.DiskState.{DiskState}
-use Rattle.placement_core.specs.Shards.{Shard, shard_at}
+use Rattle.cluster_members.specs.placement_core.Shards.{Shard, shard_at}
 use Rattle.transcripts.specs.Waiting.{is_covering}
-use Rattle.cluster_core.specs.declared.event.Event.{Event}
-use Rattle.cluster_core.specs.declared.event.StepCall.TheVariants as call
-use Rattle.cluster_core.specs.declared.event.StepReply.{StepReply}
-use Rattle.cluster_core.specs.declared.event.StepReply.TheVariants as reply
-use Rattle.replica_machine.specs.Boots.{MayBeUnowned}
-use Rattle.replica_machine.specs.Damages.{IsFileDamage}
-use Rattle.replica_exchange.specs.MachineCalls.{IsMemberOf}
-use Rattle.replica_exchange.specs.declared.member.Member.{Member}
-use Rattle.replica_exchange.specs.declared.slot.Slot.{Slot}
-use Rattle.replica_calls.specs.Calls.{Tracked}
-use Rattle.replica_calls.specs.Slots.{MemberMap}
-use Rattle.session_net.specs.Messages.{exchange}
-use Rattle.session_net.specs.Runs.{slot_at}
+use Rattle.cluster_members.specs.cluster_core.declared.event.Event.{Event}
+use Rattle.cluster_members.specs.cluster_core.declared.event.StepCall.TheVariants as call
+use Rattle.cluster_members.specs.cluster_core.declared.event.StepReply.{StepReply}
+use Rattle.cluster_members.specs.cluster_core.declared.event.StepReply.TheVariants as reply
+use Rattle.cluster_members.specs.replica_machine.Boots.{MayBeUnowned}
+use Rattle.cluster_members.specs.replica_machine.Damages.{IsFileDamage}
+use Rattle.cluster_members.specs.replica_exchange.MachineCalls.{IsMemberOf}
+use Rattle.cluster_members.specs.replica_exchange.declared.member.Member.{Member}
+use Rattle.cluster_members.specs.replica_exchange.declared.slot.Slot.{Slot}
+use Rattle.cluster_members.specs.replica_calls.Calls.{Tracked}
+use Rattle.cluster_members.specs.replica_calls.Slots.{MemberMap}
+use Rattle.cluster_members.specs.session_net.Messages.{exchange}
+use Rattle.cluster_members.specs.session_net.Runs.{slot_at}
 
 -- ---- what the placement gives the node
 

@@ -5,12 +5,12 @@ use Rattle.std.specs.List.{flat_map}
 use Rattle.m3_model.specs.Members.{IsIn}
 use Rattle.m3_model.specs.declared.reason.Reason.{Reason}
 use Rattle.m3_model.specs.declared.reason.Reason.TheVariants as reason
-use Rattle.cluster_core.specs.declared.event.Event.{Event}
-use Rattle.cluster_core.specs.declared.event.StepCall.TheVariants as call
-use Rattle.cluster_core.specs.declared.event.StepReply.TheVariants as reply
-use Rattle.replica_exchange.specs.declared.slot.Slot.{Slot}
-use Rattle.replica_calls.specs.Calls.{Tracked}
-use Rattle.session_net.specs.Messages.{exchange}
+use Rattle.cluster_members.specs.cluster_core.declared.event.Event.{Event}
+use Rattle.cluster_members.specs.cluster_core.declared.event.StepCall.TheVariants as call
+use Rattle.cluster_members.specs.cluster_core.declared.event.StepReply.TheVariants as reply
+use Rattle.cluster_members.specs.replica_exchange.declared.slot.Slot.{Slot}
+use Rattle.cluster_members.specs.replica_calls.Calls.{Tracked}
+use Rattle.cluster_members.specs.session_net.Messages.{exchange}
 
 -- ---- slots
 

@@ -10,11 +10,11 @@ use Rattle.m3_model.specs.declared.reason.Reason.{Reason}
 use Rattle.m3_model.specs.declared.reason.Reason.TheVariants as reason
 use Rattle.m3_outside.specs.DiskState.{DiskState}
 use Rattle.net_plan.specs.Fates.{Item, fates_of}
-use Rattle.cluster_core.specs.declared.event.Event.{Event}
-use Rattle.replica_exchange.specs.MachineCalls.{HasRoom}
-use Rattle.session_net.specs.Deliveries as late
-use Rattle.session_net.specs.Runs.{Ran}
-use Rattle.session_net.specs.declared.session_err.SessionErr.TheVariants as err
+use Rattle.cluster_members.specs.cluster_core.declared.event.Event.{Event}
+use Rattle.cluster_members.specs.replica_exchange.MachineCalls.{HasRoom}
+use Rattle.cluster_members.specs.session_net.Deliveries as late
+use Rattle.cluster_members.specs.session_net.Runs.{Ran}
+use Rattle.cluster_members.specs.session_net.declared.session_err.SessionErr.TheVariants as err
 use Rattle.cluster_members.specs.Names.{AreNumbered, first_missing, node_named}
 use Rattle.cluster_members.specs.declared.members.Members.{Members}
 use Rattle.node_calls.specs.Begins.{AreBegun, IsUnbegun, assigned_all}

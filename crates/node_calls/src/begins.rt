@@ -2,19 +2,19 @@
 ghost use Rattle.std.specs.Prelude.{◌≡◌, ◌≢◌, ◌*◌, ◌<◌, ◌≤◌, ◌^◌, ℕ, None, Some, length, IfErr, OnOk};
 ghost use Rattle.std.specs.FinMap as finite;
 ghost use Rattle.m3_model.specs.Members.{IsIn};
-ghost use Rattle.placement_core.specs.Shards.{shard_at, nodes_of};
+ghost use Rattle.cluster_members.specs.placement_core.Shards.{shard_at, nodes_of};
 ghost use Rattle.transcripts.specs.Waiting.{is_covering};
-ghost use Rattle.cluster_core.specs.Earlier.{HasTenure, last_place};
-ghost use Rattle.replica_exchange.specs.MachineCalls.{HasRoom};
-ghost use Rattle.session_net.specs.Runs.{slot_at};
+ghost use Rattle.cluster_members.specs.cluster_core.Earlier.{HasTenure, last_place};
+ghost use Rattle.cluster_members.specs.replica_exchange.MachineCalls.{HasRoom};
+ghost use Rattle.cluster_members.specs.session_net.Runs.{slot_at};
 ghost use Rattle.node_calls.specs.Begins.{EndsBoots, tenure_in};
 ghost use Rattle.node_calls.specs.Boots.{IsOfForm, IsBeginTried, IsShardTried, EndsBegins, BreaksBegins};
 
 use crate::refused::Refused;
+use cluster_members::replica_calls::Replicas;
+use cluster_members::replica_exchange::{CallErr, Slot};
 use m3_model::{Assignment, Placement, Reason};
 use m3_outside::Disk;
-use replica_calls::Replicas;
-use replica_exchange::{CallErr, Slot};
 
 // Whether a refusal ends a bootstrap: for others a replica is passed over.
 fn passed_over(shard: u32, why: Reason) -> Result<(), Refused>

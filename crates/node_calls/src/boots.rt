@@ -1,6 +1,6 @@
 //! Nodes that start again: restarts and bootstraps.
 ghost use Rattle.std.specs.Prelude.{◌≡◌, ◌<◌, ◌≤◌, Some, IfNone, IfSome};
-ghost use Rattle.session_net.specs.Ready.{IsReady};
+ghost use Rattle.cluster_members.specs.session_net.Ready.{IsReady};
 ghost use Rattle.node_calls.specs.Boots.{IsNumberOf};
 ghost use Rattle.node_calls.specs.Halts.{AreManned, HaveSameSlots};
 ghost use Rattle.node_calls.specs.Nodes.{IsRestarted, IsBootstrapAnswer};

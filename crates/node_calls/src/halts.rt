@@ -2,15 +2,15 @@
 ghost use Rattle.std.specs.Prelude.{◌≡◌, ◌≢◌, ◌≤◌, ◌*◌, None, length, IfErr, OnOk};
 ghost use Rattle.std.specs.FinMap as finite;
 ghost use Rattle.std.specs.List.{flat_map};
-ghost use Rattle.replica_exchange.specs.MachineCalls.{HasRoom};
-ghost use Rattle.session_net.specs.Runs.{Ran};
+ghost use Rattle.cluster_members.specs.replica_exchange.MachineCalls.{HasRoom};
+ghost use Rattle.cluster_members.specs.session_net.Runs.{Ran};
 ghost use Rattle.node_calls.specs.Boots.{IsRestartTried, EndsRestarts};
 ghost use Rattle.node_calls.specs.Halts.{slots_of_node, stop_at, restart_at, AreManned};
 
 use crate::refused::Refused;
+use cluster_members::replica_calls::Replicas;
+use cluster_members::replica_exchange::{CallErr, Slot};
 use m3_outside::Disk;
-use replica_calls::Replicas;
-use replica_exchange::{CallErr, Slot};
 
 /// How many of the slots are the node's.
 pub(crate) fn slots_of(slots: &[Slot], node: u8) -> u64

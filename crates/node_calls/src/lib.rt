@@ -10,3 +10,7 @@ mod refused;
 pub use boots::{bootstrap, restart};
 pub use cluster_members::Members;
 pub use nodes::{deliver, set_fates, stop};
+
+// Libraries that the rows of crates above need not name.
+pub use cluster_members;
+pub use cluster_members::{replica_calls, replica_exchange, session_net};

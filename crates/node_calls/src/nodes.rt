@@ -2,17 +2,17 @@
 ghost use Rattle.std.specs.Prelude.{◌≡◌, ◌<◌, ◌≤◌, length, IfSome};
 ghost use Rattle.m3_model.specs.declared.act.Act.TheVariants as act;
 ghost use Rattle.m3_model.specs.Limits.{MeetsLimits};
-ghost use Rattle.session_net.specs.Ready.{IsReady};
+ghost use Rattle.cluster_members.specs.session_net.Ready.{IsReady};
 ghost use Rattle.cluster_members.specs.Names.{node_named};
 ghost use Rattle.node_calls.specs.Halts.{AreManned, HaveSameSlots};
 ghost use Rattle.node_calls.specs.Nodes.{IsResolved, IsFated, IsDeliverAnswer, IsStopped};
 
 use crate::halts::{slots_of, stop_all};
 use cluster_members::Members;
+use cluster_members::session_net::SessionErr;
 use m3_model::{Answer, Fate, Instance, Seq, Text};
 use m3_outside::Disk;
 use net_plan::Fates;
-use session_net::SessionErr;
 use std::alloc::Global;
 
 /// The number of the listed node of this name. There are at most 16.

@@ -1,7 +1,7 @@
 -- Cases on an act.
 use Rattle.std.proofs.Common.{◌≡◌, ℕ, List, true, false}
-use Rattle.m3_model.specs.declared.act.Act.{Act}
-use Rattle.m3_model.specs.declared.act.Act.TheVariants as act
+use Rattle.placement_core.specs.m3_model.declared.act.Act.{Act}
+use Rattle.placement_core.specs.m3_model.declared.act.Act.TheVariants as act
 use Rattle.placement_acts.specs.Acts.{is_step_act}
 
 none : {X : Type 0} → false ≡ true → X

@@ -3,13 +3,13 @@ use Rattle.std.specs.Prelude.{◌≡◌, ◌⊎◌, ℕ, List, [], length, Optio
 use Rattle.std.specs.Cmp.Lexicographic.{pointwise}
 use Rattle.std.specs.List.{list_any}
 use Rattle.std.specs.Option.{option_or}
-use Rattle.m3_model.specs.declared.act.Act.{Act}
-use Rattle.m3_model.specs.declared.act.Act.TheVariants as act
-use Rattle.m3_model.specs.declared.answer.Answer.{Answer}
-use Rattle.m3_model.specs.declared.answer.Answer.TheVariants as answer
-use Rattle.m3_model.specs.declared.limits.TheConstants.{MOST_NODES, MOST_VERSIONS}
-use Rattle.m3_model.specs.declared.placement.Instance.{Instance}
-use Rattle.m3_model.specs.declared.placement.Placement.{Placement}
+use Rattle.placement_core.specs.m3_model.declared.act.Act.{Act}
+use Rattle.placement_core.specs.m3_model.declared.act.Act.TheVariants as act
+use Rattle.placement_core.specs.m3_model.declared.answer.Answer.{Answer}
+use Rattle.placement_core.specs.m3_model.declared.answer.Answer.TheVariants as answer
+use Rattle.placement_core.specs.m3_model.declared.limits.TheConstants.{MOST_NODES, MOST_VERSIONS}
+use Rattle.placement_core.specs.m3_model.declared.placement.Instance.{Instance}
+use Rattle.placement_core.specs.m3_model.declared.placement.Placement.{Placement}
 use Rattle.placement_core.specs.NodeNames.{is_listed, name_of}
 use Rattle.placement_plan.specs.Additions.{IsAddition}
 use Rattle.placement_plan.specs.First.{IsInitial, RefusesInitial}

@@ -10,3 +10,6 @@ pub mod replicas;
 pub use ascending::{Order, ascend};
 pub use lawful::is_lawful;
 pub use replicas::{counted, former, members};
+
+// Libraries that the rows of crates above need not name.
+pub use m3_model;

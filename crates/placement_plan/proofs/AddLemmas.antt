@@ -8,12 +8,12 @@ use Rattle.std.proofs.lemmas.Cmp.{then_total, on_total, back_total, nat_cmp_tota
 use Rattle.std.proofs.lemmas.List.{length-set}
 use Rattle.std.proofs.lemmas.List.Sums.{sum_by-set}
 use Rattle.std.proofs.lemmas.Option.{slice_get_within, get_or_from_slice_get}
-use Rattle.m3_model.specs.Members.{IsIn}
-use Rattle.m3_model.specs.Names.{is_name}
-use Rattle.m3_model.proofs.MemberLemmas.{IsIn-push}
-use Rattle.m3_model.specs.declared.placement.ShardState.TheVariants.{Leaving}
-use Rattle.m3_model.specs.declared.placement.Instance.{Instance}
-use Rattle.m3_model.specs.declared.placement.Placement.{Placement}
+use Rattle.placement_core.specs.m3_model.Members.{IsIn}
+use Rattle.placement_core.specs.m3_model.Names.{is_name}
+use Rattle.placement_core.proofs.m3_model_proofs.MemberLemmas.{IsIn-push}
+use Rattle.placement_core.specs.m3_model.declared.placement.ShardState.TheVariants.{Leaving}
+use Rattle.placement_core.specs.m3_model.declared.placement.Instance.{Instance}
+use Rattle.placement_core.specs.m3_model.declared.placement.Placement.{Placement}
 use Rattle.placement_core.specs.Shards.{Shard, is_steady}
 use Rattle.placement_core.specs.NodeNames.{name_of}
 use Rattle.placement_core.specs.Lawful.{IsSteady, IsShard, IsSpread, IsLawful}

@@ -6,10 +6,10 @@ use Rattle.std.specs.declared.cmp.Ordering.{Ordering}
 use Rattle.placement_core.specs.NodeNames.{name_of}
 use Rattle.std.proofs.lemmas.List.{take-append-le, drop_more}
 use Rattle.std.proofs.lemmas.Option.{slice_get_within, get_or_from_slice_get}
-use Rattle.m3_model.specs.declared.placement.Instance.{Instance}
-use Rattle.m3_model.specs.declared.placement.Placement.{Placement}
-use Rattle.m3_model.specs.declared.limits.TheConstants.{MOST_SHARDS}
-use Rattle.m3_model.proofs.Lists.{take_whole}
+use Rattle.placement_core.specs.m3_model.declared.placement.Instance.{Instance}
+use Rattle.placement_core.specs.m3_model.declared.placement.Placement.{Placement}
+use Rattle.placement_core.specs.m3_model.declared.limits.TheConstants.{MOST_SHARDS}
+use Rattle.placement_core.proofs.m3_model_proofs.Lists.{take_whole}
 use Rattle.placement_core.specs.Shards.{Shard}
 use Rattle.placement_core.specs.Lawful.{IsSpread, IsLawful}
 use Rattle.placement_core.specs.Steps.{IsStep, IsShardStep}

@@ -2,18 +2,18 @@
 use Rattle.std.proofs.Common.{◌≡◌, ◌≢◌, ◌<◌, ℕ, zero, suc, List, [], ◌∷◌, length, take, get_or, slice_get, Some, true, false, refl, sym, ap, subst, inl, inr, ◌∙◌, arith, IsTrue}
 use Rattle.std.proofs.lemmas.List.{length-map}
 use Rattle.std.proofs.lemmas.Option.{slice_get-get_or}
-use Rattle.m3_model.specs.Ascends.{Ascends}
-use Rattle.m3_model.specs.Members.{IsIn}
-use Rattle.m3_model.specs.Names.{is_name}
-use Rattle.m3_model.specs.Limits.{IsInit}
+use Rattle.placement_core.specs.m3_model.Ascends.{Ascends}
+use Rattle.placement_core.specs.m3_model.Members.{IsIn}
+use Rattle.placement_core.specs.m3_model.Names.{is_name}
+use Rattle.placement_core.specs.m3_model.Limits.{IsInit}
 use Rattle.placement_core.specs.Lawful.{IsApart, IsShard, IsSpread, IsLawful}
 use Rattle.placement_plan.specs.First.{IsFirstShard, IsFirstPlacement, first_instances, first_at, IsPlacedShard, IsInitial}
-use Rattle.m3_model.proofs.MemberLemmas.{IsIn-map}
-use Rattle.m3_model.proofs.Ascending.{Ascends-filter}
-use Rattle.m3_model.proofs.Lists.{IsIn-take}
-use Rattle.m3_model.specs.declared.placement.Assignment.{Assignment}
-use Rattle.m3_model.specs.declared.placement.Instance.{Instance}
-use Rattle.m3_model.specs.declared.placement.Placement.{Placement}
+use Rattle.placement_core.proofs.m3_model_proofs.MemberLemmas.{IsIn-map}
+use Rattle.placement_core.proofs.m3_model_proofs.Ascending.{Ascends-filter}
+use Rattle.placement_core.proofs.m3_model_proofs.Lists.{IsIn-take}
+use Rattle.placement_core.specs.m3_model.declared.placement.Assignment.{Assignment}
+use Rattle.placement_core.specs.m3_model.declared.placement.Instance.{Instance}
+use Rattle.placement_core.specs.m3_model.declared.placement.Placement.{Placement}
 use Rattle.placement_core.specs.Shards.{Shard, is_holder, is_staying}
 use Rattle.placement_core.proofs.OrderLemmas.{ascends-from_at, ascends-map, at_in, names_at}
 use Rattle.isolation_groups.specs.Groups.{group_of}

@@ -5,10 +5,10 @@ use Rattle.std.specs.List.{list_any}
 use Rattle.std.proofs.lemmas.Bool.{cases_eq}
 use Rattle.std.proofs.lemmas.List.{length-set}
 use Rattle.std.proofs.lemmas.Option.{slice_get_within}
-use Rattle.m3_model.specs.Names.{is_name}
-use Rattle.m3_model.proofs.MemberLemmas.{IsIn-append_cases}
-use Rattle.m3_model.proofs.Ascending.{Ascends-push}
-use Rattle.m3_model.specs.declared.placement.Instance.{Instance}
+use Rattle.placement_core.specs.m3_model.Names.{is_name}
+use Rattle.placement_core.proofs.m3_model_proofs.MemberLemmas.{IsIn-append_cases}
+use Rattle.placement_core.proofs.m3_model_proofs.Ascending.{Ascends-push}
+use Rattle.placement_core.specs.m3_model.declared.placement.Instance.{Instance}
 use Rattle.placement_core.specs.Steps.{KeepsNames}
 use Rattle.placement_core.proofs.ListLemmas.{same_at}
 use Rattle.placement_core.proofs.OrderLemmas.{at_in}

@@ -5,9 +5,9 @@ use Rattle.std.proofs.lemmas.List.{get_or_past}
 use Rattle.std.proofs.lemmas.List.Folds.{list_any-append}
 use Rattle.std.proofs.lemmas.List.Sums.{count_by-le-length, sum_by-append, sum_by-cons}
 use Rattle.std.proofs.Math.Bool.{or-false, or-true, and-false}
-use Rattle.m3_model.specs.declared.placement.ShardState.TheVariants.{Leaving}
-use Rattle.m3_model.specs.declared.placement.Assignment.{Assignment}
-use Rattle.m3_model.specs.declared.limits.TheConstants.{MOST_SHARDS}
+use Rattle.placement_core.specs.m3_model.declared.placement.ShardState.TheVariants.{Leaving}
+use Rattle.placement_core.specs.m3_model.declared.placement.Assignment.{Assignment}
+use Rattle.placement_core.specs.m3_model.declared.limits.TheConstants.{MOST_SHARDS}
 use Rattle.placement_core.specs.Shards.{Shard, stays, is_staying}
 use Rattle.placement_core.specs.Lawful.{IsSteady}
 use Rattle.placement_core.specs.Steps.{turned}

@@ -6,8 +6,8 @@ use Rattle.std.proofs.lemmas.List.Folds.{list_any_at}
 use Rattle.std.proofs.lemmas.Option.{slice_get_within, get_or_from_slice_get}
 use Rattle.std.proofs.lemmas.Slice.Eq.{bytes_eq-Decides}
 use Rattle.std.proofs.lemmas.Bool.{and_from}
-use Rattle.m3_model.specs.declared.placement.Instance.{Instance}
-use Rattle.m3_model.specs.declared.placement.Placement.{Placement}
+use Rattle.placement_core.specs.m3_model.declared.placement.Instance.{Instance}
+use Rattle.placement_core.specs.m3_model.declared.placement.Placement.{Placement}
 use Rattle.placement_core.specs.NodeNames.{is_listed}
 use Rattle.placement_plan.specs.Nodes.{ListsNode}
 use Rattle.placement_plan.specs.Refusals.{IsPastLimit, RefusesAdd, RefusesReplace}

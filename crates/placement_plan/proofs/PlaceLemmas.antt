@@ -1,9 +1,9 @@
 -- Lists read by position, as loops read them.
 use Rattle.std.proofs.Common.{◌≡◌, ◌<◌, ◌≤◌, ◌⊎◌, ℕ, zero, suc, ◌+◌, List, [], ◌∷◌, ◌++◌, length, get_or, slice_get, Some, None, refl, sym, subst, ap, ◌∙◌, inl, inr, arith, length-append}
-use Rattle.m3_model.specs.declared.placement.Assignment.{Assignment}
-use Rattle.m3_model.specs.declared.placement.ShardState.TheVariants.{Initializing}
+use Rattle.placement_core.specs.m3_model.declared.placement.Assignment.{Assignment}
+use Rattle.placement_core.specs.m3_model.declared.placement.ShardState.TheVariants.{Initializing}
 use Rattle.std.proofs.lemmas.Bool.{cases_eq}
-use Rattle.m3_model.specs.Members.{IsIn}
+use Rattle.placement_core.specs.m3_model.Members.{IsIn}
 use Rattle.placement_core.proofs.ListLemmas.{index-from_IsIn, at_index, same_at}
 use Rattle.placement_plan.specs.Plans.{MakesAll}
 

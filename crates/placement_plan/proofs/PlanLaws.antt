@@ -1,11 +1,11 @@
 -- The laws of plans.
 use Rattle.std.proofs.Common.{◌≡◌, ◌≢◌, ◌⊎◌, ℕ, List, [], ◌∷◌, Bool, true, filter, sym, ◌∙◌, subst, inl, inr}
-use Rattle.m3_model.specs.Ascends.{Ascends}
-use Rattle.m3_model.specs.Members.{IsIn}
+use Rattle.placement_core.specs.m3_model.Ascends.{Ascends}
+use Rattle.placement_core.specs.m3_model.Members.{IsIn}
 use Rattle.placement_core.specs.Lawful.{IsApart}
-use Rattle.m3_model.specs.declared.placement.Assignment.{Assignment}
-use Rattle.m3_model.specs.declared.placement.Instance.{Instance}
-use Rattle.m3_model.proofs.Lists.{filter-IsIn}
+use Rattle.placement_core.specs.m3_model.declared.placement.Assignment.{Assignment}
+use Rattle.placement_core.specs.m3_model.declared.placement.Instance.{Instance}
+use Rattle.placement_core.proofs.m3_model_proofs.Lists.{filter-IsIn}
 use Rattle.placement_core.specs.Shards.{Shard, is_holder, is_staying}
 use Rattle.placement_core.proofs.HolderLemmas.{the_joining, is_moving}
 use Rattle.placement_plan.specs.Nodes.{load}

@@ -1,11 +1,11 @@
 -- A node that takes another's shards.
 use Rattle.std.proofs.Common.{◌≡◌, ℕ, List, [], length, slice_get, Some, None, refl, sym, ap, subst, inl, inr, ◌∙◌, IsTrue, true}
-use Rattle.m3_model.specs.Members.{IsIn}
-use Rattle.m3_model.specs.Names.{is_name}
-use Rattle.m3_model.proofs.MemberLemmas.{IsIn-map}
-use Rattle.m3_model.specs.declared.placement.Assignment.{Assignment}
-use Rattle.m3_model.specs.declared.placement.Instance.{Instance}
-use Rattle.m3_model.specs.declared.placement.Placement.{Placement}
+use Rattle.placement_core.specs.m3_model.Members.{IsIn}
+use Rattle.placement_core.specs.m3_model.Names.{is_name}
+use Rattle.placement_core.proofs.m3_model_proofs.MemberLemmas.{IsIn-map}
+use Rattle.placement_core.specs.m3_model.declared.placement.Assignment.{Assignment}
+use Rattle.placement_core.specs.m3_model.declared.placement.Instance.{Instance}
+use Rattle.placement_core.specs.m3_model.declared.placement.Placement.{Placement}
 use Rattle.placement_core.specs.Shards.{Shard}
 use Rattle.placement_core.specs.Lawful.{IsSpread, IsLawful}
 use Rattle.placement_core.specs.Steps.{KeepsNames, IsStep, IsShardStep}

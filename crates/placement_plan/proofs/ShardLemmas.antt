@@ -1,9 +1,9 @@
 -- Shards that are steady, and moves that begin.
 use Rattle.std.proofs.Common.{◌≡◌, ◌≢◌, ℕ, [], ◌∷◌, Bool, true, false, refl, sym, ap, inl, inr, ◌∙◌, None}
 use Rattle.std.proofs.lemmas.Bool.{and_from, and_parts}
-use Rattle.m3_model.specs.Members.{IsIn}
-use Rattle.m3_model.specs.declared.placement.ShardState.TheVariants.{Initializing, Available}
-use Rattle.m3_model.specs.declared.placement.Assignment.{Assignment}
+use Rattle.placement_core.specs.m3_model.Members.{IsIn}
+use Rattle.placement_core.specs.m3_model.declared.placement.ShardState.TheVariants.{Initializing, Available}
+use Rattle.placement_core.specs.m3_model.declared.placement.Assignment.{Assignment}
 use Rattle.placement_core.specs.Shards.{Shard, counts, is_available, is_steady}
 use Rattle.placement_core.specs.Lawful.{IsSteady, IsShard}
 use Rattle.placement_core.specs.Steps.{IsShardStep}

@@ -4,16 +4,16 @@ use Rattle.std.specs.Option.{option_map_or}
 use Rattle.std.proofs.lemmas.Bool.{cases_eq, eq-eqb}
 use Rattle.std.proofs.lemmas.List.{append-nil}
 use Rattle.std.proofs.lemmas.List.Elements.{filter-append}
-use Rattle.m3_model.specs.Ascends.{Ascends}
-use Rattle.m3_model.specs.Members.{IsIn}
+use Rattle.placement_core.specs.m3_model.Ascends.{Ascends}
+use Rattle.placement_core.specs.m3_model.Members.{IsIn}
 use Rattle.placement_core.specs.Lawful.{IsApart, IsJoiningFrom, IsSteady, IsShard, IsSpread}
-use Rattle.m3_model.proofs.MemberLemmas.{IsIn-map, map-IsIn, IsIn-append_cases}
-use Rattle.m3_model.proofs.Lists.{IsIn-filter, IsIn-filter_passes, filter-IsIn}
-use Rattle.m3_model.proofs.Ascending.{Ascends-filter, Ascends-push}
-use Rattle.m3_model.specs.declared.placement.ShardState.{ShardState}
-use Rattle.m3_model.specs.declared.placement.ShardState.TheVariants.{Initializing, Available, Leaving}
-use Rattle.m3_model.specs.declared.placement.Assignment.{Assignment}
-use Rattle.m3_model.specs.declared.placement.Instance.{Instance}
+use Rattle.placement_core.proofs.m3_model_proofs.MemberLemmas.{IsIn-map, map-IsIn, IsIn-append_cases}
+use Rattle.placement_core.proofs.m3_model_proofs.Lists.{IsIn-filter, IsIn-filter_passes, filter-IsIn}
+use Rattle.placement_core.proofs.m3_model_proofs.Ascending.{Ascends-filter, Ascends-push}
+use Rattle.placement_core.specs.m3_model.declared.placement.ShardState.{ShardState}
+use Rattle.placement_core.specs.m3_model.declared.placement.ShardState.TheVariants.{Initializing, Available, Leaving}
+use Rattle.placement_core.specs.m3_model.declared.placement.Assignment.{Assignment}
+use Rattle.placement_core.specs.m3_model.declared.placement.Instance.{Instance}
 use Rattle.placement_core.specs.Shards.{Shard, holds, stays, is_holder, is_staying}
 use Rattle.placement_core.specs.Steps.{turned, without, settled}
 use Rattle.placement_core.proofs.ListLemmas.{filter_all}

@@ -4,9 +4,9 @@ use Rattle.std.specs.Ordering.{nat_cmp, is_gt, on, flip_args, then_cmp}
 use Rattle.std.specs.Cmp.Lexicographic.{slice_cmp}
 use Rattle.std.specs.declared.cmp.Ordering.{Ordering}
 use Rattle.placement_core.specs.NodeNames.{is_listed, name_of}
-use Rattle.m3_model.specs.declared.placement.Instance.{Instance}
-use Rattle.m3_model.specs.declared.placement.Placement.{Placement}
-use Rattle.m3_model.specs.declared.limits.TheConstants.{NUMBER_END}
+use Rattle.placement_core.specs.m3_model.declared.placement.Instance.{Instance}
+use Rattle.placement_core.specs.m3_model.declared.placement.Placement.{Placement}
+use Rattle.placement_core.specs.m3_model.declared.limits.TheConstants.{NUMBER_END}
 use Rattle.placement_core.specs.Shards.{Shard, is_steady}
 use Rattle.placement_plan.specs.Nodes.{Has, load, Joins, IsFirstWhere}
 use Rattle.placement_plan.specs.Choices.{MayTake, moved}

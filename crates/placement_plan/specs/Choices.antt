@@ -3,8 +3,8 @@ use Rattle.std.specs.Prelude.{◌≡◌, ℕ, List, [], ◌++◌, ◌∷◌, map
 use Rattle.std.specs.Ordering.{nat_cmp, is_gt, on, then_cmp}
 use Rattle.std.specs.Cmp.Lexicographic.{slice_cmp}
 use Rattle.std.specs.declared.cmp.Ordering.{Ordering}
-use Rattle.m3_model.specs.declared.placement.ShardState.TheVariants.{Initializing, Leaving}
-use Rattle.m3_model.specs.declared.placement.Instance.{Instance}
+use Rattle.placement_core.specs.m3_model.declared.placement.ShardState.TheVariants.{Initializing, Leaving}
+use Rattle.placement_core.specs.m3_model.declared.placement.Instance.{Instance}
 use Rattle.placement_core.specs.Shards.{Shard}
 use Rattle.placement_core.specs.NodeNames.{name_of}
 use Rattle.placement_core.specs.Steps.{turned}

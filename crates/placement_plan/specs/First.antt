@@ -1,11 +1,11 @@
 -- The first placement.
 use Rattle.std.specs.Prelude.{◌≡◌, ◌≢◌, ◌<◌, ℕ, List, [], ◌∷◌, ◌++◌, map, length, take, Some, None, true, false, slice_get, ⊤}
-use Rattle.m3_model.specs.Ascends.{Ascends}
-use Rattle.m3_model.specs.Members.{IsIn}
-use Rattle.m3_model.specs.declared.placement.ShardState.TheVariants.{Available}
-use Rattle.m3_model.specs.declared.placement.Assignment.{Assignment}
-use Rattle.m3_model.specs.declared.placement.Instance.{Instance}
-use Rattle.m3_model.specs.declared.placement.Placement.{Placement}
+use Rattle.placement_core.specs.m3_model.Ascends.{Ascends}
+use Rattle.placement_core.specs.m3_model.Members.{IsIn}
+use Rattle.placement_core.specs.m3_model.declared.placement.ShardState.TheVariants.{Available}
+use Rattle.placement_core.specs.m3_model.declared.placement.Assignment.{Assignment}
+use Rattle.placement_core.specs.m3_model.declared.placement.Instance.{Instance}
+use Rattle.placement_core.specs.m3_model.declared.placement.Placement.{Placement}
 use Rattle.placement_core.specs.Lawful.{IsApart}
 use Rattle.placement_core.specs.Shards.{Shard}
 use Rattle.placement_plan.specs.Nodes.{load}

@@ -1,12 +1,12 @@
 -- What is so of each plan, as laws that are proved of the definitions.
 use Rattle.std.specs.Prelude.{◌≡◌, ◌≢◌, ℕ, List, [], length, Bool, true, IsTrue}
-use Rattle.m3_model.specs.Members.{IsIn}
-use Rattle.m3_model.specs.Names.{is_name}
-use Rattle.m3_model.specs.Limits.{IsInit}
+use Rattle.placement_core.specs.m3_model.Members.{IsIn}
+use Rattle.placement_core.specs.m3_model.Names.{is_name}
+use Rattle.placement_core.specs.m3_model.Limits.{IsInit}
 use Rattle.placement_plan.specs.First.{IsFirstPlacement, IsInitial}
-use Rattle.m3_model.specs.declared.placement.Assignment.{Assignment}
-use Rattle.m3_model.specs.declared.placement.Placement.{Placement}
-use Rattle.m3_model.specs.declared.placement.ShardState.TheVariants.{Initializing}
+use Rattle.placement_core.specs.m3_model.declared.placement.Assignment.{Assignment}
+use Rattle.placement_core.specs.m3_model.declared.placement.Placement.{Placement}
+use Rattle.placement_core.specs.m3_model.declared.placement.ShardState.TheVariants.{Initializing}
 use Rattle.placement_core.specs.Shards.{Shard}
 use Rattle.placement_core.specs.Lawful.{IsLawful}
 use Rattle.placement_core.specs.Steps.{IsStep, IsDoneList}

@@ -1,11 +1,11 @@
 -- The placement that each request leads to.
 use Rattle.std.specs.Prelude.{◌≡◌, ◌⊎◌, ℕ, suc, ◌<◌, List, ◌++◌, length, take, drop, Some, true, false, MatchOption, slice_get, slice_set}
-use Rattle.m3_model.specs.Members.{IsIn}
+use Rattle.placement_core.specs.m3_model.Members.{IsIn}
 use Rattle.placement_core.specs.NodeNames.{is_listed}
-use Rattle.m3_model.specs.declared.placement.Instance.{Instance}
-use Rattle.m3_model.specs.declared.placement.Assignment.{Assignment}
-use Rattle.m3_model.specs.declared.placement.Placement.{Placement}
-use Rattle.m3_model.specs.declared.limits.TheConstants.{MOST_NODES, NUMBER_END}
+use Rattle.placement_core.specs.m3_model.declared.placement.Instance.{Instance}
+use Rattle.placement_core.specs.m3_model.declared.placement.Assignment.{Assignment}
+use Rattle.placement_core.specs.m3_model.declared.placement.Placement.{Placement}
+use Rattle.placement_core.specs.m3_model.declared.limits.TheConstants.{MOST_NODES, NUMBER_END}
 use Rattle.placement_core.specs.Shards.{Shard, is_steady}
 use Rattle.placement_core.specs.Lawful.{IsJoiningFrom}
 use Rattle.placement_core.specs.Steps.{IsCancelOf, Ends, done_at}

@@ -1,12 +1,12 @@
 -- When each request is refused: what holds of the placement where an error is the first in the order of refusals.
 use Rattle.std.specs.Prelude.{◌≡◌, ◌≤◌, ℕ, List, length, true, false, ⊤}
-use Rattle.m3_model.specs.Members.{IsIn}
+use Rattle.placement_core.specs.m3_model.Members.{IsIn}
 use Rattle.placement_core.specs.NodeNames.{is_listed}
-use Rattle.m3_model.specs.declared.placement.Assignment.{Assignment}
-use Rattle.m3_model.specs.declared.placement.Instance.{Instance}
-use Rattle.m3_model.specs.declared.placement.Placement.{Placement}
-use Rattle.m3_model.specs.declared.placement.ShardState.TheVariants.{Initializing}
-use Rattle.m3_model.specs.declared.limits.TheConstants.{MOST_NODES}
+use Rattle.placement_core.specs.m3_model.declared.placement.Assignment.{Assignment}
+use Rattle.placement_core.specs.m3_model.declared.placement.Instance.{Instance}
+use Rattle.placement_core.specs.m3_model.declared.placement.Placement.{Placement}
+use Rattle.placement_core.specs.m3_model.declared.placement.ShardState.TheVariants.{Initializing}
+use Rattle.placement_core.specs.m3_model.declared.limits.TheConstants.{MOST_NODES}
 use Rattle.placement_core.specs.Shards.{Shard, is_steady}
 use Rattle.placement_plan.specs.Nodes.{ListsNode, IsNewName, Has, IsFirstWhere}
 use Rattle.isolation_groups.specs.Groups.{IsFree}

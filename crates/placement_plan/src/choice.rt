@@ -1,14 +1,14 @@
 //! Which node takes a shard.
 ghost use Rattle.std.specs.Prelude.{◌≡◌, ◌<◌, ◌≤◌, ◌↔◌, ℕ, IfSome, IfNone, IsTrue, length, slice_index, if◌then◌else◌};
 ghost use Rattle.std.specs.Ordering.{is_lt};
-ghost use Rattle.m3_model.specs.declared.limits.TheConstants.{MOST_NODES};
+ghost use Rattle.placement_core.specs.m3_model.declared.limits.TheConstants.{MOST_NODES};
 ghost use Rattle.placement_core.specs.NodeNames.{name_of};
 ghost use Rattle.placement_plan.specs.Choices.{MayTake, IsLeastLoaded, taking_cmp};
 
 use crate::nodes::name_of;
 use crate::shards::has_node;
 use isolation_groups::is_free;
-use m3_model::{Assignment, Instance};
+use placement_core::m3_model::{Assignment, Instance};
 use std::cmp::Ordering;
 
 fn compare(instances: &[Instance], loads: &[usize], a: u8, b: u8) -> Ordering

@@ -1,6 +1,6 @@
 //! Moves that end, and moves that are cancelled.
 ghost use Rattle.std.specs.Prelude.{◌≡◌, ◌≤◌, ◌↔◌, [], All, IfOk, IfErr, IfSome, IsTrue, MatchOption, false, length, if◌then◌else◌};
-ghost use Rattle.m3_model.specs.declared.limits.TheConstants.{MOST_NODES};
+ghost use Rattle.placement_core.specs.m3_model.declared.limits.TheConstants.{MOST_NODES};
 ghost use Rattle.placement_core.specs.Lawful.{IsLawful};
 ghost use Rattle.placement_core.specs.Steps.{IsStep, IsDoneList, Ends, done_at};
 ghost use Rattle.placement_plan.specs.Plans.{MakesAll, IsAvailable, IsJoiningPair, AreJoining, EndsAsNamed, IsCancel, IsJoining, CancelsJoining, GivesTo, IsFreed};
@@ -10,7 +10,7 @@ use crate::nodes::listed_node;
 use crate::plan_err::PlaceErr;
 use crate::shards::{joins_from, settled, source_of};
 use crate::version::next_version;
-use m3_model::{Assignment, Duplicate, Instance, Memory, Placement, Seq};
+use placement_core::m3_model::{Assignment, Duplicate, Instance, Memory, Placement, Seq};
 use std::alloc::Global;
 
 fn cancelled_shard(

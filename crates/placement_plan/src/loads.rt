@@ -1,10 +1,10 @@
 //! How many shards each node has.
 ghost use Rattle.std.specs.Prelude.{◌≡◌, ◌≢◌, ◌<◌, ◌≤◌, IfOk, length, slice_index};
-ghost use Rattle.m3_model.specs.declared.limits.TheConstants.{MOST_NODES, MOST_SHARDS};
+ghost use Rattle.placement_core.specs.m3_model.declared.limits.TheConstants.{MOST_NODES, MOST_SHARDS};
 ghost use Rattle.placement_plan.specs.Nodes.{serves, load};
 ghost use Rattle.placement_plan.specs.Loads.{AreLoads, IsShifted};
 
-use m3_model::{Assignment, Memory, Seq, ShardState};
+use placement_core::m3_model::{Assignment, Memory, Seq, ShardState};
 use std::alloc::Global;
 
 /// Whether the node is Available or Initializing in the shard.

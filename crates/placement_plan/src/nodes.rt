@@ -2,16 +2,16 @@
 ghost use Rattle.std.specs.Prelude.{◌≡◌, ◌≤◌, ◌<◌, length, IfSome, IfNone, IfOk, IfErr, true, false, ◌&&◌, nat_eq, Some, slice_get, slice_set};
 ghost use Rattle.std.specs.Cmp.Lexicographic.{pointwise};
 ghost use Rattle.std.specs.List.{list_any};
-ghost use Rattle.m3_model.specs.declared.placement.Instance.{Instance as Node};
-ghost use Rattle.m3_model.specs.declared.limits.TheConstants.{MOST_NODES};
+ghost use Rattle.placement_core.specs.m3_model.declared.placement.Instance.{Instance as Node};
+ghost use Rattle.placement_core.specs.m3_model.declared.limits.TheConstants.{MOST_NODES};
 ghost use Rattle.placement_core.specs.NodeNames.{name_of};
 ghost use Rattle.placement_plan.specs.Nodes.{ListsNode, IsNodeNamed, IsNewName, CanHave, Joins};
 ghost use Rattle.placement_plan.specs.Plans.{HasRoom};
 ghost use Rattle.placement_plan.specs.Refusals.{IsPastLimit};
 
 use crate::plan_err::PlaceErr;
-use m3_model::limits::MOST_NODES;
-use m3_model::{Duplicate, Instance, Memory, Seq, Text};
+use placement_core::m3_model::limits::MOST_NODES;
+use placement_core::m3_model::{Duplicate, Instance, Memory, Seq, Text};
 use std::alloc::Global;
 
 /// The number of the listed node of this name.

@@ -1,9 +1,9 @@
 //! What is in the way of a move.
 ghost use Rattle.std.specs.Prelude.{◌≡◌, ◌≢◌, ◌≤◌, ◌↔◌, ℕ, false, IfSome, IfNone, IsTrue, length};
-ghost use Rattle.m3_model.specs.Members.{IsIn};
-ghost use Rattle.m3_model.specs.declared.placement.Assignment.{Assignment as Replica};
-ghost use Rattle.m3_model.specs.declared.placement.ShardState.TheVariants.{Initializing};
-ghost use Rattle.m3_model.specs.declared.limits.TheConstants.{MOST_SHARDS};
+ghost use Rattle.placement_core.specs.m3_model.Members.{IsIn};
+ghost use Rattle.placement_core.specs.m3_model.declared.placement.Assignment.{Assignment as Replica};
+ghost use Rattle.placement_core.specs.m3_model.declared.placement.ShardState.TheVariants.{Initializing};
+ghost use Rattle.placement_core.specs.m3_model.declared.limits.TheConstants.{MOST_SHARDS};
 ghost use Rattle.placement_core.specs.Shards.{Shard, is_steady};
 ghost use Rattle.placement_core.specs.Lawful.{IsShard};
 ghost use Rattle.placement_plan.specs.Nodes.{Has, IsFirstWhere};
@@ -13,7 +13,7 @@ ghost use Rattle.placement_plan.specs.Refusals.{IsBusy, IsInitializing};
 
 use crate::shards::has_node;
 use isolation_groups::is_free;
-use m3_model::{Assignment, Instance, Seq, ShardState};
+use placement_core::m3_model::{Assignment, Instance, Seq, ShardState};
 
 fn joining_node(shard: &[Assignment]) -> Option<u8>
     ensures found { IfSome result (λ node. IsInitializing node shard.now) }

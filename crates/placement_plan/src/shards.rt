@@ -1,8 +1,8 @@
 //! What a node has of a shard, and what a move makes of it.
 ghost use Rattle.std.specs.Prelude.{◌≡◌, ◌↔◌, ◌≤◌, length, IsTrue, IfOk, IfSome, IfNone, Some, Any, map, ℕ};
-ghost use Rattle.m3_model.specs.declared.placement.ShardState.TheVariants.{Initializing};
-ghost use Rattle.m3_model.specs.Members.{IsIn};
-ghost use Rattle.m3_model.specs.declared.limits.TheConstants.{MOST_SHARDS};
+ghost use Rattle.placement_core.specs.m3_model.declared.placement.ShardState.TheVariants.{Initializing};
+ghost use Rattle.placement_core.specs.m3_model.Members.{IsIn};
+ghost use Rattle.placement_core.specs.m3_model.declared.limits.TheConstants.{MOST_SHARDS};
 ghost use Rattle.placement_core.specs.Shards.{Shard};
 ghost use Rattle.placement_core.specs.Lawful.{IsJoiningFrom};
 ghost use Rattle.placement_core.specs.Steps.{turned, without, settled};
@@ -10,7 +10,7 @@ ghost use Rattle.placement_plan.specs.Nodes.{Has, IsFirstWhere};
 ghost use Rattle.placement_plan.specs.Choices.{moved};
 ghost use Rattle.placement_plan.specs.Plans.{JoinsFrom, IsJoining};
 
-use m3_model::{Assignment, Memory, Seq, ShardState};
+use placement_core::m3_model::{Assignment, Memory, Seq, ShardState};
 use std::alloc::Global;
 
 fn any_of(shard: &[Assignment], node: u8) -> bool

@@ -1,9 +1,9 @@
 ghost use Rattle.std.specs.Prelude.{◌≡◌, ◌<◌, suc, IfOk, IfErr};
-ghost use Rattle.m3_model.specs.declared.limits.TheConstants.{NUMBER_END};
+ghost use Rattle.placement_core.specs.m3_model.declared.limits.TheConstants.{NUMBER_END};
 ghost use Rattle.placement_plan.specs.Refusals.{IsMemory};
 
 use crate::plan_err::PlaceErr;
-use m3_model::limits::NUMBER_END;
+use placement_core::m3_model::limits::NUMBER_END;
 
 /// The version after this one. Where there is none the refusal is that for want of memory.
 pub fn next_version(version: u64) -> Result<u64, PlaceErr>

@@ -33,27 +33,27 @@ use Rattle.cluster_core.specs.declared.event.StepCall.{StepCall}
 use Rattle.cluster_core.specs.declared.event.StepReply.{StepReply}
 use Rattle.cluster_core.proofs.ExtendLemmas.{any_more}
 use Rattle.cluster_core.proofs.ListLemmas.{any_at, at_any, at_in, at_same, at_some, at_within, in_at}
-use Rattle.replica_exchange.specs.declared.member.Member.{Member}
-use Rattle.replica_exchange.specs.declared.slot.Slot.{Slot}
-use Rattle.session_net.specs.Runs.{IsStepped, slot_at, steps_of}
-use Rattle.first_cluster.specs.Slots.{slots_of, start_at}
-use Rattle.first_cluster.proofs.PlacedSlots.{from_start, start_slot}
-use Rattle.first_cluster.proofs.SlotLists.{in_or_out, slot_replica}
-use Rattle.told_by.specs.Hears.{HasReplica, IsNamedBy}
-use Rattle.told_by.proofs.LineLemmas.{at_front}
-use Rattle.told_by.proofs.OneLemmas.{among_back}
-use Rattle.told_by.proofs.TurnLemmas.{inner-append}
-use Rattle.told_causes.proofs.WaitLemmas.{member_at}
-use Rattle.transcripts.specs.Fates.{fate_in, fates_set, is_stopped, numbering_after}
-use Rattle.transcripts.specs.Placements.{has_replica, later_placement, placement_after, placements, printed, seed_after, seed_by, start_placement}
-use Rattle.transcripts.specs.Record.{InnerTurn, inner_turns, line_of}
-use Rattle.transcripts.specs.Rules.{rules_after, rules_by, start_rules}
-use Rattle.transcripts.proofs.PlacementLemmas.{known_more, known_printed}
-use Rattle.call_lines.specs.Left.{AreStoppedBy, FareAsSet, HoldsBack, NetIsLeftBy}
-use Rattle.call_lines.proofs.KeepLemmas.{holds_on, rules_next, seed_next}
-use Rattle.cluster_members.specs.Kept.{IsKept}
-use Rattle.cluster_members.specs.declared.members.Members.{Members}
-use Rattle.cluster_members.proofs.NameLemmas.{same_node}
+use Rattle.act_lines.specs.replica_exchange.declared.member.Member.{Member}
+use Rattle.act_lines.specs.replica_exchange.declared.slot.Slot.{Slot}
+use Rattle.act_lines.specs.session_net.Runs.{IsStepped, slot_at, steps_of}
+use Rattle.act_lines.specs.first_cluster.Slots.{slots_of, start_at}
+use Rattle.act_lines.proofs.first_cluster_proofs.PlacedSlots.{from_start, start_slot}
+use Rattle.act_lines.proofs.first_cluster_proofs.SlotLists.{in_or_out, slot_replica}
+use Rattle.act_lines.specs.told_by.Hears.{HasReplica, IsNamedBy}
+use Rattle.act_lines.proofs.told_by_proofs.LineLemmas.{at_front}
+use Rattle.act_lines.proofs.told_by_proofs.OneLemmas.{among_back}
+use Rattle.act_lines.proofs.told_by_proofs.TurnLemmas.{inner-append}
+use Rattle.act_lines.proofs.told_causes_proofs.WaitLemmas.{member_at}
+use Rattle.act_lines.specs.transcripts.Fates.{fate_in, fates_set, is_stopped, numbering_after}
+use Rattle.act_lines.specs.transcripts.Placements.{has_replica, later_placement, placement_after, placements, printed, seed_after, seed_by, start_placement}
+use Rattle.act_lines.specs.transcripts.Record.{InnerTurn, inner_turns, line_of}
+use Rattle.act_lines.specs.transcripts.Rules.{rules_after, rules_by, start_rules}
+use Rattle.act_lines.proofs.transcripts_proofs.PlacementLemmas.{known_more, known_printed}
+use Rattle.act_lines.specs.call_lines.Left.{AreStoppedBy, FareAsSet, HoldsBack, NetIsLeftBy}
+use Rattle.act_lines.proofs.call_lines_proofs.KeepLemmas.{holds_on, rules_next, seed_next}
+use Rattle.act_lines.specs.cluster_members.Kept.{IsKept}
+use Rattle.act_lines.specs.cluster_members.declared.members.Members.{Members}
+use Rattle.act_lines.proofs.cluster_members_proofs.NameLemmas.{same_node}
 use Rattle.act_lines.specs.Quiet.{KeepsStops}
 use Rattle.act_lines.specs.Stands.{AreKept, ClusterStands, HasSlots, IsUnnamed, KnowsNodes, PlacesAreKept}
 use Rattle.act_lines.proofs.CountLemmas.{count_next}

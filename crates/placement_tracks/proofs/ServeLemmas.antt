@@ -20,24 +20,24 @@ use Rattle.placement_core.proofs.ListLemmas.{chosen}
 use Rattle.placement_acts.specs.Acts.{LeadsNowhere, LeadsTo, is_step_act}
 use Rattle.cluster_core.specs.Legal.{Legal}
 use Rattle.cluster_core.specs.declared.event.Event.{Event}
-use Rattle.replica_exchange.specs.declared.slot.Slot.{Slot}
-use Rattle.replica_calls.specs.Calls.{Tracked}
-use Rattle.told_by.specs.Steps.{AddsStep, EndsGone}
-use Rattle.told_runs.specs.Lines.{IsToldAndServed, delivered_on}
-use Rattle.told_runs.specs.Steps.{MeetsStep, untaken_after}
-use Rattle.told_runs.proofs.LineLemmas.{plain_serves}
-use Rattle.told_runs.proofs.StepLemmas.{refused_steps_serve, steps_serve, untaken_steps_serve}
-use Rattle.transcripts.specs.Caused.{kept_after}
-use Rattle.transcripts.specs.Deliveries.{LateMessage}
-use Rattle.transcripts.specs.Faults.{Fault}
-use Rattle.transcripts.specs.Placements.{has_replica}
-use Rattle.transcripts.specs.Record.{Record, TurnPosition, inner_turns, line_of}
-use Rattle.call_lines.specs.Left.{WereDelivered}
-use Rattle.cluster_members.specs.declared.members.Members.{Members}
+use Rattle.act_lines.specs.replica_exchange.declared.slot.Slot.{Slot}
+use Rattle.act_lines.specs.replica_calls.Calls.{Tracked}
+use Rattle.act_lines.specs.told_by.Steps.{AddsStep, EndsGone}
+use Rattle.act_lines.specs.told_runs.Lines.{IsToldAndServed, delivered_on}
+use Rattle.act_lines.specs.told_runs.Steps.{MeetsStep, untaken_after}
+use Rattle.act_lines.proofs.told_runs_proofs.LineLemmas.{plain_serves}
+use Rattle.act_lines.proofs.told_runs_proofs.StepLemmas.{refused_steps_serve, steps_serve, untaken_steps_serve}
+use Rattle.act_lines.specs.transcripts.Caused.{kept_after}
+use Rattle.act_lines.specs.transcripts.Deliveries.{LateMessage}
+use Rattle.act_lines.specs.transcripts.Faults.{Fault}
+use Rattle.act_lines.specs.transcripts.Placements.{has_replica}
+use Rattle.act_lines.specs.transcripts.Record.{Record, TurnPosition, inner_turns, line_of}
+use Rattle.act_lines.specs.call_lines.Left.{WereDelivered}
+use Rattle.act_lines.specs.cluster_members.declared.members.Members.{Members}
 use Rattle.m3_model.proofs.Lists.{IsIn-flat_map}
-use Rattle.node_calls.proofs.ListLemmas.{flat_long}
-use Rattle.first_cluster.specs.Slots.{slots_of}
-use Rattle.first_cluster.proofs.SlotLists.{slot_replica}
+use Rattle.act_lines.proofs.node_calls_proofs.ListLemmas.{flat_long}
+use Rattle.act_lines.specs.first_cluster.Slots.{slots_of}
+use Rattle.act_lines.proofs.first_cluster_proofs.SlotLists.{slot_replica}
 use Rattle.act_lines.proofs.NothingLemmas.{no_room_tells}
 use Rattle.cluster_placements.specs.Slots.{left_slots, new_slots}
 use Rattle.cluster_placements.specs.Steps.{IsAsItWas, IsChanged, LacksDisk, LacksRoom, LeadsOn, MakesNext, end_at, step_events, step_length}

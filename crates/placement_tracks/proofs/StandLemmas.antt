@@ -21,23 +21,23 @@ use Rattle.cluster_core.specs.Lists.{At}
 use Rattle.cluster_core.specs.declared.event.Event.{Event}
 use Rattle.cluster_core.specs.declared.event.Event.TheVariants as event
 use Rattle.cluster_core.proofs.ListLemmas.{at_any}
-use Rattle.replica_exchange.specs.declared.slot.Slot.{Slot}
-use Rattle.replica_calls.specs.Calls.{Tracked}
-use Rattle.session_net.specs.Ready.{IsCallable, IsReady}
-use Rattle.session_net.specs.Runs.{slot_at}
-use Rattle.told_by.specs.Hears.{HasReplica, IsNamedBy}
-use Rattle.told_by.specs.Steps.{IsUnmoved}
-use Rattle.told_by.specs.Told.{ToldBy}
-use Rattle.told_by.proofs.JoinedLemmas.{placed}
-use Rattle.told_causes.proofs.WaitLemmas.{member_at}
-use Rattle.told_runs.proofs.StepLemmas.{nowhere_unmoved}
-use Rattle.transcripts.specs.Caused.{kept_after, versions_after}
-use Rattle.transcripts.specs.Placements.{HadReplica, has_replica}
-use Rattle.transcripts.specs.Record.{inner_turns, line_of}
-use Rattle.transcripts.specs.Refusals.{kept_versions}
-use Rattle.call_lines.specs.Left.{AreSlots, AreStoppedBy, FareAsSet, HoldsBack}
-use Rattle.cluster_members.specs.Kept.{IsKept}
-use Rattle.cluster_members.specs.declared.members.Members.{Members}
+use Rattle.act_lines.specs.replica_exchange.declared.slot.Slot.{Slot}
+use Rattle.act_lines.specs.replica_calls.Calls.{Tracked}
+use Rattle.act_lines.specs.session_net.Ready.{IsCallable, IsReady}
+use Rattle.act_lines.specs.session_net.Runs.{slot_at}
+use Rattle.act_lines.specs.told_by.Hears.{HasReplica, IsNamedBy}
+use Rattle.act_lines.specs.told_by.Steps.{IsUnmoved}
+use Rattle.act_lines.specs.told_by.Told.{ToldBy}
+use Rattle.act_lines.proofs.told_by_proofs.JoinedLemmas.{placed}
+use Rattle.act_lines.proofs.told_causes_proofs.WaitLemmas.{member_at}
+use Rattle.act_lines.proofs.told_runs_proofs.StepLemmas.{nowhere_unmoved}
+use Rattle.act_lines.specs.transcripts.Caused.{kept_after, versions_after}
+use Rattle.act_lines.specs.transcripts.Placements.{HadReplica, has_replica}
+use Rattle.act_lines.specs.transcripts.Record.{inner_turns, line_of}
+use Rattle.act_lines.specs.transcripts.Refusals.{kept_versions}
+use Rattle.act_lines.specs.call_lines.Left.{AreSlots, AreStoppedBy, FareAsSet, HoldsBack}
+use Rattle.act_lines.specs.cluster_members.Kept.{IsKept}
+use Rattle.act_lines.specs.cluster_members.declared.members.Members.{Members}
 use Rattle.act_lines.specs.Quiet.{DeliversNone, SetsNone}
 use Rattle.act_lines.specs.Stands.{AreKept, ClusterStands, KnowsNodes}
 use Rattle.act_lines.proofs.StandLemmas.{stands_unchanged}

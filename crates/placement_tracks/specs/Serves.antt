@@ -14,15 +14,15 @@ use Rattle.placement_core.specs.Lawful.{IsLawful}
 use Rattle.placement_acts.specs.Acts.{is_step_act}
 use Rattle.cluster_core.specs.Legal.{Legal}
 use Rattle.cluster_core.specs.declared.event.Event.{Event}
-use Rattle.replica_exchange.specs.declared.slot.Slot.{Slot}
-use Rattle.told_runs.specs.Lines.{IsToldAndServed, delivered_on}
-use Rattle.transcripts.specs.Caused.{kept_after}
-use Rattle.transcripts.specs.Deliveries.{LateMessage}
-use Rattle.transcripts.specs.Faults.{Fault}
-use Rattle.transcripts.specs.Placements.{HadReplica, placement_after, start_placement}
-use Rattle.transcripts.specs.Record.{Record, TurnPosition, inner_turns, line_of}
-use Rattle.call_lines.specs.Left.{WereDelivered}
-use Rattle.cluster_members.specs.declared.members.Members.{Members}
+use Rattle.act_lines.specs.replica_exchange.declared.slot.Slot.{Slot}
+use Rattle.act_lines.specs.told_runs.Lines.{IsToldAndServed, delivered_on}
+use Rattle.act_lines.specs.transcripts.Caused.{kept_after}
+use Rattle.act_lines.specs.transcripts.Deliveries.{LateMessage}
+use Rattle.act_lines.specs.transcripts.Faults.{Fault}
+use Rattle.act_lines.specs.transcripts.Placements.{HadReplica, placement_after, start_placement}
+use Rattle.act_lines.specs.transcripts.Record.{Record, TurnPosition, inner_turns, line_of}
+use Rattle.act_lines.specs.call_lines.Left.{WereDelivered}
+use Rattle.act_lines.specs.cluster_members.declared.members.Members.{Members}
 use Rattle.cluster_placements.specs.Steps.{IsChanged}
 
 -- Before the line the placement that the turns left stands, and is lawful; so many versions are kept; and a slot without a replica had none in any placement.

@@ -8,9 +8,9 @@ use Rattle.m3_outside.specs.Depots.{Depot}
 use Rattle.m3_outside.specs.DiskState.{DiskState}
 use Rattle.m3_outside.specs.declared.disk.Disk.{Ghosts}
 use Rattle.placement_acts.specs.Acts.{is_step_act}
-use Rattle.told_by.specs.Told.{ToldBy}
-use Rattle.transcripts.specs.Record.{line_of}
-use Rattle.cluster_members.specs.declared.members.Members.{Members}
+use Rattle.act_lines.specs.told_by.Told.{ToldBy}
+use Rattle.act_lines.specs.transcripts.Record.{line_of}
+use Rattle.act_lines.specs.cluster_members.declared.members.Members.{Members}
 use Rattle.act_lines.specs.Stands.{ClusterStands}
 use Rattle.cluster_placements.specs.Steps.{IsChanged, MayChange, kept_in}
 use Rattle.placement_tracks.specs.Serves.{MayComeNext}

@@ -5,3 +5,9 @@
 pub mod lines;
 
 pub use lines::{changes_serve, changes_stand};
+
+// Libraries that the rows of crates above need not name.
+pub use act_lines::{
+    cluster_members, first_cluster, node_calls, replica_calls, replica_exchange, session_net,
+};
+pub use cluster_placements;

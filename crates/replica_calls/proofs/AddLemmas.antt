@@ -3,12 +3,12 @@ use Rattle.std.proofs.Common.{◌≡◌, ℕ, ◌≤◌, ◌+◌, List, [], ◌�
 use Rattle.std.specs.Prelude.{◌↔◌, Result, Ok, Err, IfOk}
 use Rattle.std.proofs.lemmas.List.{append-nil}
 use Rattle.std.proofs.lemmas.List.Sums.{fold-append}
-use Rattle.cluster_core.specs.Replicas.{replica, fresh, step_of}
-use Rattle.cluster_core.specs.declared.event.Event.{Event}
-use Rattle.cluster_core.specs.declared.event.Event.TheVariants as event
-use Rattle.cluster_core.specs.declared.event.StepCall.{StepCall}
-use Rattle.cluster_core.specs.declared.event.StepReply.{StepReply}
-use Rattle.cluster_core.proofs.TraceLemmas.{step_cases}
+use Rattle.replica_exchange.specs.cluster_core.Replicas.{replica, fresh, step_of}
+use Rattle.replica_exchange.specs.cluster_core.declared.event.Event.{Event}
+use Rattle.replica_exchange.specs.cluster_core.declared.event.Event.TheVariants as event
+use Rattle.replica_exchange.specs.cluster_core.declared.event.StepCall.{StepCall}
+use Rattle.replica_exchange.specs.cluster_core.declared.event.StepReply.{StepReply}
+use Rattle.replica_exchange.proofs.cluster_core_proofs.TraceLemmas.{step_cases}
 use Rattle.replica_exchange.specs.Exchanges.{own_events, seen_in, IsNothing, HasAdded}
 use Rattle.replica_calls.specs.Calls.{IsNoStep}
 use Rattle.replica_exchange.proofs.ExchangeLemmas.{own_append}

@@ -4,13 +4,13 @@ use Rattle.std.specs.Prelude.{Result}
 use Rattle.std.specs.FinMap as finite
 use Rattle.std.specs.List.{Any}
 use Rattle.std.proofs.lemmas.List.{append-nil, take_at, take-append-drop}
-use Rattle.m3_outside.specs.DiskState.{DiskState}
-use Rattle.cluster_core.specs.Lists.{At, IsPrefix}
-use Rattle.cluster_core.specs.declared.event.Event.{Event}
-use Rattle.cluster_core.specs.declared.event.Event.TheVariants as event
-use Rattle.cluster_core.specs.declared.event.StepCall.{StepCall}
-use Rattle.cluster_core.specs.declared.event.StepReply.{StepReply}
-use Rattle.cluster_core.proofs.ExtendLemmas.{any_more, at_last}
+use Rattle.replica_exchange.specs.m3_outside.DiskState.{DiskState}
+use Rattle.replica_exchange.specs.cluster_core.Lists.{At, IsPrefix}
+use Rattle.replica_exchange.specs.cluster_core.declared.event.Event.{Event}
+use Rattle.replica_exchange.specs.cluster_core.declared.event.Event.TheVariants as event
+use Rattle.replica_exchange.specs.cluster_core.declared.event.StepCall.{StepCall}
+use Rattle.replica_exchange.specs.cluster_core.declared.event.StepReply.{StepReply}
+use Rattle.replica_exchange.proofs.cluster_core_proofs.ExtendLemmas.{any_more, at_last}
 use Rattle.replica_exchange.specs.Steps.{reply_by}
 use Rattle.replica_exchange.specs.MachineCalls.{Promise, Adding}
 use Rattle.replica_exchange.specs.Exchanges.{ask_of, own_events, Seen, seen_in, IsNothing, HasExchanged, HasStepped, HasAdded}

@@ -7,14 +7,14 @@ use Rattle.std.specs.FinMap as finite
 use Rattle.std.specs.FinMap.{from_sorted, same_map, is_sorted, get-empty, get-remove}
 use Rattle.std.specs.Ordering.{eq_by_cmp, is_eq}
 use Rattle.std.specs.declared.snapshot.Snapshot.{Snapshot}
-use Rattle.m3_model.proofs.RaiseLemmas.{from_sorted-empty}
+use Rattle.replica_exchange.proofs.m3_model_proofs.RaiseLemmas.{from_sorted-empty}
 use Rattle.replica_calls.proofs.MapLemmas.{get_of}
-use Rattle.m3_model.specs.declared.reason.Reason.TheVariants as reason
-use Rattle.m3_outside.specs.DiskState.{DiskState}
-use Rattle.cluster_core.specs.Replicas.{replica, fresh}
-use Rattle.cluster_core.specs.declared.event.Event.{Event}
-use Rattle.cluster_core.specs.declared.event.StepCall.{StepCall}
-use Rattle.cluster_core.specs.declared.event.StepReply.{StepReply}
+use Rattle.replica_exchange.specs.m3_model.declared.reason.Reason.TheVariants as reason
+use Rattle.replica_exchange.specs.m3_outside.DiskState.{DiskState}
+use Rattle.replica_exchange.specs.cluster_core.Replicas.{replica, fresh}
+use Rattle.replica_exchange.specs.cluster_core.declared.event.Event.{Event}
+use Rattle.replica_exchange.specs.cluster_core.declared.event.StepCall.{StepCall}
+use Rattle.replica_exchange.specs.cluster_core.declared.event.StepReply.{StepReply}
 use Rattle.replica_exchange.specs.Machines.{MachineState, first_machine, IsMachineOf}
 use Rattle.replica_exchange.specs.MachineCalls.{IsMemberOf, HasRoom, Promise, Adding, MayAnswerBy, OtherReplicasStay}
 use Rattle.replica_exchange.specs.declared.call_err.CallErr.{CallErr}

@@ -3,12 +3,12 @@ use Rattle.std.specs.Prelude.{◌≡◌, ◌≢◌, ◌⊎◌, ℕ, ◌≤◌, �
 use Rattle.std.specs.BTreeMap.{BTreeMap}
 use Rattle.std.specs.Coded.{Coded, code_by, coded×, coded_list}
 use Rattle.std.specs.FinMap as finite
-use Rattle.m3_model.specs.declared.reason.Reason.TheVariants as reason
-use Rattle.m3_outside.specs.DiskState.{DiskState}
-use Rattle.cluster_core.specs.declared.event.Event.{Event}
-use Rattle.cluster_core.specs.declared.event.Event.TheVariants as event
-use Rattle.cluster_core.specs.declared.event.StepCall.{StepCall}
-use Rattle.cluster_core.specs.declared.event.StepReply.{StepReply}
+use Rattle.replica_exchange.specs.m3_model.declared.reason.Reason.TheVariants as reason
+use Rattle.replica_exchange.specs.m3_outside.DiskState.{DiskState}
+use Rattle.replica_exchange.specs.cluster_core.declared.event.Event.{Event}
+use Rattle.replica_exchange.specs.cluster_core.declared.event.Event.TheVariants as event
+use Rattle.replica_exchange.specs.cluster_core.declared.event.StepCall.{StepCall}
+use Rattle.replica_exchange.specs.cluster_core.declared.event.StepReply.{StepReply}
 use Rattle.replica_exchange.specs.Machines.{first_machine}
 use Rattle.replica_exchange.specs.MachineCalls.{IsMemberOf, HasRoom, Adding, Promise, HasAnswered, AddsBoth, AddsStep}
 use Rattle.replica_exchange.specs.declared.call_err.CallErr.{CallErr}

@@ -5,3 +5,7 @@ pub mod replicas;
 
 pub use replica_exchange::CallId;
 pub use replicas::Replicas;
+
+// Libraries that the rows of crates above need not name.
+pub use replica_exchange;
+pub use replica_exchange::{event_trail, m3_outside, placement_core, series_id};

@@ -2,23 +2,23 @@ ghost use Rattle.std.specs.Prelude.{◌≡◌, ◌↔◌, ◌+◌, ◌<◌, ◌�
 ghost use Rattle.std.specs.FinMap as finite;
 ghost use Rattle.std.specs.List.{All};
 ghost use Rattle.std.specs.Option.{option_copied};
-ghost use Rattle.m3_model.specs.Reads.{space_picked};
-ghost use Rattle.wire_bytes.specs.Entries.{IsBounded};
-ghost use Rattle.cluster_core.specs.Earlier.{HasClock, HasSend, HasTenure};
-ghost use Rattle.cluster_core.specs.Replicas.{replica, fresh};
-ghost use Rattle.cluster_core.specs.declared.event.StepCall.TheVariants as call;
-ghost use Rattle.cluster_core.specs.declared.event.StepReply.TheVariants as reply;
+ghost use Rattle.replica_exchange.specs.m3_model.Reads.{space_picked};
+ghost use Rattle.replica_exchange.specs.wire_bytes.Entries.{IsBounded};
+ghost use Rattle.replica_exchange.specs.cluster_core.Earlier.{HasClock, HasSend, HasTenure};
+ghost use Rattle.replica_exchange.specs.cluster_core.Replicas.{replica, fresh};
+ghost use Rattle.replica_exchange.specs.cluster_core.declared.event.StepCall.TheVariants as call;
+ghost use Rattle.replica_exchange.specs.cluster_core.declared.event.StepReply.TheVariants as reply;
 ghost use Rattle.event_book.specs.Lists.{most_entries};
-ghost use Rattle.event_trail.specs.Trails.{IsLegalOver, IsLawfulOver};
+ghost use Rattle.replica_exchange.specs.event_trail.Trails.{IsLegalOver, IsLawfulOver};
 ghost use Rattle.replica_exchange.specs.MachineCalls.{HasRoom};
 ghost use Rattle.replica_exchange.specs.Exchanges.{seen_in, IsNothing, HasAdded};
 ghost use Rattle.replica_exchange.specs.Promises.{Begins, Puts, Reads, Flushes, Ticks, Saves, Fences, Ends, Stops, Restarts, Reports};
 ghost use Rattle.replica_calls.specs.Calls.{first_member, AreMembersOf, MayCall, MayTell, IsNoStep};
 
 use event_book::Full;
-use event_trail::{EventView, Trail};
-use m3_model::{Pick, Point, Reason, Report, Rules, Seq, Series};
-use m3_outside::Disk;
+use replica_exchange::event_trail::{EventView, Trail};
+use replica_exchange::m3_model::{Pick, Point, Reason, Report, Rules, Seq, Series};
+use replica_exchange::m3_outside::Disk;
 use replica_exchange::{
     CallErr, CallId, Machine, Member, Slot, boot_on, end_on, fence_on, flush_on, put_on, read_on,
     report_on, restart_on, snapshot_on, stop_on, tick_on,
@@ -42,7 +42,7 @@ pub struct Replicas<D: Disk> {
 
 impl<D: Disk> Model for Replicas<D> {
     ghost use Rattle.std.specs.FinMap.{from_sorted};
-    ghost use Rattle.cluster_core.specs.contracts.event.Event as event;
+    ghost use Rattle.replica_exchange.specs.cluster_core.contracts.event.Event as event;
     ghost use Rattle.replica_calls.specs.Calls.{Tracked, tracked_code, IsTracked};
 
     ghost Value = { Tracked D };

@@ -3,21 +3,21 @@ use Rattle.std.proofs.Common.{◌≡◌, ℕ, ◌≤◌, List, [], ◌∷◌, �
 use Rattle.std.specs.Prelude.{◌⊎◌}
 use Rattle.std.proofs.lemmas.List.{append-nil}
 use Rattle.std.proofs.lemmas.List.Sums.{fold-append}
-use Rattle.m3_outside.specs.DiskState.{DiskState}
-use Rattle.cluster_core.specs.Asks.{StepWasAsked}
-use Rattle.cluster_core.specs.Earlier.{IsClock, IsSend, GivesTenure, GavePage}
-use Rattle.cluster_core.specs.Legal.{Legal, LawfulAt}
-use Rattle.cluster_core.specs.Replicas.{replica, fresh, after, step_of}
-use Rattle.cluster_core.specs.declared.event.Event.{Event}
-use Rattle.cluster_core.specs.declared.event.Event.TheVariants as event
-use Rattle.cluster_core.specs.declared.event.StepCall.{StepCall}
-use Rattle.cluster_core.specs.declared.event.StepCall.TheVariants as call
-use Rattle.cluster_core.specs.declared.event.StepReply.{StepReply}
-use Rattle.cluster_core.specs.declared.replica_state.ReplicaState.{ReplicaState}
-use Rattle.cluster_core.proofs.ExtendLemmas.{any_more}
-use Rattle.cluster_core.proofs.OwnLemmas.{lawful_later}
-use Rattle.cluster_core.proofs.ReplicaLemmas.{step_own}
-use Rattle.cluster_core.proofs.TraceLemmas.{step_cases}
+use Rattle.replica_machine.specs.m3_outside.DiskState.{DiskState}
+use Rattle.replica_machine.specs.cluster_core.Asks.{StepWasAsked}
+use Rattle.replica_machine.specs.cluster_core.Earlier.{IsClock, IsSend, GivesTenure, GavePage}
+use Rattle.replica_machine.specs.cluster_core.Legal.{Legal, LawfulAt}
+use Rattle.replica_machine.specs.cluster_core.Replicas.{replica, fresh, after, step_of}
+use Rattle.replica_machine.specs.cluster_core.declared.event.Event.{Event}
+use Rattle.replica_machine.specs.cluster_core.declared.event.Event.TheVariants as event
+use Rattle.replica_machine.specs.cluster_core.declared.event.StepCall.{StepCall}
+use Rattle.replica_machine.specs.cluster_core.declared.event.StepCall.TheVariants as call
+use Rattle.replica_machine.specs.cluster_core.declared.event.StepReply.{StepReply}
+use Rattle.replica_machine.specs.cluster_core.declared.replica_state.ReplicaState.{ReplicaState}
+use Rattle.replica_machine.proofs.cluster_core_proofs.ExtendLemmas.{any_more}
+use Rattle.replica_machine.proofs.cluster_core_proofs.OwnLemmas.{lawful_later}
+use Rattle.replica_machine.proofs.cluster_core_proofs.ReplicaLemmas.{step_own}
+use Rattle.replica_machine.proofs.cluster_core_proofs.TraceLemmas.{step_cases}
 use Rattle.event_trail.specs.Trails.{IsLegalOver, IsLawfulOver}
 use Rattle.event_trail.proofs.Balances.{legal_init, balanced, was_asked, asked_by}
 use Rattle.event_trail.proofs.Untold.{weaker}

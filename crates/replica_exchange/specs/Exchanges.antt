@@ -1,10 +1,10 @@
 -- What a call of a replica adds to the list of events.
 use Rattle.std.specs.Prelude.{◌≡◌, ℕ, List, [], ◌∷◌, ◌++◌, length, Bool, true, false, cond}
-use Rattle.cluster_core.specs.declared.event.Asked.TheVariants as asked
-use Rattle.cluster_core.specs.declared.event.Event.{Event}
-use Rattle.cluster_core.specs.declared.event.Event.TheVariants as event
-use Rattle.cluster_core.specs.declared.event.StepCall.{StepCall}
-use Rattle.cluster_core.specs.declared.event.StepReply.{StepReply}
+use Rattle.replica_machine.specs.cluster_core.declared.event.Asked.TheVariants as asked
+use Rattle.replica_machine.specs.cluster_core.declared.event.Event.{Event}
+use Rattle.replica_machine.specs.cluster_core.declared.event.Event.TheVariants as event
+use Rattle.replica_machine.specs.cluster_core.declared.event.StepCall.{StepCall}
+use Rattle.replica_machine.specs.cluster_core.declared.event.StepReply.{StepReply}
 
 abbrev pub ask_of : ℕ → ℕ → StepCall → Event
 ask_of n s c = event.Ask (asked.Step n s c)

@@ -1,13 +1,13 @@
 -- What a call of one machine does to it and to the list of events.
 use Rattle.std.specs.Prelude.{◌≡◌, ◌≢◌, ◌⊎◌, ℕ, ◌+◌, ◌≤◌, List, [], ◌∷◌, ◌++◌, length, Result, Ok, Err}
-use Rattle.m3_model.specs.declared.reason.Reason.{Reason}
-use Rattle.m3_outside.specs.DiskState.{DiskState}
+use Rattle.replica_machine.specs.m3_model.declared.reason.Reason.{Reason}
+use Rattle.replica_machine.specs.m3_outside.DiskState.{DiskState}
 use Rattle.event_book.specs.Lists.{most_entries}
-use Rattle.cluster_core.specs.Replicas.{replica}
-use Rattle.cluster_core.specs.declared.event.Event.{Event}
-use Rattle.cluster_core.specs.declared.event.StepCall.{StepCall}
-use Rattle.cluster_core.specs.declared.event.StepCall.TheVariants as call
-use Rattle.cluster_core.specs.declared.event.StepReply.{StepReply}
+use Rattle.replica_machine.specs.cluster_core.Replicas.{replica}
+use Rattle.replica_machine.specs.cluster_core.declared.event.Event.{Event}
+use Rattle.replica_machine.specs.cluster_core.declared.event.StepCall.{StepCall}
+use Rattle.replica_machine.specs.cluster_core.declared.event.StepCall.TheVariants as call
+use Rattle.replica_machine.specs.cluster_core.declared.event.StepReply.{StepReply}
 use Rattle.replica_machine.specs.Machines.{MachineState, IsMachineOf}
 use Rattle.replica_machine.specs.Steps.{IsStep, IsGiven, reply_by}
 use Rattle.replica_exchange.specs.Exchanges.{Seen, seen_in, ask_of, IsNothing, HasExchanged, HasStepped}

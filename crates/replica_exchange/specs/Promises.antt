@@ -1,29 +1,29 @@
 -- What a machine promises of each of its calls: what it answers, and what it is then.
 use Rattle.std.specs.Prelude.{◌≡◌, ◌≢◌, ◌↔◌, ◌-◌, ℕ, ⊤, ◌<◌, ◌≤◌, max, true, List, None, Result, Ok, OnOk, IfOk, IfErr, IsErrOf, length}
 use Rattle.std.specs.FinMap as finite
-use Rattle.m3_model.specs.Contents.{raised}
-use Rattle.m3_model.specs.Reads.{IsOrdered}
-use Rattle.m3_model.specs.Rules.{InWindow}
-use Rattle.m3_model.specs.declared.limits.TheConstants.{MOST_REPLICA_POINTS}
-use Rattle.m3_model.specs.declared.point.Pick.{Pick}
-use Rattle.m3_model.specs.declared.point.Point.{Point}
-use Rattle.m3_model.specs.declared.point.Series.{Series}
-use Rattle.m3_model.specs.declared.reason.Damage.{Damage}
-use Rattle.m3_model.specs.declared.reason.Reason.{Reason}
-use Rattle.m3_model.specs.declared.reason.Reason.TheVariants as reason
-use Rattle.m3_model.specs.declared.replica.Report.{Report}
-use Rattle.m3_model.specs.declared.replica.Standing.TheVariants as standing
-use Rattle.m3_model.specs.declared.rules.Rules.{Rules}
-use Rattle.m3_outside.specs.DiskCalls.{LeavesFiles}
-use Rattle.m3_outside.specs.DiskState.{DiskState, Told, Becomes}
-use Rattle.block_buffer.specs.Held.{without, has_expired}
-use Rattle.commit_log.specs.Contents.{numbers}
-use Rattle.shard_files.specs.Gains.{a_point, a_fence, a_tenure}
-use Rattle.shard_files.specs.Keeps.{HoldContent, Rearranges}
-use Rattle.shard_files.specs.FilesHold.{IsSound}
-use Rattle.shard_files.specs.Parts.{IsNewestNumber, KnownVolume, VolumesAre, counted_volumes}
-use Rattle.cluster_core.specs.Rows.{open_fence}
-use Rattle.cluster_core.specs.declared.event.StepCall.{StepCall}
+use Rattle.replica_machine.specs.m3_model.Contents.{raised}
+use Rattle.replica_machine.specs.m3_model.Reads.{IsOrdered}
+use Rattle.replica_machine.specs.m3_model.Rules.{InWindow}
+use Rattle.replica_machine.specs.m3_model.declared.limits.TheConstants.{MOST_REPLICA_POINTS}
+use Rattle.replica_machine.specs.m3_model.declared.point.Pick.{Pick}
+use Rattle.replica_machine.specs.m3_model.declared.point.Point.{Point}
+use Rattle.replica_machine.specs.m3_model.declared.point.Series.{Series}
+use Rattle.replica_machine.specs.m3_model.declared.reason.Damage.{Damage}
+use Rattle.replica_machine.specs.m3_model.declared.reason.Reason.{Reason}
+use Rattle.replica_machine.specs.m3_model.declared.reason.Reason.TheVariants as reason
+use Rattle.replica_machine.specs.m3_model.declared.replica.Report.{Report}
+use Rattle.replica_machine.specs.m3_model.declared.replica.Standing.TheVariants as standing
+use Rattle.replica_machine.specs.m3_model.declared.rules.Rules.{Rules}
+use Rattle.replica_machine.specs.m3_outside.DiskCalls.{LeavesFiles}
+use Rattle.replica_machine.specs.m3_outside.DiskState.{DiskState, Told, Becomes}
+use Rattle.replica_machine.specs.block_buffer.Held.{without, has_expired}
+use Rattle.replica_machine.specs.commit_log.Contents.{numbers}
+use Rattle.replica_machine.specs.shard_files.Gains.{a_point, a_fence, a_tenure}
+use Rattle.replica_machine.specs.shard_files.Keeps.{HoldContent, Rearranges}
+use Rattle.replica_machine.specs.shard_files.FilesHold.{IsSound}
+use Rattle.replica_machine.specs.shard_files.Parts.{IsNewestNumber, KnownVolume, VolumesAre, counted_volumes}
+use Rattle.replica_machine.specs.cluster_core.Rows.{open_fence}
+use Rattle.replica_machine.specs.cluster_core.declared.event.StepCall.{StepCall}
 use Rattle.replica_machine.specs.Boots.{BeganFrom, BeganAgain, MayBeUnowned, IsRefused, IsBootReason}
 use Rattle.replica_machine.specs.Damages.{IsDamageOf, IsFileDamage}
 use Rattle.replica_machine.specs.Machines.{MachineState, shut_machine, refusal, IsOwn, IsRefusedFor, IsLiveAnswer}

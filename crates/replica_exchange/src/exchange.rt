@@ -2,12 +2,12 @@
 //! is given is the replica of the slot, and stays so. Replicas of other slots stay as the list has them.
 ghost use Rattle.std.specs.Prelude.{◌≡◌, ◌<◌, ◌≤◌, [], ◌∷◌, ◌++◌, length};
 ghost use Rattle.std.specs.List.{All};
-ghost use Rattle.m3_model.specs.Reads.{space_picked};
-ghost use Rattle.wire_bytes.specs.Entries.{IsBounded};
-ghost use Rattle.cluster_core.specs.Earlier.{HasClock, HasSend, HasTenure};
-ghost use Rattle.cluster_core.specs.declared.event.Event.TheVariants as event;
-ghost use Rattle.cluster_core.specs.declared.event.StepCall.TheVariants as call;
-ghost use Rattle.cluster_core.specs.declared.event.StepReply.TheVariants as reply;
+ghost use Rattle.replica_machine.specs.m3_model.Reads.{space_picked};
+ghost use Rattle.replica_machine.specs.wire_bytes.Entries.{IsBounded};
+ghost use Rattle.replica_machine.specs.cluster_core.Earlier.{HasClock, HasSend, HasTenure};
+ghost use Rattle.replica_machine.specs.cluster_core.declared.event.Event.TheVariants as event;
+ghost use Rattle.replica_machine.specs.cluster_core.declared.event.StepCall.TheVariants as call;
+ghost use Rattle.replica_machine.specs.cluster_core.declared.event.StepReply.TheVariants as reply;
 ghost use Rattle.event_trail.specs.Trails.{IsLawfulOver};
 ghost use Rattle.replica_exchange.specs.MachineCalls.{IsMemberOf, HasRoom, AddsStep, MayAnswerBy, MayAnswer, IsAnswer, OtherReplicasStay};
 ghost use Rattle.replica_exchange.specs.Exchanges.{ask_of};
@@ -20,10 +20,10 @@ use crate::parts::{
     began_of, began_view, count_of, count_view, done_of, done_view, found_of, found_view,
 };
 use crate::slot::Slot;
-use cluster_core::StepCall;
 use event_trail::{CallView, EventView, ReplyView, Trail, tell_apart};
-use m3_model::{Pick, Point, Report, Rules, Seq, Series};
-use m3_outside::Disk;
+use replica_machine::cluster_core::StepCall;
+use replica_machine::m3_model::{Pick, Point, Report, Rules, Seq, Series};
+use replica_machine::m3_outside::Disk;
 
 // Adds an Ask for the call.
 fn ask<D: Disk>(trail: &mut Trail<D>, slot: Slot, call: &CallView)

@@ -17,3 +17,8 @@ pub use exchange::{
 pub use member::Member;
 pub use replica_machine::Machine;
 pub use slot::Slot;
+
+// Libraries that the rows of crates above need not name.
+pub use event_trail;
+pub use replica_machine;
+pub use replica_machine::{m3_model, m3_outside, placement_core, series_id};

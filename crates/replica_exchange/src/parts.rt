@@ -1,13 +1,13 @@
 //! What a machine said, as the events of a run have it and as its caller is told.
 ghost use Rattle.std.specs.Prelude.{◌≡◌};
-ghost use Rattle.cluster_core.specs.declared.event.StepReply.TheVariants as reply;
+ghost use Rattle.replica_machine.specs.cluster_core.declared.event.StepReply.TheVariants as reply;
 ghost use Rattle.replica_machine.specs.Steps.{reply_by};
 ghost use Rattle.replica_exchange.specs.MachineCalls.{result_of};
 
 use crate::call_err::CallErr;
 use event_trail::ReplyView;
-use m3_model::{Reason, Seq, Series};
 use replica_machine::Began;
+use replica_machine::m3_model::{Reason, Seq, Series};
 
 pub(crate) fn done_view(said: &Result<(), Reason>) -> ReplyView
     ensures { result ≡ reply_by (λ _. reply.Done) said.now }

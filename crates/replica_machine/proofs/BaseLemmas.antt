@@ -5,9 +5,9 @@ use Rattle.m3_model.specs.Members.{IsIn}
 use Rattle.m3_model.specs.declared.point.Point.{Point}
 use Rattle.m3_model.proofs.MemberLemmas.{IsIn-append_left, IsIn-push}
 use Rattle.m3_outside.specs.Files.{Files}
-use Rattle.shard_files.specs.FilesHold.{FilesHold}
-use Rattle.shard_files.specs.Once.{HaveSamePoints}
-use Rattle.shard_files.specs.Gains.{nothing, a_tenure, Grows, Gains, MayGain}
+use Rattle.shard_store.specs.shard_files.FilesHold.{FilesHold}
+use Rattle.shard_store.specs.shard_files.Once.{HaveSamePoints}
+use Rattle.shard_store.specs.shard_files.Gains.{nothing, a_tenure, Grows, Gains, MayGain}
 use Rattle.replica_machine.specs.Bases.{HoldsTried, MayHaveTried, CameFrom}
 
 -- a list that grew by no points has the same

@@ -10,15 +10,15 @@ use Rattle.m3_outside.specs.Causes.{CountsFaults}
 use Rattle.m3_outside.specs.Files.{Files, Stays}
 use Rattle.m3_outside.specs.DiskState.{DiskState, Told, StepOf, Elapses}
 use Rattle.m3_outside.proofs.Moments.{step_as}
-use Rattle.shard_files.specs.FilesHold.{IsSound}
-use Rattle.shard_files.specs.Once.{HeldOnce}
-use Rattle.shard_files.specs.Damage.{OfForm, OfDigest}
-use Rattle.shard_files.specs.Gains.{nothing, a_tenure, Gains, MayGain}
-use Rattle.shard_files.specs.declared.load_err.LoadErr.{LoadErr}
-use Rattle.shard_files.specs.declared.load_err.LoadErr.TheVariants as failures
+use Rattle.shard_store.specs.shard_files.FilesHold.{IsSound}
+use Rattle.shard_store.specs.shard_files.Once.{HeldOnce}
+use Rattle.shard_store.specs.shard_files.Damage.{OfForm, OfDigest}
+use Rattle.shard_store.specs.shard_files.Gains.{nothing, a_tenure, Gains, MayGain}
+use Rattle.shard_store.specs.shard_files.declared.load_err.LoadErr.{LoadErr}
+use Rattle.shard_store.specs.shard_files.declared.load_err.LoadErr.TheVariants as failures
 use Rattle.shard_store.specs.Told.{MayBeUnsound}
 use Rattle.shard_store.proofs.ToldLemmas.{told_are_unsound}
-use Rattle.shard_files.proofs.GainLemmas.{nothing_is_part}
+use Rattle.shard_store.proofs.shard_files_proofs.GainLemmas.{nothing_is_part}
 use Rattle.cluster_core.specs.Refusals.{closed}
 use Rattle.cluster_core.specs.declared.event.StepCall.TheVariants as call
 use Rattle.cluster_core.specs.declared.event.StepReply.TheVariants as reply

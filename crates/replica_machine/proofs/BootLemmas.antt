@@ -18,15 +18,15 @@ use Rattle.m3_outside.specs.DiskState.{DiskState, Told, EachImage, StepOf}
 use Rattle.m3_outside.specs.declared.disk_err.DiskErr.{DiskErr}
 use Rattle.m3_outside.specs.declared.disk_err.DiskErr.TheVariants as refused
 use Rattle.placement_core.proofs.ListLemmas.{All-from_each, each-from_All, Any-from_IsIn}
-use Rattle.shard_files.specs.FilesHold.{IsSound}
-use Rattle.shard_files.specs.Once.{HeldOnce}
-use Rattle.shard_files.specs.Gains.{nothing, a_tenure, Gains, MayGain, Brings}
+use Rattle.shard_store.specs.shard_files.FilesHold.{IsSound}
+use Rattle.shard_store.specs.shard_files.Once.{HeldOnce}
+use Rattle.shard_store.specs.shard_files.Gains.{nothing, a_tenure, Gains, MayGain, Brings}
 use Rattle.shard_store.specs.Stores.{StoreState, closed_over}
-use Rattle.shard_files.proofs.GainLemmas.{covers_itself}
-use Rattle.shard_files.proofs.FilesHoldLemmas.{files_hold_one}
+use Rattle.shard_store.proofs.shard_files_proofs.GainLemmas.{covers_itself}
+use Rattle.shard_store.proofs.shard_files_proofs.FilesHoldLemmas.{files_hold_one}
 use Rattle.shard_store.proofs.LogStepLemmas.{counts_same}
 use Rattle.shard_store.proofs.Counts.{counts_both, counts_for}
-use Rattle.shard_files.proofs.ContentLemmas.{content_holds, content_source}
+use Rattle.shard_store.proofs.shard_files_proofs.ContentLemmas.{content_holds, content_source}
 use Rattle.cluster_core.specs.Refusals.{closed, first_refusal}
 use Rattle.cluster_core.specs.Replicas.{Shows, IsGone, after}
 use Rattle.cluster_core.specs.Rows.{NoneHigher, MayBeHigher, IsBegan, LawfulStep}

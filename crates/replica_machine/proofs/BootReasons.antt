@@ -5,10 +5,10 @@ use Rattle.shard_store.specs.Told.{AreApart}
 use Rattle.m3_model.specs.declared.reason.Damage.{Damage}
 use Rattle.m3_model.specs.declared.reason.Reason.{Reason}
 use Rattle.m3_model.specs.declared.reason.Reason.TheVariants as reason
-use Rattle.shard_files.specs.declared.load_err.LoadErr.{LoadErr}
-use Rattle.shard_files.specs.declared.load_err.LoadErr.TheVariants as failures
+use Rattle.shard_store.specs.shard_files.declared.load_err.LoadErr.{LoadErr}
+use Rattle.shard_store.specs.shard_files.declared.load_err.LoadErr.TheVariants as failures
 use Rattle.replica_machine.specs.Boots.{MayNotLoad, IsBootReason}
-use Rattle.shard_files.specs.Damage.{OfForm, OfDigest}
+use Rattle.shard_store.specs.shard_files.Damage.{OfForm, OfDigest}
 use Rattle.replica_machine.specs.Damages.{told_of, IsFileDamage}
 use Rattle.replica_machine.specs.Machines.{IsOwn}
 

@@ -10,10 +10,10 @@ use Rattle.m3_outside.specs.DiskState.{DiskState, EachImage, StepOf, Elapses}
 use Rattle.m3_outside.specs.declared.disk_err.DiskErr.{DiskErr}
 use Rattle.m3_outside.specs.declared.disk_err.DiskErr.TheVariants as refused
 use Rattle.m3_outside.proofs.Moments.{step_as, elapses_as, elapses_then}
-use Rattle.shard_files.specs.Parts.{AreWhole}
-use Rattle.shard_files.specs.FilesHold.{FilesHold}
-use Rattle.shard_files.specs.Gains.{Gain, nothing, HoldsAll, Gains, MayGain, Brings}
-use Rattle.shard_files.proofs.GainLemmas.{gains_nothing, nothing_is_part}
+use Rattle.shard_store.specs.shard_files.Parts.{AreWhole}
+use Rattle.shard_store.specs.shard_files.FilesHold.{FilesHold}
+use Rattle.shard_store.specs.shard_files.Gains.{Gain, nothing, HoldsAll, Gains, MayGain, Brings}
+use Rattle.shard_store.proofs.shard_files_proofs.GainLemmas.{gains_nothing, nothing_is_part}
 use Rattle.cluster_core.specs.declared.event.StepReply.{StepReply}
 use Rattle.cluster_core.specs.declared.event.StepReply.TheVariants as reply
 use Rattle.shard_store.proofs.LogStepLemmas.{after_nothing, steps_after_nothing, on_ok_as, brings_none}

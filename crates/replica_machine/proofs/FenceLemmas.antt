@@ -16,7 +16,7 @@ use Rattle.m3_outside.specs.Files.{Files}
 use Rattle.m3_outside.specs.DiskState.{DiskState, Becomes}
 use Rattle.m3_outside.specs.declared.disk_err.DiskErr.{DiskErr}
 use Rattle.m3_outside.specs.declared.disk_err.DiskErr.TheVariants as refused
-use Rattle.shard_files.specs.Gains.{a_fence, Brings}
+use Rattle.shard_store.specs.shard_files.Gains.{a_fence, Brings}
 use Rattle.shard_store.specs.Stores.{StoreState}
 use Rattle.shard_store.proofs.LogStepLemmas.{counts_same}
 use Rattle.cluster_core.specs.Refusals.{shut, unowned, first_refusal}

@@ -7,10 +7,10 @@ use Rattle.m3_model.specs.declared.reason.Reason.TheVariants as reason
 use Rattle.m3_model.specs.declared.replica.Standing.{Standing}
 use Rattle.m3_model.specs.declared.replica.Standing.TheVariants as standing
 use Rattle.m3_outside.specs.DiskState.{DiskState}
-use Rattle.shard_files.specs.Damage.{OfForm}
-use Rattle.fileset_read.specs.Volumes.{IsUndamaged}
-use Rattle.fileset_read.specs.declared.file_err.FileErr.{FileErr}
-use Rattle.fileset_read.specs.declared.file_err.FileErr.TheVariants as unread
+use Rattle.shard_store.specs.shard_files.Damage.{OfForm}
+use Rattle.shard_store.specs.fileset_read.Volumes.{IsUndamaged}
+use Rattle.shard_store.specs.fileset_read.declared.file_err.FileErr.{FileErr}
+use Rattle.shard_store.specs.fileset_read.declared.file_err.FileErr.TheVariants as unread
 use Rattle.shard_store.specs.Stores.{StoreState, closed_over}
 use Rattle.replica_machine.specs.Boots.{IsRefused}
 use Rattle.replica_machine.specs.Damages.{told_of, IsFileDamage}

@@ -10,11 +10,11 @@ use Rattle.m3_model.specs.declared.rules.Rules.{Rules}
 use Rattle.m3_outside.specs.Files.{Files}
 use Rattle.m3_outside.specs.DiskState.{DiskState}
 use Rattle.m3_outside.specs.declared.file_name.FileName.{FileName}
-use Rattle.shard_files.specs.Damage.{OfForm}
-use Rattle.shard_files.specs.Keeps.{Rearranges}
-use Rattle.fileset_read.specs.Volumes.{IsUndamaged}
-use Rattle.fileset_read.specs.declared.file_err.FileErr.{FileErr}
-use Rattle.fileset_read.specs.declared.file_err.FileErr.TheVariants as unread
+use Rattle.shard_store.specs.shard_files.Damage.{OfForm}
+use Rattle.shard_store.specs.shard_files.Keeps.{Rearranges}
+use Rattle.shard_store.specs.fileset_read.Volumes.{IsUndamaged}
+use Rattle.shard_store.specs.fileset_read.declared.file_err.FileErr.{FileErr}
+use Rattle.shard_store.specs.fileset_read.declared.file_err.FileErr.TheVariants as unread
 use Rattle.shard_store.proofs.Counts.{counts_for}
 use Rattle.shard_store.specs.Flushes.{AreFlushed, HasFlushed}
 use Rattle.shard_store.specs.Flushes as store

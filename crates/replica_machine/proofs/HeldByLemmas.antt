@@ -9,9 +9,9 @@ use Rattle.m3_model.specs.declared.point.Point.{Point}
 use Rattle.m3_model.proofs.MemberLemmas.{IsIn-append_left, IsIn-append_cases, IsIn-push}
 use Rattle.m3_outside.specs.Files.{Files}
 use Rattle.placement_core.proofs.ListLemmas.{All-from_each, each-from_All, Any-from_IsIn, IsIn-from_Any}
-use Rattle.shard_files.specs.FilesHold.{FilesHold}
-use Rattle.shard_files.specs.Gains.{Gain, nothing, a_point, a_fence, Grows, Gains, MayGain}
-use Rattle.shard_files.proofs.GainLemmas.{covers_itself, covers_then}
+use Rattle.shard_store.specs.shard_files.FilesHold.{FilesHold}
+use Rattle.shard_store.specs.shard_files.Gains.{Gain, nothing, a_point, a_fence, Grows, Gains, MayGain}
+use Rattle.shard_store.proofs.shard_files_proofs.GainLemmas.{covers_itself, covers_then}
 use Rattle.cluster_core.specs.Replicas.{greater, IsGone}
 use Rattle.cluster_core.specs.declared.replica_state.ReplicaState.{ReplicaState}
 use Rattle.replica_machine.specs.Machines.{MayHaveTenure, IsHeldBy}

@@ -13,10 +13,10 @@ use Rattle.m3_model.specs.declared.point.Point.{Point}
 use Rattle.m3_model.specs.declared.rules.Rules.{Rules}
 use Rattle.m3_outside.specs.Files.{Files}
 use Rattle.m3_outside.specs.DiskState.{DiskState, EachImage, Elapses}
-use Rattle.block_buffer.specs.Held.{without, has_expired}
-use Rattle.block_buffer.proofs.LawLemmas.{expires}
-use Rattle.shard_files.specs.Keeps.{Keeps, Rearranges}
-use Rattle.shard_files.proofs.FilesHoldLemmas.{files_hold_one}
+use Rattle.shard_store.specs.block_buffer.Held.{without, has_expired}
+use Rattle.shard_store.proofs.block_buffer_proofs.LawLemmas.{expires}
+use Rattle.shard_store.specs.shard_files.Keeps.{Keeps, Rearranges}
+use Rattle.shard_store.proofs.shard_files_proofs.FilesHoldLemmas.{files_hold_one}
 use Rattle.shard_store.specs.Stores.{HoldsOpened, StoreState, closed_over}
 use Rattle.cluster_core.specs.Refusals.{shut}
 use Rattle.shard_store.proofs.LogStepLemmas.{counts_same}

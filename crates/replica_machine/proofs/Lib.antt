@@ -24,3 +24,7 @@ pub mod ReadLemmas
 pub mod FlushLemmas
 pub mod TickLemmas
 pub mod SavedLemmas
+pub use Rattle.cluster_core.proofs as cluster_core_proofs
+pub use Rattle.m3_model.proofs as m3_model_proofs
+pub use Rattle.placement_core.proofs as placement_core_proofs
+pub use Rattle.shard_store.proofs.shard_files_proofs as shard_files_proofs

@@ -7,8 +7,8 @@ use Rattle.m3_model.proofs.MemberLemmas.{IsIn-append_left, IsIn-append_right, Is
 use Rattle.m3_outside.specs.Files.{Files}
 use Rattle.m3_outside.specs.DiskState.{DiskState}
 use Rattle.placement_core.proofs.ListLemmas.{Any-from_IsIn, IsIn-from_Any}
-use Rattle.shard_files.specs.Once.{HaveSamePoints}
-use Rattle.shard_files.proofs.FilesHoldLemmas.{files_hold_one}
+use Rattle.shard_store.specs.shard_files.Once.{HaveSamePoints}
+use Rattle.shard_store.proofs.shard_files_proofs.FilesHoldLemmas.{files_hold_one}
 use Rattle.cluster_core.specs.declared.replica_state.ReplicaState.{ReplicaState}
 use Rattle.replica_machine.specs.Bases.{CameFrom}
 use Rattle.replica_machine.specs.Machines.{MayHaveTenure}

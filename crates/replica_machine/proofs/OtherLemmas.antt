@@ -18,10 +18,10 @@ use Rattle.m3_outside.specs.DiskCalls.{Restarts}
 use Rattle.m3_outside.specs.declared.disk_err.DiskErr.{DiskErr}
 use Rattle.m3_outside.specs.declared.disk_err.DiskErr.TheVariants as refused
 use Rattle.m3_outside.proofs.Moments.{step_as}
-use Rattle.shard_files.specs.Parts.{AreWhole}
-use Rattle.shard_files.specs.Gains.{nothing, Gains}
+use Rattle.shard_store.specs.shard_files.Parts.{AreWhole}
+use Rattle.shard_store.specs.shard_files.Gains.{nothing, Gains}
 use Rattle.shard_store.specs.Stores.{StoreState, closed_over}
-use Rattle.shard_files.proofs.GainLemmas.{gains_nothing}
+use Rattle.shard_store.proofs.shard_files_proofs.GainLemmas.{gains_nothing}
 use Rattle.shard_store.proofs.LogStepLemmas.{counts_same}
 use Rattle.shard_store.proofs.Counts.{counts_for}
 use Rattle.cluster_core.specs.Replicas.{fresh}

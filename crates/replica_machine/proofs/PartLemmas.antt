@@ -9,13 +9,13 @@ use Rattle.m3_model.specs.declared.replica.Standing.TheVariants as standing
 use Rattle.m3_outside.specs.Causes.{CountsFaults}
 use Rattle.m3_outside.specs.Files.{Stays}
 use Rattle.m3_outside.specs.DiskState.{DiskState, Told, Elapses}
-use Rattle.shard_files.specs.FilesHold.{FilesHold}
-use Rattle.shard_files.specs.Once.{HeldOnce}
-use Rattle.shard_files.specs.Gains.{a_tenure}
+use Rattle.shard_store.specs.shard_files.FilesHold.{FilesHold}
+use Rattle.shard_store.specs.shard_files.Once.{HeldOnce}
+use Rattle.shard_store.specs.shard_files.Gains.{a_tenure}
 use Rattle.shard_store.specs.Told.{MayBeUnsound}
 use Rattle.shard_store.specs.Stores.{StoreState, closed_over}
-use Rattle.shard_files.specs.declared.load_err.LoadErr.{LoadErr}
-use Rattle.shard_files.specs.declared.load_err.LoadErr.TheVariants as failures
+use Rattle.shard_store.specs.shard_files.declared.load_err.LoadErr.{LoadErr}
+use Rattle.shard_store.specs.shard_files.declared.load_err.LoadErr.TheVariants as failures
 use Rattle.cluster_core.specs.Refusals.{closed}
 use Rattle.cluster_core.specs.declared.event.StepCall.TheVariants as call
 use Rattle.cluster_core.specs.declared.event.StepReply.TheVariants as reply

@@ -17,12 +17,12 @@ use Rattle.m3_outside.specs.Files.{Files}
 use Rattle.m3_outside.specs.DiskCalls.{LeavesFiles}
 use Rattle.m3_outside.specs.DiskState.{DiskState, StepOf}
 use Rattle.m3_outside.proofs.Moments.{step_as}
-use Rattle.commit_log.proofs.Leaves.{leaves_none, leaves_as}
-use Rattle.shard_files.specs.Damage.{OfForm}
-use Rattle.shard_files.specs.Gains.{nothing, Gains}
-use Rattle.fileset_read.specs.Volumes.{IsUndamaged}
-use Rattle.fileset_read.specs.declared.file_err.FileErr.{FileErr}
-use Rattle.fileset_read.specs.declared.file_err.FileErr.TheVariants as unread
+use Rattle.shard_store.proofs.commit_log_proofs.Leaves.{leaves_none, leaves_as}
+use Rattle.shard_store.specs.shard_files.Damage.{OfForm}
+use Rattle.shard_store.specs.shard_files.Gains.{nothing, Gains}
+use Rattle.shard_store.specs.fileset_read.Volumes.{IsUndamaged}
+use Rattle.shard_store.specs.fileset_read.declared.file_err.FileErr.{FileErr}
+use Rattle.shard_store.specs.fileset_read.declared.file_err.FileErr.TheVariants as unread
 use Rattle.shard_store.proofs.Counts.{counts_for}
 use Rattle.shard_store.specs.Stores.{StoreState, closed_over}
 use Rattle.shard_store.proofs.LogStepLemmas.{counts_same}

@@ -14,8 +14,8 @@ use Rattle.m3_model.proofs.MemberLemmas.{IsIn-append_left, IsIn-push}
 use Rattle.m3_outside.specs.Files.{Files}
 use Rattle.m3_outside.specs.DiskState.{DiskState, EachImage}
 use Rattle.placement_core.proofs.ListLemmas.{All-from_each, each-from_All, Any-from_IsIn, IsIn-from_Any}
-use Rattle.shard_files.specs.Parts.{AreWhole}
-use Rattle.shard_files.specs.Keeps.{Keeps, HoldContent}
+use Rattle.shard_store.specs.shard_files.Parts.{AreWhole}
+use Rattle.shard_store.specs.shard_files.Keeps.{Keeps, HoldContent}
 use Rattle.cluster_core.specs.Replicas.{Shows, IsGone, down}
 use Rattle.cluster_core.specs.declared.event.StepReply.TheVariants as reply
 use Rattle.cluster_core.specs.declared.replica_state.ReplicaState.{ReplicaState}

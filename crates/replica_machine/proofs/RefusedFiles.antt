@@ -5,10 +5,10 @@ use Rattle.m3_model.specs.declared.reason.Reason.{Reason}
 use Rattle.m3_model.specs.declared.reason.Reason.TheVariants as reason
 use Rattle.m3_outside.specs.Files.{Stays}
 use Rattle.m3_outside.specs.DiskState.{DiskState, Elapses, Becomes}
-use Rattle.shard_files.specs.declared.load_err.LoadErr.{LoadErr}
-use Rattle.shard_files.specs.declared.load_err.LoadErr.TheVariants as failures
+use Rattle.shard_store.specs.shard_files.declared.load_err.LoadErr.{LoadErr}
+use Rattle.shard_store.specs.shard_files.declared.load_err.LoadErr.TheVariants as failures
 use Rattle.replica_machine.specs.Boots.{MayNotLoad}
-use Rattle.shard_files.specs.Damage.{OfForm, OfDigest}
+use Rattle.shard_store.specs.shard_files.Damage.{OfForm, OfDigest}
 use Rattle.replica_machine.specs.Damages.{told_of}
 use Rattle.replica_machine.specs.Machines.{IsOwn}
 

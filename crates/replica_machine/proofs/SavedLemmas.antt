@@ -10,10 +10,10 @@ use Rattle.m3_outside.specs.Files.{Files}
 use Rattle.m3_outside.specs.DiskState.{DiskState, EachImage}
 use Rattle.m3_outside.specs.declared.disk_err.DiskErr.{DiskErr}
 use Rattle.m3_outside.specs.declared.disk_err.DiskErr.TheVariants as refused
-use Rattle.commit_log.specs.Contents.{numbers, next_after}
-use Rattle.shard_files.specs.Keeps.{Rearranges}
-use Rattle.shard_files.specs.Parts.{KnownVolume, VolumesAre}
-use Rattle.shard_files.specs.Steps.{next_snapshot}
+use Rattle.shard_store.specs.commit_log.Contents.{numbers, next_after}
+use Rattle.shard_store.specs.shard_files.Keeps.{Rearranges}
+use Rattle.shard_store.specs.shard_files.Parts.{KnownVolume, VolumesAre}
+use Rattle.shard_store.specs.shard_files.Steps.{next_snapshot}
 use Rattle.shard_store.proofs.Counts.{counts_for}
 use Rattle.shard_store.specs.OneSnapshot.{HasOneSnapshot}
 use Rattle.shard_store.specs.Stores.{StoreState, closed_over}

@@ -11,8 +11,8 @@ use Rattle.m3_model.proofs.MemberLemmas.{IsIn-append_left, IsIn-append_cases, Is
 use Rattle.m3_outside.specs.Files.{Files}
 use Rattle.m3_outside.specs.DiskState.{DiskState, EachImage, StepOf}
 use Rattle.placement_core.proofs.ListLemmas.{All-from_each, each-from_All}
-use Rattle.shard_files.specs.Parts.{AreWhole}
-use Rattle.shard_files.specs.Gains.{nothing, a_point, a_fence, Gains}
+use Rattle.shard_store.specs.shard_files.Parts.{AreWhole}
+use Rattle.shard_store.specs.shard_files.Gains.{nothing, a_point, a_fence, Gains}
 use Rattle.cluster_core.specs.Replicas.{Shows, greater}
 use Rattle.cluster_core.specs.Rows.{IsServingAt}
 use Rattle.cluster_core.specs.declared.replica_state.ReplicaState.{ReplicaState}

@@ -9,11 +9,11 @@ use Rattle.m3_model.specs.declared.replica.Standing.TheVariants as standing
 use Rattle.m3_model.proofs.MemberLemmas.{IsIn-append_left, IsIn-append_right, IsIn-append_cases, IsIn-push}
 use Rattle.m3_outside.specs.Files.{Files}
 use Rattle.placement_core.proofs.ListLemmas.{All-from_each, each-from_All, Any-from_IsIn, IsIn-from_Any}
-use Rattle.shard_files.specs.FilesHold.{FilesHold}
-use Rattle.shard_files.specs.Once.{HaveSamePoints, HeldOnce}
-use Rattle.shard_files.specs.Gains.{a_tenure, Gains, MayGain}
-use Rattle.shard_files.proofs.GainLemmas.{covers_itself, covers_then}
-use Rattle.shard_files.proofs.FilesHoldLemmas.{files_hold_one}
+use Rattle.shard_store.specs.shard_files.FilesHold.{FilesHold}
+use Rattle.shard_store.specs.shard_files.Once.{HaveSamePoints, HeldOnce}
+use Rattle.shard_store.specs.shard_files.Gains.{a_tenure, Gains, MayGain}
+use Rattle.shard_store.proofs.shard_files_proofs.GainLemmas.{covers_itself, covers_then}
+use Rattle.shard_store.proofs.shard_files_proofs.FilesHoldLemmas.{files_hold_one}
 use Rattle.cluster_core.specs.Replicas.{greater, IsGone}
 use Rattle.cluster_core.specs.Rows.{IsLoaded}
 use Rattle.cluster_core.specs.declared.replica_state.ReplicaState.{ReplicaState}

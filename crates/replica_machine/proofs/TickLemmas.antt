@@ -15,12 +15,12 @@ use Rattle.m3_outside.specs.Files.{Files}
 use Rattle.m3_outside.specs.DiskState.{DiskState, Told, Becomes}
 use Rattle.m3_outside.proofs.Moments.{step_as, same_becomes}
 use Rattle.m3_outside.specs.declared.file_name.FileName.{FileName}
-use Rattle.block_buffer.specs.Held.{without, has_expired}
-use Rattle.shard_files.specs.Damage.{OfForm}
-use Rattle.shard_files.specs.Keeps.{HoldContent, Rearranges}
-use Rattle.fileset_read.specs.Volumes.{IsUndamaged}
-use Rattle.fileset_read.specs.declared.file_err.FileErr.{FileErr}
-use Rattle.fileset_read.specs.declared.file_err.FileErr.TheVariants as unread
+use Rattle.shard_store.specs.block_buffer.Held.{without, has_expired}
+use Rattle.shard_store.specs.shard_files.Damage.{OfForm}
+use Rattle.shard_store.specs.shard_files.Keeps.{HoldContent, Rearranges}
+use Rattle.shard_store.specs.fileset_read.Volumes.{IsUndamaged}
+use Rattle.shard_store.specs.fileset_read.declared.file_err.FileErr.{FileErr}
+use Rattle.shard_store.specs.fileset_read.declared.file_err.FileErr.TheVariants as unread
 use Rattle.shard_store.proofs.Counts.{counts_for}
 use Rattle.shard_store.specs.Ticks.{HasTicked}
 use Rattle.shard_store.specs.Stores.{StoreState, closed_over}

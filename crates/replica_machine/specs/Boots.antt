@@ -7,13 +7,13 @@ use Rattle.m3_model.specs.declared.reason.Reason.TheVariants as reason
 use Rattle.m3_model.specs.declared.replica.Standing.TheVariants as standing
 use Rattle.m3_outside.specs.Files.{Files}
 use Rattle.m3_outside.specs.DiskState.{DiskState, Told}
-use Rattle.block_buffer.specs.Taken.{settled_with}
-use Rattle.shard_files.specs.Parts.{KnownVolume, VolumesAre}
-use Rattle.shard_files.specs.FilesHold.{FilesHold, volume_points}
-use Rattle.shard_files.specs.Once.{HeldOnce}
-use Rattle.shard_files.specs.Damage.{OfForm, OfDigest}
-use Rattle.shard_files.specs.declared.load_err.LoadErr.{LoadErr}
-use Rattle.shard_files.specs.declared.load_err.LoadErr.TheVariants as failures
+use Rattle.shard_store.specs.block_buffer.Taken.{settled_with}
+use Rattle.shard_store.specs.shard_files.Parts.{KnownVolume, VolumesAre}
+use Rattle.shard_store.specs.shard_files.FilesHold.{FilesHold, volume_points}
+use Rattle.shard_store.specs.shard_files.Once.{HeldOnce}
+use Rattle.shard_store.specs.shard_files.Damage.{OfForm, OfDigest}
+use Rattle.shard_store.specs.shard_files.declared.load_err.LoadErr.{LoadErr}
+use Rattle.shard_store.specs.shard_files.declared.load_err.LoadErr.TheVariants as failures
 use Rattle.replica_machine.specs.Damages.{told_of}
 use Rattle.replica_machine.specs.Machines.{MachineState, shut_machine}
 use Rattle.replica_machine.specs.declared.machine.Began.{Began}

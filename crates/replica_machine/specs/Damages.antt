@@ -4,7 +4,7 @@ use Rattle.m3_model.specs.declared.reason.Damage.{Damage}
 use Rattle.m3_model.specs.declared.reason.Damage.TheVariants as damage
 use Rattle.m3_outside.specs.Files.{Files}
 use Rattle.m3_outside.specs.declared.file_name.FileName.{FileName}
-use Rattle.shard_files.specs.Damage.{Damage as FileDamage, OfForm, OfDigest}
+use Rattle.shard_store.specs.shard_files.Damage.{Damage as FileDamage, OfForm, OfDigest}
 use Rattle.shard_store.specs.Told.{FilesTell}
 
 -- ---- the names of a replica's files, as they are printed

@@ -5,7 +5,7 @@ use Rattle.m3_model.specs.Members.{IsIn}
 use Rattle.m3_model.specs.declared.point.Point.{Point}
 use Rattle.m3_outside.specs.Files.{Files}
 use Rattle.m3_outside.specs.DiskState.{DiskState, EachImage}
-use Rattle.shard_files.specs.FilesHold.{FilesHold}
+use Rattle.shard_store.specs.shard_files.FilesHold.{FilesHold}
 use Rattle.cluster_core.specs.declared.replica_state.ReplicaState.{ReplicaState}
 use Rattle.replica_machine.specs.Machines.{MachineState, MayHaveTenure, IsMachineOf}
 

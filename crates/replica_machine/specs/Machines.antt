@@ -21,8 +21,8 @@ use Rattle.m3_outside.specs.Files.{Files}
 use Rattle.m3_outside.specs.DiskState.{DiskState, EachImage}
 use Rattle.m3_outside.specs.declared.disk_err.DiskErr.{DiskErr}
 use Rattle.m3_outside.specs.declared.disk_err.DiskErr.TheVariants as refused
-use Rattle.shard_files.specs.Parts.{AreWhole}
-use Rattle.shard_files.specs.FilesHold.{FilesHold}
+use Rattle.shard_store.specs.shard_files.Parts.{AreWhole}
+use Rattle.shard_store.specs.shard_files.FilesHold.{FilesHold}
 use Rattle.shard_store.specs.Stores.{StoreState, closed_over}
 use Rattle.cluster_core.specs.Refusals.{shut, unowned, outdated, first_refusal}
 use Rattle.cluster_core.specs.Replicas.{Shows, IsGone, fresh}

@@ -5,8 +5,8 @@ use Rattle.m3_model.specs.Members.{IsIn}
 use Rattle.m3_model.specs.declared.point.Point.{Point}
 use Rattle.m3_outside.specs.Files.{Files}
 use Rattle.m3_outside.specs.DiskState.{DiskState, EachImage}
-use Rattle.shard_files.specs.FilesHold.{FilesHold, IsSound, AreSound}
-use Rattle.shard_files.specs.Once.{HaveSamePoints, IsEachOnce}
+use Rattle.shard_store.specs.shard_files.FilesHold.{FilesHold, IsSound, AreSound}
+use Rattle.shard_store.specs.shard_files.Once.{HaveSamePoints, IsEachOnce}
 use Rattle.cluster_core.specs.Replicas.{after}
 use Rattle.cluster_core.specs.Rows.{LawfulStep}
 use Rattle.cluster_core.specs.declared.event.Event.{Event}

@@ -3,10 +3,10 @@ use Rattle.std.specs.Prelude.{⊤, Option, Some, None, Result, Ok, Err, IsErrOf}
 use Rattle.m3_model.specs.declared.reason.Reason.{Reason}
 use Rattle.m3_model.specs.declared.reason.Reason.TheVariants as reason
 use Rattle.m3_outside.specs.DiskState.{DiskState, Told}
-use Rattle.shard_files.specs.Damage.{OfForm}
-use Rattle.shard_files.specs.FilesHold.{IsSound}
-use Rattle.fileset_read.specs.declared.file_err.FileErr.{FileErr}
-use Rattle.fileset_read.specs.declared.file_err.FileErr.TheVariants as unread
+use Rattle.shard_store.specs.shard_files.Damage.{OfForm}
+use Rattle.shard_store.specs.shard_files.FilesHold.{IsSound}
+use Rattle.shard_store.specs.fileset_read.declared.file_err.FileErr.{FileErr}
+use Rattle.shard_store.specs.fileset_read.declared.file_err.FileErr.TheVariants as unread
 use Rattle.replica_machine.specs.Damages.{told_of, IsDamageOf}
 use Rattle.replica_machine.specs.Machines.{MachineState, IsOwn}
 

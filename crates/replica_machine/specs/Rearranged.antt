@@ -11,7 +11,7 @@ use Rattle.m3_model.specs.declared.replica.Standing.TheVariants as standing
 use Rattle.m3_model.specs.declared.rules.Rules.{Rules}
 use Rattle.m3_outside.specs.Files.{Files}
 use Rattle.m3_outside.specs.DiskState.{DiskState, Told, StepOf}
-use Rattle.shard_files.specs.Keeps.{Keeps, HoldContent}
+use Rattle.shard_store.specs.shard_files.Keeps.{Keeps, HoldContent}
 use Rattle.cluster_core.specs.Replicas.{Shows, after, down}
 use Rattle.cluster_core.specs.declared.event.StepCall.TheVariants as call
 use Rattle.cluster_core.specs.declared.event.StepReply.{StepReply}

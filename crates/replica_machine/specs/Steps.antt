@@ -6,8 +6,8 @@ use Rattle.m3_model.specs.declared.reason.Reason.TheVariants as reason
 use Rattle.m3_outside.specs.Causes.{CountsFaults}
 use Rattle.m3_outside.specs.Files.{Files, Stays}
 use Rattle.m3_outside.specs.DiskState.{DiskState, StepOf, Elapses, Proceeds, Told}
-use Rattle.shard_files.specs.FilesHold.{IsSound}
-use Rattle.shard_files.specs.Gains.{Gain, nothing, Gains, MayGain}
+use Rattle.shard_store.specs.shard_files.FilesHold.{IsSound}
+use Rattle.shard_store.specs.shard_files.Gains.{Gain, nothing, Gains, MayGain}
 use Rattle.cluster_core.specs.Earlier.{HasClock, HasSend, HasTenure, HasPage}
 use Rattle.cluster_core.specs.Replicas.{after}
 use Rattle.cluster_core.specs.Rows.{LawfulStep}

@@ -4,10 +4,10 @@ use Rattle.m3_model.specs.Answers.{HasPoint}
 use Rattle.m3_model.specs.declared.point.Point.{Point}
 use Rattle.m3_model.specs.declared.rules.Rules.{Rules}
 use Rattle.m3_outside.specs.DiskState.{DiskState, EachImage}
-use Rattle.block_buffer.specs.Held.{without, has_expired}
-use Rattle.commit_log.specs.Contents.{numbers, next_after}
-use Rattle.shard_files.specs.Parts.{KnownVolume, VolumesAre}
-use Rattle.shard_files.specs.Steps.{next_snapshot}
+use Rattle.shard_store.specs.block_buffer.Held.{without, has_expired}
+use Rattle.shard_store.specs.commit_log.Contents.{numbers, next_after}
+use Rattle.shard_store.specs.shard_files.Parts.{KnownVolume, VolumesAre}
+use Rattle.shard_store.specs.shard_files.Steps.{next_snapshot}
 use Rattle.shard_store.specs.Flushes.{AreFlushed, AreFlushedTo, is_in_one}
 use Rattle.shard_store.specs.OneSnapshot.{HasOneSnapshot}
 use Rattle.shard_store.specs.Stores.{joined_with}

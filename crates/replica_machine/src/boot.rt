@@ -3,13 +3,13 @@ ghost use Rattle.m3_model.specs.Contents.{content_of};
 ghost use Rattle.m3_model.specs.declared.reason.Reason.TheVariants as reason;
 ghost use Rattle.m3_model.specs.declared.replica.Standing.TheVariants.{Down as IsDown, Boot as IsBoot, Open as IsOpen};
 ghost use Rattle.m3_outside.specs.DiskState.{DiskState, Told, EachImage, Becomes};
-ghost use Rattle.commit_log.specs.Contents.{numbers};
-ghost use Rattle.commit_log.specs.LogEnd.{NoneFrom};
+ghost use Rattle.shard_store.specs.commit_log.Contents.{numbers};
+ghost use Rattle.shard_store.specs.commit_log.LogEnd.{NoneFrom};
 ghost use Rattle.m3_model.specs.declared.reason.Damage.{Damage as Wrong};
-ghost use Rattle.shard_files.specs.FilesHold.{IsSound};
-ghost use Rattle.shard_files.specs.Gains.{a_tenure};
-ghost use Rattle.shard_files.specs.Once.{HeldOnce};
-ghost use Rattle.shard_files.specs.Parts.{IsNewestNumber};
+ghost use Rattle.shard_store.specs.shard_files.FilesHold.{IsSound};
+ghost use Rattle.shard_store.specs.shard_files.Gains.{a_tenure};
+ghost use Rattle.shard_store.specs.shard_files.Once.{HeldOnce};
+ghost use Rattle.shard_store.specs.shard_files.Parts.{IsNewestNumber};
 ghost use Rattle.shard_store.specs.Loads.{AreOpened};
 ghost use Rattle.cluster_core.specs.declared.event.StepCall.TheVariants as call;
 ghost use Rattle.cluster_core.specs.declared.event.StepReply.TheVariants as reply;
@@ -23,8 +23,8 @@ use crate::machine::{Began, Machine, fall};
 use crate::opening::open_store;
 use m3_model::{Damage, Memory, Reason, Seq, Standing};
 use m3_outside::{Disk, DiskErr};
-use shard_files::LoadErr;
 use shard_store::Loaded;
+use shard_store::shard_files::LoadErr;
 
 impl<D: Disk> Machine<D> {
     /// Begins a tenure. From Boot it syncs and loads the files, begins a fresh segment of the log, has the tenure in it where

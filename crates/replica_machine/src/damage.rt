@@ -1,5 +1,5 @@
 ghost use Rattle.std.specs.Prelude.{◌≡◌, ◌+◌, ◌++◌, ◌≤◌, IfOk, length, codes, decimal, string_bytes, string_len, string_capacity};
-ghost use Rattle.shard_files.specs.Damage.{OfDigest, OfForm};
+ghost use Rattle.shard_store.specs.shard_files.Damage.{OfDigest, OfForm};
 ghost use Rattle.replica_machine.specs.Damages.{file_text, part_text, segment_text, snapshot_text, told_of, volume_text, IsNameRoom};
 
 use itoa::Buffer;

@@ -11,3 +11,10 @@ mod refusals;
 mod upkeep;
 
 pub use machine::{Began, Machine};
+
+// Libraries that the rows of crates above need not name.
+pub use cluster_core;
+pub use m3_model;
+pub use m3_outside;
+pub use placement_core;
+pub use shard_store::series_id;

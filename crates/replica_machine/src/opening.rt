@@ -1,11 +1,11 @@
 ghost use Rattle.std.specs.Prelude.{◌≡◌, ◌≤◌, true, max, length, OnOk, OnErr};
 ghost use Rattle.m3_model.specs.Contents.{content_of};
 ghost use Rattle.m3_outside.specs.DiskState.{DiskState, Told, EachImage};
-ghost use Rattle.commit_log.specs.Contents.{numbers};
-ghost use Rattle.commit_log.specs.LogEnd.{NoneFrom};
-ghost use Rattle.shard_files.specs.Gains.{Brings, a_tenure};
-ghost use Rattle.shard_files.specs.Once.{HeldOnce};
-ghost use Rattle.shard_files.specs.Parts.{IsNewestNumber};
+ghost use Rattle.shard_store.specs.commit_log.Contents.{numbers};
+ghost use Rattle.shard_store.specs.commit_log.LogEnd.{NoneFrom};
+ghost use Rattle.shard_store.specs.shard_files.Gains.{Brings, a_tenure};
+ghost use Rattle.shard_store.specs.shard_files.Once.{HeldOnce};
+ghost use Rattle.shard_store.specs.shard_files.Parts.{IsNewestNumber};
 ghost use Rattle.shard_store.specs.Loads.{AreOpened};
 ghost use Rattle.shard_store.specs.Openings.{beside_volumes};
 ghost use Rattle.shard_store.specs.Stores.{closed_over};

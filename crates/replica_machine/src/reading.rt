@@ -5,7 +5,7 @@ ghost use Rattle.m3_model.specs.declared.reason.Reason.TheVariants as reason;
 ghost use Rattle.m3_model.specs.declared.replica.Standing.TheVariants.{Down as IsDown};
 ghost use Rattle.m3_outside.specs.DiskState.{DiskState};
 ghost use Rattle.m3_outside.specs.DiskCalls.{LeavesFiles};
-ghost use Rattle.fileset_read.specs.declared.file_err.FileErr.TheVariants as unread;
+ghost use Rattle.shard_store.specs.fileset_read.declared.file_err.FileErr.TheVariants as unread;
 ghost use Rattle.cluster_core.specs.declared.event.StepCall.TheVariants as call;
 ghost use Rattle.cluster_core.specs.declared.event.StepReply.TheVariants as reply;
 ghost use Rattle.replica_machine.specs.Boots.{IsRefused};
@@ -16,9 +16,9 @@ ghost use Rattle.replica_machine.specs.Steps.{reply_by, IsStep};
 
 use crate::damage::{name_room, named_damage};
 use crate::machine::Machine;
-use fileset_read::FileErr;
 use m3_model::{Pick, Reason, Rules, Seq, Series, Standing};
 use m3_outside::Disk;
+use shard_store::fileset_read::FileErr;
 use std::alloc::Global;
 
 fn space_of(pick: &Pick) -> u8

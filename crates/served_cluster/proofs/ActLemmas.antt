@@ -10,9 +10,9 @@ use Rattle.m3_model.specs.declared.answer.Answer.TheVariants as answer
 use Rattle.m3_model.specs.declared.limits.TheConstants.{MOST_CLIENTS}
 use Rattle.m3_outside.specs.DiskState.{DiskState}
 use Rattle.m3_outside.specs.declared.disk.Disk.{Ghosts}
-use Rattle.replica_exchange.specs.declared.call_id.CallId.{CallId}
-use Rattle.cluster_members.specs.declared.members.Members.{Members}
-use Rattle.node_calls.specs.Nodes.{IsFated}
+use Rattle.cluster_tracks.specs.replica_exchange.declared.call_id.CallId.{CallId}
+use Rattle.cluster_tracks.specs.cluster_members.declared.members.Members.{Members}
+use Rattle.cluster_tracks.specs.node_calls.Nodes.{IsFated}
 use Rattle.cluster_tracks.specs.Numbers.{after_call, last_number, numbers_by}
 use Rattle.cluster_tracks.specs.Acts.{Does, OnMembers, next_call}
 use Rattle.served_cluster.specs.Acts.{Answers, sets_fates}

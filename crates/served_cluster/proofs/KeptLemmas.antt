@@ -16,21 +16,21 @@ use Rattle.m3_outside.specs.Slots.{Held}
 use Rattle.m3_outside.specs.declared.slot.DiskSlot.{DiskSlot}
 use Rattle.m3_outside.specs.declared.disk.Disk.{Ghosts}
 use Rattle.cluster_core.proofs.ExtendLemmas.{any_more}
-use Rattle.replica_exchange.specs.declared.call_id.CallId.{CallId}
-use Rattle.replica_calls.specs.Calls.{Tracked}
-use Rattle.session_net.specs.Ready.{IsReady, Places}
-use Rattle.session_net.specs.Runs.{slot_at, steps_of}
-use Rattle.cluster_members.specs.Kept.{PastServes}
-use Rattle.cluster_members.specs.declared.members.Members.{Members}
-use Rattle.node_calls.specs.Halts.{AreManned}
-use Rattle.node_calls.specs.Nodes.{IsFated, KeepsButFates}
-use Rattle.first_cluster.specs.Depots.{OwnedBy}
-use Rattle.first_cluster.specs.First.{IsFirst}
-use Rattle.first_cluster.specs.Slots.{AreApart}
-use Rattle.first_cluster.proofs.PlacedSlots.{node_low, shard_low}
-use Rattle.first_cluster.proofs.SlotLists.{slots_apart}
-use Rattle.cluster_placements.specs.Slots.{AreSlotsIn}
-use Rattle.cluster_placements.specs.Steps.{MayChange}
+use Rattle.cluster_tracks.specs.replica_exchange.declared.call_id.CallId.{CallId}
+use Rattle.cluster_tracks.specs.replica_calls.Calls.{Tracked}
+use Rattle.cluster_tracks.specs.session_net.Ready.{IsReady, Places}
+use Rattle.cluster_tracks.specs.session_net.Runs.{slot_at, steps_of}
+use Rattle.cluster_tracks.specs.cluster_members.Kept.{PastServes}
+use Rattle.cluster_tracks.specs.cluster_members.declared.members.Members.{Members}
+use Rattle.cluster_tracks.specs.node_calls.Halts.{AreManned}
+use Rattle.cluster_tracks.specs.node_calls.Nodes.{IsFated, KeepsButFates}
+use Rattle.cluster_tracks.specs.first_cluster.Depots.{OwnedBy}
+use Rattle.cluster_tracks.specs.first_cluster.First.{IsFirst}
+use Rattle.cluster_tracks.specs.first_cluster.Slots.{AreApart}
+use Rattle.cluster_tracks.proofs.first_cluster_proofs.PlacedSlots.{node_low, shard_low}
+use Rattle.cluster_tracks.proofs.first_cluster_proofs.SlotLists.{slots_apart}
+use Rattle.cluster_tracks.specs.cluster_placements.Slots.{AreSlotsIn}
+use Rattle.cluster_tracks.specs.cluster_placements.Steps.{MayChange}
 use Rattle.cluster_tracks.specs.Acts.{Does}
 use Rattle.cluster_tracks.specs.Slots.{KeepsSlots}
 use Rattle.cluster_tracks.proofs.FailureLemmas.{steps_append}

@@ -13,17 +13,17 @@ use Rattle.m3_outside.specs.DiskState.{DiskState}
 use Rattle.m3_outside.specs.Slots.{Held, Out}
 use Rattle.m3_outside.specs.declared.disk.Disk.{Ghosts}
 use Rattle.m3_outside.specs.declared.slot.DiskSlot.{DiskSlot}
-use Rattle.replica_exchange.specs.declared.member.Member.{Member}
-use Rattle.replica_exchange.specs.declared.slot.Slot.{Slot}
-use Rattle.replica_calls.specs.Slots.{MemberMap}
-use Rattle.session_net.specs.Runs.{slot_at}
-use Rattle.cluster_members.specs.declared.members.Members.{Members}
+use Rattle.cluster_tracks.specs.replica_exchange.declared.member.Member.{Member}
+use Rattle.cluster_tracks.specs.replica_exchange.declared.slot.Slot.{Slot}
+use Rattle.cluster_tracks.specs.replica_calls.Slots.{MemberMap}
+use Rattle.cluster_tracks.specs.session_net.Runs.{slot_at}
+use Rattle.cluster_tracks.specs.cluster_members.declared.members.Members.{Members}
 use Rattle.placement_acts.specs.Acts.{is_step_act}
-use Rattle.first_cluster.specs.First.{IsRefusedInit}
-use Rattle.first_cluster.specs.Depots.{AreOut, OwnedBy, disk_slot_of}
-use Rattle.first_cluster.specs.Lending.{HasGivenBack, HasReturned, IsBack, IsGivenBack, IsKept, IsUntouched}
-use Rattle.first_cluster.proofs.GiveAll.{returned_none}
-use Rattle.cluster_placements.specs.Steps.{IsChanged, kept_in}
+use Rattle.cluster_tracks.specs.first_cluster.First.{IsRefusedInit}
+use Rattle.cluster_tracks.specs.first_cluster.Depots.{AreOut, OwnedBy, disk_slot_of}
+use Rattle.cluster_tracks.specs.first_cluster.Lending.{HasGivenBack, HasReturned, IsBack, IsGivenBack, IsKept, IsUntouched}
+use Rattle.cluster_tracks.proofs.first_cluster_proofs.GiveAll.{returned_none}
+use Rattle.cluster_tracks.specs.cluster_placements.Steps.{IsChanged, kept_in}
 use Rattle.cluster_tracks.specs.Acts.{Does, IsServedBy, IsStepAnswer, OnMembers, next_call}
 use Rattle.cluster_tracks.specs.Slots.{KeepsSlots}
 use Rattle.cluster_tracks.proofs.SlotLemmas.{acts_keep_slots}

@@ -13,13 +13,13 @@ use Rattle.m3_outside.specs.DiskState.{DiskState, IsLawfulDisk}
 use Rattle.m3_outside.specs.Slots.{Held}
 use Rattle.m3_outside.specs.declared.disk.Disk.{Ghosts}
 use Rattle.m3_outside.specs.declared.slot.DiskSlot.{DiskSlot}
-use Rattle.event_trail.specs.Trails.{IsLegalOver}
-use Rattle.replica_calls.specs.Calls.{AreMembersOf}
-use Rattle.transcripts.specs.Placements.{placement_after}
-use Rattle.transcripts.specs.Record.{inner_turns, line_of}
-use Rattle.cluster_members.specs.declared.members.Members.{Members}
-use Rattle.first_cluster.specs.Depots.{OwnedBy}
-use Rattle.cluster_placements.specs.Steps.{MayChange}
+use Rattle.cluster_tracks.specs.event_trail.Trails.{IsLegalOver}
+use Rattle.cluster_tracks.specs.replica_calls.Calls.{AreMembersOf}
+use Rattle.cluster_tracks.specs.transcripts.Placements.{placement_after}
+use Rattle.cluster_tracks.specs.transcripts.Record.{inner_turns, line_of}
+use Rattle.cluster_tracks.specs.cluster_members.declared.members.Members.{Members}
+use Rattle.cluster_tracks.specs.first_cluster.Depots.{OwnedBy}
+use Rattle.cluster_tracks.specs.cluster_placements.Steps.{MayChange}
 use Rattle.cluster_tracks.proofs.StandLemmas.{no_placement}
 use Rattle.cluster_tracks.specs.Tracks.{MayStandSo, events_of}
 use Rattle.cluster_tracks.specs.Lines.{EachMember, IsLeft}

@@ -8,14 +8,14 @@ use Rattle.m3_outside.specs.Slots.{Held}
 use Rattle.m3_outside.specs.declared.disk.Disk.{Ghosts}
 use Rattle.m3_outside.specs.declared.slot.DiskSlot.{DiskSlot}
 use Rattle.m3_model.specs.declared.turn.Turn.{Turn}
-use Rattle.replica_exchange.specs.declared.slot.Slot.{Slot}
-use Rattle.session_net.specs.Ready.{IsReady}
-use Rattle.session_net.specs.Runs.{steps_of}
-use Rattle.cluster_members.specs.Kept.{PastServes}
-use Rattle.cluster_members.specs.declared.members.Members.{Members}
-use Rattle.node_calls.specs.Halts.{AreManned}
-use Rattle.first_cluster.specs.Depots.{OwnedBy}
-use Rattle.cluster_placements.specs.Slots.{AreSlotsIn}
+use Rattle.cluster_tracks.specs.replica_exchange.declared.slot.Slot.{Slot}
+use Rattle.cluster_tracks.specs.session_net.Ready.{IsReady}
+use Rattle.cluster_tracks.specs.session_net.Runs.{steps_of}
+use Rattle.cluster_tracks.specs.cluster_members.Kept.{PastServes}
+use Rattle.cluster_tracks.specs.cluster_members.declared.members.Members.{Members}
+use Rattle.cluster_tracks.specs.node_calls.Halts.{AreManned}
+use Rattle.cluster_tracks.specs.first_cluster.Depots.{OwnedBy}
+use Rattle.cluster_tracks.specs.cluster_placements.Slots.{AreSlotsIn}
 use Rattle.cluster_tracks.specs.Tracks.{Tracks}
 use Rattle.served_cluster.specs.declared.cluster.Cluster.{Cluster}
 

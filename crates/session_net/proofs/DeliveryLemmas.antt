@@ -7,10 +7,10 @@ use Rattle.m3_model.specs.declared.act.Fate.{Fate}
 use Rattle.m3_model.specs.declared.act.Fate.TheVariants as fate
 use Rattle.m3_model.specs.declared.reason.Reason.{Reason}
 use Rattle.m3_model.specs.declared.reason.Reason.TheVariants as reason
-use Rattle.m3_outside.specs.DiskState.{DiskState}
-use Rattle.cluster_core.specs.declared.event.Event.{Event}
-use Rattle.cluster_core.specs.declared.event.StepCall.{StepCall}
-use Rattle.cluster_core.specs.declared.event.StepReply.{StepReply}
+use Rattle.replica_calls.specs.m3_outside.DiskState.{DiskState}
+use Rattle.replica_calls.specs.cluster_core.declared.event.Event.{Event}
+use Rattle.replica_calls.specs.cluster_core.declared.event.StepCall.{StepCall}
+use Rattle.replica_calls.specs.cluster_core.declared.event.StepReply.{StepReply}
 use Rattle.net_plan.specs.Fates.{FateMap}
 use Rattle.replica_calls.specs.Steps.{reply_by}
 use Rattle.replica_calls.specs.MachineCalls.{Promise, HasRoom, result_of}

@@ -12,14 +12,14 @@ use Rattle.m3_model.specs.declared.reason.Reason.{Reason}
 use Rattle.m3_model.specs.declared.rules.MetaState.{MetaState}
 use Rattle.m3_model.specs.declared.rules.Rules.{Rules}
 use Rattle.m3_model.proofs.MemberLemmas.{IsIn-append_cases}
-use Rattle.m3_outside.specs.DiskState.{DiskState}
-use Rattle.cluster_core.specs.Earlier.{IsClock, HasClock, last_clock, last_place, clock_after, place_after}
-use Rattle.cluster_core.specs.declared.event.Event.{Event}
-use Rattle.cluster_core.specs.declared.event.Event.TheVariants as event
-use Rattle.cluster_core.specs.declared.event.StepCall.{StepCall}
-use Rattle.cluster_core.specs.declared.event.StepReply.{StepReply}
-use Rattle.cluster_core.proofs.ExtendLemmas.{any_more}
-use Rattle.cluster_core.proofs.ListLemmas.{some_same, in_at, at_any, any_at}
+use Rattle.replica_calls.specs.m3_outside.DiskState.{DiskState}
+use Rattle.replica_calls.specs.cluster_core.Earlier.{IsClock, HasClock, last_clock, last_place, clock_after, place_after}
+use Rattle.replica_calls.specs.cluster_core.declared.event.Event.{Event}
+use Rattle.replica_calls.specs.cluster_core.declared.event.Event.TheVariants as event
+use Rattle.replica_calls.specs.cluster_core.declared.event.StepCall.{StepCall}
+use Rattle.replica_calls.specs.cluster_core.declared.event.StepReply.{StepReply}
+use Rattle.replica_calls.proofs.cluster_core_proofs.ExtendLemmas.{any_more}
+use Rattle.replica_calls.proofs.cluster_core_proofs.ListLemmas.{some_same, in_at, at_any, any_at}
 use Rattle.net_plan.specs.Fates.{FateMap}
 use Rattle.net_plan.specs.declared.late_write.LateWrite.{LateWrite}
 use Rattle.replica_calls.specs.MachineCalls.{HasRoom}

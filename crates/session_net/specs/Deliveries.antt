@@ -4,12 +4,12 @@ use Rattle.std.specs.Result.{result_err}
 use Rattle.m3_model.specs.declared.limits.TheConstants.{MOST_LATE_WRITES}
 use Rattle.m3_model.specs.declared.reason.Reason.{Reason}
 use Rattle.m3_model.specs.declared.rules.Rules.{Rules}
-use Rattle.m3_outside.specs.DiskState.{DiskState}
-use Rattle.m3_outside.specs.declared.disk.Disk.{Ghosts}
-use Rattle.cluster_core.specs.declared.event.Event.{Event}
-use Rattle.cluster_core.specs.declared.event.StepCall.{StepCall}
-use Rattle.cluster_core.specs.declared.event.StepCall.TheVariants as call
-use Rattle.cluster_core.specs.declared.event.StepReply.TheVariants as reply
+use Rattle.replica_calls.specs.m3_outside.DiskState.{DiskState}
+use Rattle.replica_calls.specs.m3_outside.declared.disk.Disk.{Ghosts}
+use Rattle.replica_calls.specs.cluster_core.declared.event.Event.{Event}
+use Rattle.replica_calls.specs.cluster_core.declared.event.StepCall.{StepCall}
+use Rattle.replica_calls.specs.cluster_core.declared.event.StepCall.TheVariants as call
+use Rattle.replica_calls.specs.cluster_core.declared.event.StepReply.TheVariants as reply
 use Rattle.net_plan.specs.declared.late_write.LateWrite.{LateWrite}
 use Rattle.replica_calls.specs.MachineCalls.{HasRoom}
 use Rattle.session_net.specs.Messages.{IsDelivery}

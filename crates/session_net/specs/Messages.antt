@@ -4,10 +4,10 @@ use Rattle.m3_model.specs.declared.act.Fate.{Fate}
 use Rattle.m3_model.specs.declared.act.Fate.TheVariants as fate
 use Rattle.m3_model.specs.declared.reason.Reason.{Reason}
 use Rattle.m3_model.specs.declared.reason.Reason.TheVariants as reason
-use Rattle.cluster_core.specs.declared.event.Event.{Event}
-use Rattle.cluster_core.specs.declared.event.Event.TheVariants as event
-use Rattle.cluster_core.specs.declared.event.StepCall.{StepCall}
-use Rattle.cluster_core.specs.declared.event.StepReply.{StepReply}
+use Rattle.replica_calls.specs.cluster_core.declared.event.Event.{Event}
+use Rattle.replica_calls.specs.cluster_core.declared.event.Event.TheVariants as event
+use Rattle.replica_calls.specs.cluster_core.declared.event.StepCall.{StepCall}
+use Rattle.replica_calls.specs.cluster_core.declared.event.StepReply.{StepReply}
 use Rattle.net_plan.specs.Fates.{FateMap, fate_of}
 use Rattle.replica_calls.specs.Steps.{reply_by}
 use Rattle.replica_calls.specs.Exchanges.{ask_of}

@@ -6,9 +6,9 @@ use Rattle.std.specs.Result.{result_err}
 use Rattle.m3_model.specs.Ascends.{Ascends}
 use Rattle.m3_model.specs.declared.placement.Placement.{Placement}
 use Rattle.m3_model.specs.declared.reason.Reason.{Reason}
-use Rattle.placement_core.specs.Lawful.{IsLawful}
-use Rattle.placement_core.specs.NodeNames.{IsNamedBelow}
-use Rattle.placement_core.specs.Shards.{shard_at, counted}
+use Rattle.replica_calls.specs.placement_core.Lawful.{IsLawful}
+use Rattle.replica_calls.specs.placement_core.NodeNames.{IsNamedBelow}
+use Rattle.replica_calls.specs.placement_core.Shards.{shard_at, counted}
 use Rattle.session_net.specs.Messages.{Heard}
 use Rattle.session_net.specs.declared.session_err.SessionErr.{SessionErr}
 use Rattle.session_net.specs.declared.session_err.SessionErr.TheVariants as err

@@ -5,12 +5,12 @@ use Rattle.std.specs.List.{Any}
 use Rattle.m3_model.specs.Members.{IsIn}
 use Rattle.m3_model.specs.declared.placement.Placement.{Placement}
 use Rattle.m3_model.specs.declared.rules.MetaState.{MetaState}
-use Rattle.cluster_core.specs.Earlier.{HasSend, last_clock, last_place}
-use Rattle.cluster_core.specs.declared.event.Event.{Event}
-use Rattle.cluster_core.specs.declared.event.Event.TheVariants as event
+use Rattle.replica_calls.specs.cluster_core.Earlier.{HasSend, last_clock, last_place}
+use Rattle.replica_calls.specs.cluster_core.declared.event.Event.{Event}
+use Rattle.replica_calls.specs.cluster_core.declared.event.Event.TheVariants as event
 use Rattle.net_plan.specs.declared.late_write.LateWrite.{LateWrite}
-use Rattle.placement_core.specs.Lawful.{IsLawful}
-use Rattle.placement_core.specs.Shards.{shard_at, nodes_of}
+use Rattle.replica_calls.specs.placement_core.Lawful.{IsLawful}
+use Rattle.replica_calls.specs.placement_core.Shards.{shard_at, nodes_of}
 use Rattle.replica_calls.specs.Calls.{Tracked}
 use Rattle.session_net.specs.Runs.{slot_at}
 

@@ -2,11 +2,11 @@
 use Rattle.std.specs.Prelude.{◌≡◌, ℕ, List, [], ◌∷◌, ◌++◌, Option, Some, None, nat_eq, ◌&&◌, if◌then◌else◌}
 use Rattle.std.specs.FinMap as finite
 use Rattle.std.specs.List.{filter_map}
-use Rattle.m3_outside.specs.DiskState.{DiskState}
-use Rattle.cluster_core.specs.declared.event.Event.{Event}
-use Rattle.cluster_core.specs.declared.event.Event.TheVariants as event
-use Rattle.cluster_core.specs.declared.event.StepCall.{StepCall}
-use Rattle.cluster_core.specs.declared.event.StepReply.{StepReply}
+use Rattle.replica_calls.specs.m3_outside.DiskState.{DiskState}
+use Rattle.replica_calls.specs.cluster_core.declared.event.Event.{Event}
+use Rattle.replica_calls.specs.cluster_core.declared.event.Event.TheVariants as event
+use Rattle.replica_calls.specs.cluster_core.declared.event.StepCall.{StepCall}
+use Rattle.replica_calls.specs.cluster_core.declared.event.StepReply.{StepReply}
 use Rattle.replica_calls.specs.Machines.{MachineState}
 use Rattle.replica_calls.specs.Steps.{IsStep}
 use Rattle.replica_calls.specs.Member.{Member}

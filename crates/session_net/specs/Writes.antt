@@ -13,18 +13,18 @@ use Rattle.m3_model.specs.declared.point.Point.{Point}
 use Rattle.m3_model.specs.declared.reason.Reason.{Reason}
 use Rattle.m3_model.specs.declared.rules.MetaState.{MetaState}
 use Rattle.m3_model.specs.declared.rules.Rules.{Rules}
-use Rattle.m3_outside.specs.DiskState.{DiskState}
-use Rattle.m3_outside.specs.declared.disk.Disk.{Ghosts}
-use Rattle.cluster_core.specs.declared.event.Event.{Event}
-use Rattle.cluster_core.specs.declared.event.Event.TheVariants as event
-use Rattle.cluster_core.specs.declared.event.StepCall.{StepCall}
-use Rattle.cluster_core.specs.declared.event.StepCall.TheVariants as call
-use Rattle.cluster_core.specs.declared.event.StepReply.TheVariants as reply
+use Rattle.replica_calls.specs.m3_outside.DiskState.{DiskState}
+use Rattle.replica_calls.specs.m3_outside.declared.disk.Disk.{Ghosts}
+use Rattle.replica_calls.specs.cluster_core.declared.event.Event.{Event}
+use Rattle.replica_calls.specs.cluster_core.declared.event.Event.TheVariants as event
+use Rattle.replica_calls.specs.cluster_core.declared.event.StepCall.{StepCall}
+use Rattle.replica_calls.specs.cluster_core.declared.event.StepCall.TheVariants as call
+use Rattle.replica_calls.specs.cluster_core.declared.event.StepReply.TheVariants as reply
 use Rattle.net_plan.specs.Fates.{FateMap}
 use Rattle.net_plan.specs.declared.late_write.LateWrite.{LateWrite}
-use Rattle.placement_core.specs.Lawful.{IsLawful}
-use Rattle.placement_core.specs.NodeNames.{IsNamedBelow}
-use Rattle.placement_core.specs.Shards.{Shard, shard_at, nodes_of, counts}
+use Rattle.replica_calls.specs.placement_core.Lawful.{IsLawful}
+use Rattle.replica_calls.specs.placement_core.NodeNames.{IsNamedBelow}
+use Rattle.replica_calls.specs.placement_core.Shards.{Shard, shard_at, nodes_of, counts}
 use Rattle.replica_calls.specs.MachineCalls.{HasRoom}
 use Rattle.replica_calls.specs.CallId.{CallId}
 use Rattle.replica_calls.specs.Calls.{Tracked}

@@ -1,13 +1,13 @@
 //! Events of calls of clients.
 ghost use Rattle.std.specs.Prelude.{◌≡◌, [], ◌∷◌, length, Bool};
-ghost use Rattle.cluster_core.specs.Legal.{Lawful};
+ghost use Rattle.replica_calls.specs.cluster_core.Legal.{Lawful};
 ghost use Rattle.replica_calls.specs.MachineCalls.{HasRoom};
 ghost use Rattle.replica_calls.specs.Calls.{IsNoStep};
 ghost use Rattle.session_net.specs.Runs.{Ran};
 
-use event_trail::EventView;
-use m3_outside::Disk;
 use replica_calls::Replicas;
+use replica_calls::event_trail::EventView;
+use replica_calls::m3_outside::Disk;
 
 /// Adds an event that no replica makes to the list, after which it is lawful and which has room for it, and answers its
 /// position. Takes no memory.

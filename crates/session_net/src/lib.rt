@@ -13,3 +13,8 @@ pub use net::Net;
 pub use replica_calls::Replicas;
 pub use session_err::SessionErr;
 pub use tally::Tally;
+
+// Libraries that the rows of crates above need not name.
+pub use net_plan;
+pub use replica_calls;
+pub use replica_calls::{event_trail, m3_outside, placement_core, replica_exchange, series_id};

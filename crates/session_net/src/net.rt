@@ -1,12 +1,12 @@
 ghost use Rattle.std.specs.Prelude.{◌<◌, ◌^◌, length};
 ghost use Rattle.std.specs.List.{All};
 ghost use Rattle.std.proofs.Props.{props};
-ghost use Rattle.wire_bytes.specs.Entries.{IsBounded};
+ghost use Rattle.replica_calls.specs.wire_bytes.Entries.{IsBounded};
 
 use m3_model::MetaState;
-use m3_outside::Disk;
 use net_plan::{Bag, Fates};
 use replica_calls::Replicas;
+use replica_calls::m3_outside::Disk;
 
 /// What calls of clients meet: the rules and the placement that they go by, the replicas that they reach with the list of
 /// the run's events, what becomes of their messages, and the late ones among these.

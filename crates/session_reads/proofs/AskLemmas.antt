@@ -14,17 +14,17 @@ use Rattle.m3_model.specs.declared.point.Series.{Series}
 use Rattle.m3_model.specs.declared.reason.Damage.{Damage}
 use Rattle.m3_model.specs.declared.reason.Reason.{Reason}
 use Rattle.m3_model.specs.declared.reason.Reason.TheVariants as reason
-use Rattle.replica_exchange.specs.Damages.{IsFileDamage}
+use Rattle.session_net.specs.replica_exchange.Damages.{IsFileDamage}
 use Rattle.session_net.specs.Reads.{AreForms}
 use Rattle.m3_model.proofs.MemberLemmas.{IsIn-append_left, IsIn-append_right, IsIn-append_cases, IsIn-filter_map, filter_map-IsIn}
 use Rattle.m3_outside.specs.DiskState.{DiskState}
 use Rattle.series_merge.specs.Merges.{IsMergeOf}
 use Rattle.series_merge.proofs.JoinLemmas.{joined_stays, joined_has, joined_from, nothing_held}
 use Rattle.series_merge.proofs.OrderLemmas.{merge_joins}
-use Rattle.cluster_core.specs.declared.event.StepCall.{StepCall}
-use Rattle.cluster_core.specs.declared.event.StepReply.TheVariants as reply
-use Rattle.net_plan.specs.Fates.{FateMap}
-use Rattle.replica_exchange.specs.declared.call_id.CallId.{CallId}
+use Rattle.session_net.specs.cluster_core.declared.event.StepCall.{StepCall}
+use Rattle.session_net.specs.cluster_core.declared.event.StepReply.TheVariants as reply
+use Rattle.session_net.specs.net_plan.Fates.{FateMap}
+use Rattle.session_net.specs.replica_exchange.declared.call_id.CallId.{CallId}
 use Rattle.session_net.specs.Calls.{Tracked}
 use Rattle.session_net.specs.Brought.{Brought}
 use Rattle.session_net.specs.Messages.{IsHeard, Heard, fate_to}

@@ -3,11 +3,11 @@ use Rattle.std.proofs.Common.{ℕ, suc, List, [], ◌∷◌, ◌++◌, length, s
 use Rattle.m3_model.specs.declared.rules.MetaState.{MetaState}
 use Rattle.m3_model.proofs.MemberLemmas.{IsIn-append_cases}
 use Rattle.m3_outside.specs.DiskState.{DiskState}
-use Rattle.cluster_core.specs.declared.event.Event.{Event}
-use Rattle.cluster_core.specs.declared.event.StepReply.TheVariants as reply
-use Rattle.net_plan.specs.Fates.{FateMap}
-use Rattle.net_plan.specs.declared.late_write.LateWrite.{LateWrite}
-use Rattle.replica_exchange.specs.declared.call_id.CallId.{CallId}
+use Rattle.session_net.specs.cluster_core.declared.event.Event.{Event}
+use Rattle.session_net.specs.cluster_core.declared.event.StepReply.TheVariants as reply
+use Rattle.session_net.specs.net_plan.Fates.{FateMap}
+use Rattle.session_net.specs.net_plan.declared.late_write.LateWrite.{LateWrite}
+use Rattle.session_net.specs.replica_exchange.declared.call_id.CallId.{CallId}
 use Rattle.session_net.specs.Calls.{Tracked}
 use Rattle.session_net.specs.Reads.{Wish, ShardRead, read_of, start_of, done_of, ended_of, AreRead, IsUnfound}
 use Rattle.session_net.specs.Ready.{IsReady, IsCallable}

@@ -14,10 +14,10 @@ use Rattle.m3_model.specs.declared.rules.MetaState.{MetaState}
 use Rattle.m3_model.proofs.MemberLemmas.{IsIn-append_left, IsIn-append_cases, IsIn-push}
 use Rattle.m3_model.proofs.RangeLemmas.{both_true}
 use Rattle.m3_outside.specs.DiskState.{DiskState}
-use Rattle.cluster_core.specs.declared.event.Event.{Event}
-use Rattle.net_plan.specs.Fates.{FateMap}
-use Rattle.replica_exchange.specs.MachineCalls.{HasRoom}
-use Rattle.replica_exchange.specs.declared.call_id.CallId.{CallId}
+use Rattle.session_net.specs.cluster_core.declared.event.Event.{Event}
+use Rattle.session_net.specs.net_plan.Fates.{FateMap}
+use Rattle.session_net.specs.replica_exchange.MachineCalls.{HasRoom}
+use Rattle.session_net.specs.replica_exchange.declared.call_id.CallId.{CallId}
 use Rattle.session_net.specs.Calls.{Tracked}
 use Rattle.session_net.specs.Outcomes.{answering}
 use Rattle.session_net.specs.Reads.{Wish, ShardRead, told_in, IsAsked, IsEnded, start_of, done_of, ended_of, count_from, asked_shards, AreRead, IsUnfound, most_added}

@@ -27,22 +27,22 @@ use Rattle.m3_model.specs.declared.reason.Reason.TheVariants as reason
 use Rattle.m3_model.specs.declared.rules.MetaState.{MetaState}
 use Rattle.m3_model.proofs.MemberLemmas.{IsIn-append_left, IsIn-append_right, IsIn-map, map-IsIn}
 use Rattle.m3_outside.specs.DiskState.{DiskState}
-use Rattle.cluster_core.specs.Answers.{IsJoin}
-use Rattle.cluster_core.specs.Earlier.{HasShard, PlacesShard, CountsNodes, GaveAnswer}
-use Rattle.cluster_core.specs.Legal.{EachAnswered, IsFetched}
-use Rattle.cluster_core.specs.Lists.{At}
-use Rattle.cluster_core.specs.declared.event.Event.{Event}
-use Rattle.cluster_core.specs.declared.event.Event.TheVariants as event
-use Rattle.cluster_core.specs.declared.event.StepCall.{StepCall}
-use Rattle.cluster_core.specs.declared.event.StepReply.TheVariants as reply
-use Rattle.cluster_core.proofs.ExtendLemmas.{at_last}
-use Rattle.cluster_core.proofs.ListLemmas.{at_append, at_some, some_same}
-use Rattle.net_plan.specs.Fates.{FateMap}
-use Rattle.placement_core.specs.NodeNames.{IsNamedBelow}
-use Rattle.placement_core.specs.Shards.{Shard, shard_at, nodes_of, counted, is_available}
-use Rattle.placement_core.proofs.ListLemmas.{IsIn-from_index, index-from_IsIn, Any-from_IsIn, All-from_each, IsIn-filter}
-use Rattle.placement_core.proofs.OrderLemmas.{came}
-use Rattle.replica_exchange.specs.declared.call_id.CallId.{CallId}
+use Rattle.session_net.specs.cluster_core.Answers.{IsJoin}
+use Rattle.session_net.specs.cluster_core.Earlier.{HasShard, PlacesShard, CountsNodes, GaveAnswer}
+use Rattle.session_net.specs.cluster_core.Legal.{EachAnswered, IsFetched}
+use Rattle.session_net.specs.cluster_core.Lists.{At}
+use Rattle.session_net.specs.cluster_core.declared.event.Event.{Event}
+use Rattle.session_net.specs.cluster_core.declared.event.Event.TheVariants as event
+use Rattle.session_net.specs.cluster_core.declared.event.StepCall.{StepCall}
+use Rattle.session_net.specs.cluster_core.declared.event.StepReply.TheVariants as reply
+use Rattle.session_net.proofs.cluster_core_proofs.ExtendLemmas.{at_last}
+use Rattle.session_net.proofs.cluster_core_proofs.ListLemmas.{at_append, at_some, some_same}
+use Rattle.session_net.specs.net_plan.Fates.{FateMap}
+use Rattle.session_net.specs.placement_core.NodeNames.{IsNamedBelow}
+use Rattle.session_net.specs.placement_core.Shards.{Shard, shard_at, nodes_of, counted, is_available}
+use Rattle.session_net.proofs.placement_core_proofs.ListLemmas.{IsIn-from_index, index-from_IsIn, Any-from_IsIn, All-from_each, IsIn-filter}
+use Rattle.session_net.proofs.placement_core_proofs.OrderLemmas.{came}
+use Rattle.session_net.specs.replica_exchange.declared.call_id.CallId.{CallId}
 use Rattle.session_net.specs.Calls.{Tracked}
 use Rattle.session_net.specs.Messages.{IsDelivery, IsHeard, Heard, AreHeard, fate_to}
 use Rattle.session_net.specs.Outcomes.{AreCountedOnce, told_of, answering, refusing, IsShortOf}

@@ -8,11 +8,11 @@ ghost use Rattle.m3_model.specs.Contents.{content_of};
 ghost use Rattle.m3_model.specs.Reads.{IsOrdered, points_in, space_picked};
 ghost use Rattle.m3_model.specs.declared.reason.Damage.{Damage};
 ghost use Rattle.m3_model.specs.declared.reason.Reason.TheVariants as reason;
-ghost use Rattle.replica_exchange.specs.Damages.{IsFileDamage};
+ghost use Rattle.session_net.specs.replica_exchange.Damages.{IsFileDamage};
 ghost use Rattle.m3_model.specs.declared.point.Series.{Series as Found};
-ghost use Rattle.cluster_core.specs.Earlier.{HasClock};
-ghost use Rattle.cluster_core.specs.declared.event.StepReply.TheVariants as reply;
-ghost use Rattle.replica_exchange.specs.MachineCalls.{HasRoom};
+ghost use Rattle.session_net.specs.cluster_core.Earlier.{HasClock};
+ghost use Rattle.session_net.specs.cluster_core.declared.event.StepReply.TheVariants as reply;
+ghost use Rattle.session_net.specs.replica_exchange.MachineCalls.{HasRoom};
 ghost use Rattle.session_net.specs.Brought.{Delivered, Brought};
 ghost use Rattle.session_net.specs.Messages.{Heard};
 ghost use Rattle.session_net.specs.Outcomes.{NodeOutcome, told_of, answering, refusing};
@@ -24,9 +24,9 @@ ghost use Rattle.session_reads.specs.Gathering.{wish_of, TakesIn, IsContentOf, W
 
 use m3_model::{Fate, Memory, MetaState, Pick, Reason, Seq, Series};
 use m3_outside::Disk;
-use net_plan::Fates;
-use replica_exchange::{CallErr, CallId, Slot};
 use series_merge::merge;
+use session_net::net_plan::Fates;
+use session_net::replica_exchange::{CallErr, CallId, Slot};
 use session_net::{Replicas, Tally, fate_to};
 use std::alloc::Global;
 use std::mem::replace;

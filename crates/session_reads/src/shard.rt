@@ -1,11 +1,11 @@
 //! The read of one shard, from its start in the list to its end.
 ghost use Rattle.std.specs.Prelude.{◌≡◌, ◌<◌, ◌≤◌, ◌+◌, ◌*◌, [], ◌∷◌, length, IfOk, IfErr, nat_le};
 ghost use Rattle.m3_model.specs.Reads.{space_picked};
-ghost use Rattle.cluster_core.specs.Earlier.{HasClock, HasShard};
-ghost use Rattle.cluster_core.specs.Legal.{IsFetched};
-ghost use Rattle.cluster_core.specs.declared.event.Event.TheVariants as event;
-ghost use Rattle.event_book.specs.Lists.{most_entries};
-ghost use Rattle.replica_exchange.specs.MachineCalls.{HasRoom};
+ghost use Rattle.session_net.specs.cluster_core.Earlier.{HasClock, HasShard};
+ghost use Rattle.session_net.specs.cluster_core.Legal.{IsFetched};
+ghost use Rattle.session_net.specs.cluster_core.declared.event.Event.TheVariants as event;
+ghost use Rattle.session_net.specs.event_book.Lists.{most_entries};
+ghost use Rattle.session_net.specs.replica_exchange.MachineCalls.{HasRoom};
 ghost use Rattle.session_net.specs.Outcomes.{AreCountedOnce, IsShortOf};
 ghost use Rattle.session_net.specs.Reads.{most_added};
 ghost use Rattle.session_net.specs.Tallies.{HasRoom as Counts};
@@ -14,11 +14,11 @@ ghost use Rattle.session_net.specs.Runs.{Ran};
 ghost use Rattle.session_reads.specs.Gathering.{wish_of, IsShardRead, IsUnread};
 
 use crate::ask::{Asking, ask_nodes};
-use event_trail::EventView;
 use m3_model::{MetaState, Pick, Seq, Series};
 use m3_outside::Disk;
-use net_plan::Fates;
-use placement_core::counted;
+use session_net::event_trail::EventView;
+use session_net::net_plan::Fates;
+use session_net::placement_core::counted;
 use session_net::{Replicas, SessionErr, Tally, add};
 use std::alloc::Global;
 

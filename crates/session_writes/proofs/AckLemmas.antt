@@ -9,13 +9,13 @@ use Rattle.m3_model.specs.declared.placement.Assignment.{Assignment}
 use Rattle.m3_model.specs.declared.reason.Reason.{Reason}
 use Rattle.m3_model.specs.declared.reason.Reason.TheVariants as reason
 use Rattle.m3_model.proofs.MemberLemmas.{IsIn-append_left, IsIn-append_right}
-use Rattle.cluster_core.specs.declared.event.Event.{Event}
-use Rattle.cluster_core.specs.declared.event.Event.TheVariants as event
-use Rattle.cluster_core.specs.declared.event.StepCall.{StepCall}
-use Rattle.cluster_core.specs.declared.event.StepReply.TheVariants as reply
+use Rattle.session_net.specs.cluster_core.declared.event.Event.{Event}
+use Rattle.session_net.specs.cluster_core.declared.event.Event.TheVariants as event
+use Rattle.session_net.specs.cluster_core.declared.event.StepCall.{StepCall}
+use Rattle.session_net.specs.cluster_core.declared.event.StepReply.TheVariants as reply
 use Rattle.net_plan.specs.Fates.{FateMap}
 use Rattle.placement_core.specs.Shards.{Shard, counts, nodes_of}
-use Rattle.replica_exchange.specs.declared.call_id.CallId.{CallId}
+use Rattle.session_net.specs.replica_exchange.declared.call_id.CallId.{CallId}
 use Rattle.session_net.specs.Messages.{IsDelivery, IsHeard, Heard, AreHeard, fate_to}
 use Rattle.session_net.specs.Outcomes.{told_of, answering}
 use Rattle.session_net.specs.Writes.{counted_among}

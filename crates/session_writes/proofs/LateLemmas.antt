@@ -7,8 +7,8 @@ use Rattle.std.proofs.lemmas.List.{append-nil, map-append, take_more}
 use Rattle.std.proofs.lemmas.List.Elements.{filter-append}
 use Rattle.m3_model.specs.declared.reason.Reason.{Reason}
 use Rattle.m3_model.specs.declared.rules.Rules.{Rules}
-use Rattle.cluster_core.specs.declared.event.Event.{Event}
-use Rattle.cluster_core.specs.declared.event.StepReply.TheVariants as reply
+use Rattle.session_net.specs.cluster_core.declared.event.Event.{Event}
+use Rattle.session_net.specs.cluster_core.declared.event.StepReply.TheVariants as reply
 use Rattle.net_plan.specs.declared.late_write.LateWrite.{LateWrite}
 use Rattle.session_net.specs.Deliveries.{known, late_put, outcome_of, AreDelivered}
 use Rattle.session_net.specs.Messages.{IsDelivery}

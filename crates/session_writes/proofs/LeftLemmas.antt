@@ -9,17 +9,17 @@ use Rattle.m3_model.specs.declared.placement.Assignment.{Assignment}
 use Rattle.m3_model.specs.declared.point.Point.{Point}
 use Rattle.m3_model.specs.declared.rules.MetaState.{MetaState}
 use Rattle.m3_model.proofs.MemberLemmas.{IsIn-append_right, IsIn-append_cases, IsIn-map}
-use Rattle.m3_outside.specs.DiskState.{DiskState}
-use Rattle.wire_bytes.specs.Entries.{IsBounded}
-use Rattle.cluster_core.specs.Earlier.{IsSend, HasSend}
-use Rattle.cluster_core.specs.declared.event.Event.{Event}
-use Rattle.cluster_core.specs.declared.event.Event.TheVariants as event
-use Rattle.cluster_core.specs.declared.event.StepReply.TheVariants as reply
+use Rattle.session_net.specs.m3_outside.DiskState.{DiskState}
+use Rattle.session_net.specs.wire_bytes.Entries.{IsBounded}
+use Rattle.session_net.specs.cluster_core.Earlier.{IsSend, HasSend}
+use Rattle.session_net.specs.cluster_core.declared.event.Event.{Event}
+use Rattle.session_net.specs.cluster_core.declared.event.Event.TheVariants as event
+use Rattle.session_net.specs.cluster_core.declared.event.StepReply.TheVariants as reply
 use Rattle.net_plan.specs.Fates.{FateMap}
 use Rattle.net_plan.specs.declared.late_write.LateWrite.{LateWrite}
 use Rattle.placement_core.specs.Shards.{Shard, nodes_of}
 use Rattle.placement_core.proofs.ListLemmas.{IsIn-filter, All-from_each, each-from_All}
-use Rattle.replica_exchange.specs.declared.call_id.CallId.{CallId}
+use Rattle.session_net.specs.replica_exchange.declared.call_id.CallId.{CallId}
 use Rattle.session_net.specs.Calls.{Tracked}
 use Rattle.session_net.specs.Messages.{fate_to}
 use Rattle.session_net.specs.Ready.{IsReady, IsLateSend, IsCallable}

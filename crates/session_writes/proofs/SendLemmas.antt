@@ -7,15 +7,15 @@ use Rattle.m3_model.specs.Members.{IsIn}
 use Rattle.m3_model.specs.declared.placement.Assignment.{Assignment}
 use Rattle.m3_model.specs.declared.reason.Reason.{Reason}
 use Rattle.m3_model.proofs.MemberLemmas.{IsIn-append_right}
-use Rattle.m3_outside.specs.DiskState.{DiskState}
-use Rattle.cluster_core.specs.Earlier.{AreCounted, CountsNodes, HasPut, TookPoint}
-use Rattle.cluster_core.specs.Legal.{IsAck}
-use Rattle.cluster_core.specs.Lists.{At}
-use Rattle.cluster_core.specs.declared.event.Event.{Event}
-use Rattle.cluster_core.specs.declared.event.Event.TheVariants as event
-use Rattle.cluster_core.specs.declared.event.StepReply.TheVariants as reply
-use Rattle.cluster_core.proofs.ExtendLemmas.{at_last}
-use Rattle.cluster_core.proofs.ListLemmas.{at_append}
+use Rattle.session_net.specs.m3_outside.DiskState.{DiskState}
+use Rattle.session_net.specs.cluster_core.Earlier.{AreCounted, CountsNodes, HasPut, TookPoint}
+use Rattle.session_net.specs.cluster_core.Legal.{IsAck}
+use Rattle.session_net.specs.cluster_core.Lists.{At}
+use Rattle.session_net.specs.cluster_core.declared.event.Event.{Event}
+use Rattle.session_net.specs.cluster_core.declared.event.Event.TheVariants as event
+use Rattle.session_net.specs.cluster_core.declared.event.StepReply.TheVariants as reply
+use Rattle.session_net.proofs.cluster_core_proofs.ExtendLemmas.{at_last}
+use Rattle.session_net.proofs.cluster_core_proofs.ListLemmas.{at_append}
 use Rattle.net_plan.specs.Fates.{FateMap}
 use Rattle.net_plan.specs.declared.late_write.LateWrite.{LateWrite}
 use Rattle.placement_core.specs.Shards.{Shard, counts, nodes_of}

@@ -12,9 +12,9 @@ use Rattle.m3_model.specs.declared.placement.Assignment.{Assignment}
 use Rattle.m3_model.specs.declared.point.Point.{Point}
 use Rattle.m3_model.specs.declared.rules.MetaState.{MetaState}
 use Rattle.m3_model.proofs.MemberLemmas.{map-IsIn}
-use Rattle.m3_outside.specs.declared.disk.Disk.{Ghosts}
-use Rattle.cluster_core.specs.Earlier.{PlacesShard, CountsNodes, HasShard, AreCounted}
-use Rattle.cluster_core.specs.Lists.{At}
+use Rattle.session_net.specs.m3_outside.declared.disk.Disk.{Ghosts}
+use Rattle.session_net.specs.cluster_core.Earlier.{PlacesShard, CountsNodes, HasShard, AreCounted}
+use Rattle.session_net.specs.cluster_core.Lists.{At}
 use Rattle.placement_core.specs.Shards.{Shard, shard_at, is_available, counts, counted}
 use Rattle.placement_core.proofs.ListLemmas.{IsIn-from_index, index-from_IsIn, filter-IsIn, at_index, All-from_each}
 use Rattle.placement_core.proofs.OrderLemmas.{came, apart_of, apart_permutation, ascends-from_at}

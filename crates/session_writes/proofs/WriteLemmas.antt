@@ -8,14 +8,14 @@ use Rattle.m3_model.specs.Levels.{needed_write}
 use Rattle.m3_model.specs.declared.act.WriteLevel.{WriteLevel}
 use Rattle.m3_model.specs.declared.point.Point.{Point}
 use Rattle.m3_model.specs.declared.rules.MetaState.{MetaState}
-use Rattle.m3_outside.specs.DiskState.{DiskState}
-use Rattle.m3_outside.specs.declared.disk.Disk.{Ghosts}
-use Rattle.cluster_core.specs.declared.event.Event.{Event}
-use Rattle.cluster_core.specs.declared.event.Event.TheVariants as event
+use Rattle.session_net.specs.m3_outside.DiskState.{DiskState}
+use Rattle.session_net.specs.m3_outside.declared.disk.Disk.{Ghosts}
+use Rattle.session_net.specs.cluster_core.declared.event.Event.{Event}
+use Rattle.session_net.specs.cluster_core.declared.event.Event.TheVariants as event
 use Rattle.net_plan.specs.Fates.{FateMap}
 use Rattle.net_plan.specs.declared.late_write.LateWrite.{LateWrite}
 use Rattle.placement_core.specs.Shards.{Shard}
-use Rattle.replica_exchange.specs.declared.call_id.CallId.{CallId}
+use Rattle.session_net.specs.replica_exchange.declared.call_id.CallId.{CallId}
 use Rattle.session_net.specs.Calls.{Tracked}
 use Rattle.session_net.specs.Runs.{Ran}
 use Rattle.session_net.specs.Writes.{shard_of_point, Sent, Putting, AreMembers, IsSent, HasSent, IsSettled, IsUnsettled, IsAcknowledged, IsRefused}

@@ -2,13 +2,13 @@ ghost use Rattle.std.specs.Prelude.{◌≡◌, ◌≢◌, ◌+◌, ◌*◌, ◌�
 ghost use Rattle.std.specs.FinMap as finite;
 ghost use Rattle.std.specs.List.{All};
 ghost use Rattle.std.specs.Vec.{vec_capacity};
-ghost use Rattle.wire_bytes.specs.Entries.{IsBounded};
+ghost use Rattle.session_net.specs.wire_bytes.Entries.{IsBounded};
 ghost use Rattle.m3_model.specs.Members.{IsIn};
 ghost use Rattle.m3_model.specs.declared.reason.Reason.{Reason as Why};
-ghost use Rattle.cluster_core.specs.Earlier.{HasClock, HasSend};
-ghost use Rattle.cluster_core.specs.declared.event.Event.{Event as Entry};
+ghost use Rattle.session_net.specs.cluster_core.Earlier.{HasClock, HasSend};
+ghost use Rattle.session_net.specs.cluster_core.declared.event.Event.{Event as Entry};
 ghost use Rattle.net_plan.specs.declared.late_write.LateWrite.{LateWrite as Late};
-ghost use Rattle.replica_exchange.specs.MachineCalls.{HasRoom};
+ghost use Rattle.session_net.specs.replica_exchange.MachineCalls.{HasRoom};
 ghost use Rattle.session_net.specs.Ready.{IsReady, IsCallable};
 ghost use Rattle.m3_model.specs.declared.rules.MetaState.{MetaState as State};
 ghost use Rattle.session_net.specs.Runs.{Ran, slot_at};
@@ -17,9 +17,9 @@ ghost use Rattle.session_net.specs.Deliveries.{known, outcome_of, AreDelivered, 
 use crate::put::put_once;
 use m3_model::limits::MOST_LATE_WRITES;
 use m3_model::{Memory, Reason, Rules, Seq};
-use m3_outside::Disk;
 use net_plan::LateWrite;
-use replica_exchange::{CallId, Slot};
+use session_net::m3_outside::Disk;
+use session_net::replica_exchange::{CallId, Slot};
 use session_net::{Net, Replicas, SessionErr};
 use std::alloc::Global;
 

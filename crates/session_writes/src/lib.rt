@@ -5,3 +5,7 @@
 pub mod deliver;
 mod put;
 pub mod write;
+
+// Libraries that the rows of crates above need not name.
+pub use session_net;
+pub use session_net::{event_trail, replica_calls, replica_exchange};

@@ -1,17 +1,17 @@
 //! Puts on the replicas of nodes.
 ghost use Rattle.std.specs.Prelude.{◌≡◌, ◌≢◌, ◌<◌, ⊤, None, length};
 ghost use Rattle.std.specs.FinMap as finite;
-ghost use Rattle.wire_bytes.specs.Entries.{IsBounded};
-ghost use Rattle.cluster_core.specs.Earlier.{HasClock, HasSend};
-ghost use Rattle.cluster_core.specs.declared.event.StepReply.TheVariants as reply;
-ghost use Rattle.replica_exchange.specs.MachineCalls.{HasRoom};
+ghost use Rattle.session_net.specs.wire_bytes.Entries.{IsBounded};
+ghost use Rattle.session_net.specs.cluster_core.Earlier.{HasClock, HasSend};
+ghost use Rattle.session_net.specs.cluster_core.declared.event.StepReply.TheVariants as reply;
+ghost use Rattle.session_net.specs.replica_exchange.MachineCalls.{HasRoom};
 ghost use Rattle.session_net.specs.Brought.{Delivered, Brought};
 ghost use Rattle.session_net.specs.Writes.{put_of};
 
 use m3_model::{Fate, Point, Reason, Rules};
-use m3_outside::Disk;
-use replica_exchange::{CallErr, CallId, Slot};
 use session_net::Replicas;
+use session_net::m3_outside::Disk;
+use session_net::replica_exchange::{CallErr, CallId, Slot};
 
 // Puts the point on the replica at the slot, which is there.
 pub(crate) fn put_once<D: Disk>(

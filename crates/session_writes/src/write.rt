@@ -1,16 +1,16 @@
 ghost use Rattle.std.specs.Prelude.{◌≡◌, ◌≢◌, ◌<◌, ◌≤◌, ◌*◌, ◌^◌, ℕ, suc, ⊤, List, [], ◌∷◌, ◌++◌, map, true, None, length, take, IfOk, IfErr, OnOk, OnErr};
 ghost use Rattle.std.specs.FinMap as finite;
-ghost use Rattle.wire_bytes.specs.Entries.{IsBounded};
+ghost use Rattle.session_net.specs.wire_bytes.Entries.{IsBounded};
 ghost use Rattle.m3_model.specs.Members.{IsIn};
 ghost use Rattle.m3_model.specs.declared.placement.Assignment.{Assignment as Member};
 ghost use Rattle.m3_model.specs.Ascends.{Ascends};
-ghost use Rattle.cluster_core.specs.Earlier.{HasClock, HasSend, HasShard, AreCounted};
-ghost use Rattle.cluster_core.specs.Legal.{IsAck};
-ghost use Rattle.cluster_core.specs.declared.event.Event.{Event as Entry};
-ghost use Rattle.cluster_core.specs.declared.event.Event.TheVariants as event;
-ghost use Rattle.cluster_core.specs.declared.event.StepReply.TheVariants as reply;
+ghost use Rattle.session_net.specs.cluster_core.Earlier.{HasClock, HasSend, HasShard, AreCounted};
+ghost use Rattle.session_net.specs.cluster_core.Legal.{IsAck};
+ghost use Rattle.session_net.specs.cluster_core.declared.event.Event.{Event as Entry};
+ghost use Rattle.session_net.specs.cluster_core.declared.event.Event.TheVariants as event;
+ghost use Rattle.session_net.specs.cluster_core.declared.event.StepReply.TheVariants as reply;
 ghost use Rattle.placement_core.specs.Shards.{counts, nodes_of};
-ghost use Rattle.replica_exchange.specs.MachineCalls.{HasRoom};
+ghost use Rattle.session_net.specs.replica_exchange.MachineCalls.{HasRoom};
 ghost use Rattle.session_net.specs.Messages.{Heard, AreHeard};
 ghost use Rattle.session_net.specs.Outcomes.{NodeOutcome, told_of, answering, refusing, IsShortOf};
 ghost use Rattle.session_net.specs.Ready.{IsReady, IsCallable};
@@ -20,17 +20,17 @@ ghost use Rattle.session_net.specs.Tallies.{HasRoom as Counts};
 ghost use Rattle.session_net.specs.Writes.{shard_of_point, AreMembers, put_of, late_to, late_among, filled, told_if_counted, counted_among, most_added, IsSettled, IsUnsettled, IsAcknowledged, IsRefused};
 
 use crate::put::put_by_fate;
-use event_trail::EventView;
 use m3_model::{
     Assignment, Duplicate, Fate, Memory, MetaState, Point, Reason, Rules, Seq, ShardState,
     WriteLevel,
 };
-use m3_outside::Disk;
 use net_plan::{Bag, Fates, LateWrite};
 use placement_core::members;
 use quorum_count::needed_write;
-use replica_exchange::{CallId, Slot};
-use series_id::shard_of;
+use session_net::event_trail::EventView;
+use session_net::m3_outside::Disk;
+use session_net::replica_exchange::{CallId, Slot};
+use session_net::series_id::shard_of;
 use session_net::{Net, Replicas, SessionErr, Tally, add, fate_to};
 use std::alloc::Global;
 

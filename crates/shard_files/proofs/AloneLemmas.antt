@@ -1,17 +1,17 @@
 -- Files that are those of one volume, of one snapshot or of a log alone.
 use Rattle.std.proofs.Common.{◌≡◌, inl, ⊎_elim, ℕ, ◌≤◌, max, List, [], ◌∷◌, ◌++◌, refl, sym, ap, ap₂, subst, ◌∙◌, arith, append-nil, true, Option, Some, None}
 use Rattle.std.specs.FinMap.{get}
-use Rattle.m3_model.specs.Members.{IsIn}
-use Rattle.m3_model.specs.declared.point.Point.{Point}
-use Rattle.m3_model.proofs.Lists.{nil_from_no_member}
-use Rattle.m3_outside.specs.declared.file_name.FileName.{FileName}
-use Rattle.m3_outside.specs.Files.{Files, IsAbsent}
-use Rattle.m3_outside.proofs.Names.{name_is}
+use Rattle.commit_log.specs.m3_model.Members.{IsIn}
+use Rattle.commit_log.specs.m3_model.declared.point.Point.{Point}
+use Rattle.commit_log.proofs.m3_model_proofs.Lists.{nil_from_no_member}
+use Rattle.commit_log.specs.m3_outside.declared.file_name.FileName.{FileName}
+use Rattle.commit_log.specs.m3_outside.Files.{Files, IsAbsent}
+use Rattle.commit_log.proofs.m3_outside_proofs.Names.{name_is}
 use Rattle.commit_log.specs.Contents.{numbers, PartsHold}
 use Rattle.commit_log.specs.Segment.{segment}
 use Rattle.commit_log.proofs.Numbers.{in_there}
-use Rattle.wire_bytes.specs.Snapshots.{Snapshot}
-use Rattle.wire_bytes.specs.Volumes.{VolumeHead, Checkpoint, points_of_rows}
+use Rattle.commit_log.specs.wire_bytes.Snapshots.{Snapshot}
+use Rattle.commit_log.specs.wire_bytes.Volumes.{VolumeHead, Checkpoint, points_of_rows}
 use Rattle.shard_files.specs.FilesHold.{HoldWhole, volume_points, points_in_newest, tenure_in_newest, fence_in_newest}
 use Rattle.shard_files.specs.HeldEntries.{HoldsEntries, LogAmountsTo, points_of, tenure_of, fence_of}
 use Rattle.shard_files.specs.Parts.{is_open, counted, part_of, KnownVolume, AreKnown, is_volume_checkpoint, counted_volumes, snapshot_data, snapshot_checkpoint, is_snapshot_checkpoint, counted_snapshots, IsNewest, NewestIs}

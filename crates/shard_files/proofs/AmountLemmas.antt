@@ -1,6 +1,6 @@
 -- What one more entry amounts to.
 use Rattle.std.proofs.Common.{◌≡◌, ℕ, ◌≤◌, List, [], ◌∷◌, ◌++◌, max, sym, ap, ◌∙◌, arith}
-use Rattle.m3_model.specs.declared.point.Point.{Point}
+use Rattle.commit_log.specs.m3_model.declared.point.Point.{Point}
 use Rattle.shard_files.specs.declared.entries.LogEntry.{LogEntry}
 use Rattle.shard_files.specs.HeldEntries.{AmountTo, points_in, tenure_in, fence_in}
 use Rattle.shard_files.proofs.HeldLemmas.{one_more, tenures_are_fences}

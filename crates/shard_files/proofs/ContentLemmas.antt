@@ -4,17 +4,17 @@ use Rattle.std.specs.Prelude.{fold}
 use Rattle.std.proofs.lemmas.List.Sums.{fold-append}
 use Rattle.std.proofs.lemmas.Option.{none-some, same_Some}
 use Rattle.std.proofs.lemmas.Bool.{leb-true}
-use Rattle.m3_model.proofs.Keyed.{true_of}
+use Rattle.commit_log.proofs.m3_model_proofs.Keyed.{true_of}
 use Rattle.std.specs.FinMap as map
-use Rattle.m3_model.specs.Contents.{Contents, raised, content_of, Holds, key_of, point_at}
-use Rattle.m3_model.specs.Keys.{key_cmp, key_cmp_total}
-use Rattle.m3_model.proofs.Keyed.{key_cmp-IsAntisymmetric}
-use Rattle.m3_model.specs.Members.{IsIn}
-use Rattle.m3_model.specs.Reads.{Covers}
-use Rattle.m3_model.specs.declared.point.Key.{Key}
-use Rattle.m3_model.specs.declared.point.Point.{Point}
-use Rattle.m3_model.proofs.JoinLemmas.{raised_holds, raised_keeps, raised_source}
-use Rattle.m3_model.proofs.MemberLemmas.{IsIn-append_left, IsIn-append_right, IsIn-append_cases}
+use Rattle.commit_log.specs.m3_model.Contents.{Contents, raised, content_of, Holds, key_of, point_at}
+use Rattle.commit_log.specs.m3_model.Keys.{key_cmp, key_cmp_total}
+use Rattle.commit_log.proofs.m3_model_proofs.Keyed.{key_cmp-IsAntisymmetric}
+use Rattle.commit_log.specs.m3_model.Members.{IsIn}
+use Rattle.commit_log.specs.m3_model.Reads.{Covers}
+use Rattle.commit_log.specs.m3_model.declared.point.Key.{Key}
+use Rattle.commit_log.specs.m3_model.declared.point.Point.{Point}
+use Rattle.commit_log.proofs.m3_model_proofs.JoinLemmas.{raised_holds, raised_keeps, raised_source}
+use Rattle.commit_log.proofs.m3_model_proofs.MemberLemmas.{IsIn-append_left, IsIn-append_right, IsIn-append_cases}
 use Rattle.shard_files.specs.HeldLaws.{GrownIsJoined}
 use Rattle.shard_files.proofs.GainLemmas.{covers_itself, ≤ℤ_trans}
 

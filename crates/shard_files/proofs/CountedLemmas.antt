@@ -5,17 +5,17 @@ use Rattle.std.specs.FinMap.{get, keys, entries}
 use Rattle.std.specs.declared.cmp.Ordering.TheVariants.{Less}
 use Rattle.std.proofs.lemmas.Bool.{and_parts}
 pub use Rattle.std.proofs.lemmas.Bool.{and_parts as both}
-use Rattle.m3_model.specs.Members.{IsIn}
-use Rattle.m3_model.specs.Ascends.{Ascends}
-use Rattle.m3_model.proofs.FindLemmas.{get-IsIn, IsIn-get, entries_ascend}
-use Rattle.m3_model.proofs.MemberLemmas.{IsIn-map, map-IsIn, IsIn-push}
-use Rattle.m3_model.proofs.Lists.{IsIn-filter_passes}
-pub use Rattle.m3_model.proofs.Lists.{IsIn-filter, IsIn-filter_passes as chosen, filter-IsIn}
-use Rattle.m3_model.proofs.Ascending.{Ascends-filter}
-pub use Rattle.m3_model.proofs.Ascending.{Ascends-filter as filter_ascends}
-use Rattle.m3_outside.specs.declared.file_name.FileName.{FileName}
-use Rattle.m3_outside.specs.Files.{Files, IsPresent, name_cmp}
-use Rattle.m3_outside.proofs.Names.{name_total, name_same}
+use Rattle.commit_log.specs.m3_model.Members.{IsIn}
+use Rattle.commit_log.specs.m3_model.Ascends.{Ascends}
+use Rattle.commit_log.proofs.m3_model_proofs.FindLemmas.{get-IsIn, IsIn-get, entries_ascend}
+use Rattle.commit_log.proofs.m3_model_proofs.MemberLemmas.{IsIn-map, map-IsIn, IsIn-push}
+use Rattle.commit_log.proofs.m3_model_proofs.Lists.{IsIn-filter_passes}
+pub use Rattle.commit_log.proofs.m3_model_proofs.Lists.{IsIn-filter, IsIn-filter_passes as chosen, filter-IsIn}
+use Rattle.commit_log.proofs.m3_model_proofs.Ascending.{Ascends-filter}
+pub use Rattle.commit_log.proofs.m3_model_proofs.Ascending.{Ascends-filter as filter_ascends}
+use Rattle.commit_log.specs.m3_outside.declared.file_name.FileName.{FileName}
+use Rattle.commit_log.specs.m3_outside.Files.{Files, IsPresent, name_cmp}
+use Rattle.commit_log.proofs.m3_outside_proofs.Names.{name_total, name_same}
 use Rattle.shard_files.specs.Parts.{is_open, counts, counted}
 
 -- ---- names in their order

@@ -1,14 +1,14 @@
 -- A log that is cut: what files hold then.
 use Rattle.std.proofs.Common.{◌≡◌, ⊎_elim, ℕ, ◌≤◌, List, [], ◌∷◌, ◌++◌, map, refl, sym, ap, subst, ◌∙◌, arith, append_assoc}
 use Rattle.std.specs.FinMap.{get}
-use Rattle.m3_model.specs.Contents.{Contents}
-use Rattle.m3_model.specs.Members.{IsIn}
-use Rattle.m3_model.specs.declared.point.Point.{Point}
-use Rattle.m3_model.proofs.MemberLemmas.{IsIn-append_left, IsIn-append_right, IsIn-append_cases, IsIn-map}
-use Rattle.m3_outside.specs.declared.file_name.FileName.{FileName}
-use Rattle.m3_outside.specs.Files.{Files}
-use Rattle.m3_outside.specs.Removal.{MayTakeAway}
-use Rattle.m3_outside.proofs.Removal.{left_same}
+use Rattle.commit_log.specs.m3_model.Contents.{Contents}
+use Rattle.commit_log.specs.m3_model.Members.{IsIn}
+use Rattle.commit_log.specs.m3_model.declared.point.Point.{Point}
+use Rattle.commit_log.proofs.m3_model_proofs.MemberLemmas.{IsIn-append_left, IsIn-append_right, IsIn-append_cases, IsIn-map}
+use Rattle.commit_log.specs.m3_outside.declared.file_name.FileName.{FileName}
+use Rattle.commit_log.specs.m3_outside.Files.{Files}
+use Rattle.commit_log.specs.m3_outside.Removal.{MayTakeAway}
+use Rattle.commit_log.proofs.m3_outside_proofs.Removal.{left_same}
 use Rattle.commit_log.specs.Segment.{segment}
 use Rattle.commit_log.specs.Contents.{numbers, next_after, PartsHold}
 use Rattle.commit_log.specs.Cutting.{numbers_below, numbers_from, segments_below}

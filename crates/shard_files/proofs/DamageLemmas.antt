@@ -1,9 +1,9 @@
 -- The first damage of a log's segments, and that damaged files hold nothing.
 use Rattle.std.proofs.Common.{◌≡◌, inl, ℕ, ◌+◌, ◌<◌, List, [], ◌∷◌, ◌++◌, length, take, drop, get_or, map, refl, sym, ap, subst, ◌∙◌, append_assoc, append-nil}
 use Rattle.std.proofs.lemmas.List.{map-append}
-use Rattle.m3_model.specs.Members.{IsIn}
-use Rattle.m3_model.proofs.MemberLemmas.{IsIn-append_right}
-use Rattle.m3_outside.specs.Files.{Files}
+use Rattle.commit_log.specs.m3_model.Members.{IsIn}
+use Rattle.commit_log.proofs.m3_model_proofs.MemberLemmas.{IsIn-append_right}
+use Rattle.commit_log.specs.m3_outside.Files.{Files}
 use Rattle.commit_log.specs.Contents.{numbers, PartsHold, segment_bytes}
 use Rattle.commit_log.proofs.FileFronts.{has_chunks}
 use Rattle.commit_log.proofs.Parts.{parts_more}

@@ -1,10 +1,10 @@
 -- The steps of volumes, snapshots and the log, on a disk.
 use Rattle.std.proofs.Common.{◌≡◌, List, sym, subst}
-use Rattle.m3_outside.specs.declared.file_name.FileName.{FileName}
-use Rattle.m3_outside.specs.Files.{Files}
-use Rattle.m3_outside.specs.DiskState.{DiskState, IsLawfulDisk}
-use Rattle.m3_outside.specs.Removal.{MayTakeAway}
-use Rattle.m3_outside.proofs.Moments.{elapses_as}
+use Rattle.commit_log.specs.m3_outside.declared.file_name.FileName.{FileName}
+use Rattle.commit_log.specs.m3_outside.Files.{Files}
+use Rattle.commit_log.specs.m3_outside.DiskState.{DiskState, IsLawfulDisk}
+use Rattle.commit_log.specs.m3_outside.Removal.{MayTakeAway}
+use Rattle.commit_log.proofs.m3_outside_proofs.Moments.{elapses_as}
 use Rattle.shard_files.specs.StepLaws.{StepsKeep}
 use Rattle.shard_files.proofs.NextLemmas.{taken_by_names}
 use Rattle.shard_files.proofs.VolumeSteps.{write_keeps, take_keeps}

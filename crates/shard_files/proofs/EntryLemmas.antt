@@ -1,7 +1,7 @@
 -- A log's first segment.
 use Rattle.std.proofs.Common.{◌≡◌, inl, inr, ⊎_elim, ℕ, List, [], ◌∷◌, map, replicate, Some, refl, sym, ap, subst, ◌∙◌, arith}
-use Rattle.m3_model.specs.Members.{IsIn}
-use Rattle.m3_outside.specs.Files.{Files}
+use Rattle.commit_log.specs.m3_model.Members.{IsIn}
+use Rattle.commit_log.specs.m3_outside.Files.{Files}
 use Rattle.commit_log.specs.Segment.{segment}
 use Rattle.commit_log.specs.LogEnd.{NoneFrom, MayBeginSegment}
 use Rattle.commit_log.specs.Contents.{numbers, PartsHold}
@@ -10,8 +10,8 @@ use Rattle.commit_log.proofs.Shapes.{zeros_end}
 use Rattle.std.specs.FinMap.{get}
 use Rattle.std.proofs.lemmas.List.{length-replicate}
 use Rattle.std.proofs.lemmas.Bool.{cases_eq}
-use Rattle.m3_outside.proofs.Names.{get_here, get_apart}
-use Rattle.m3_outside.specs.declared.file_name.FileName.{FileName}
+use Rattle.commit_log.proofs.m3_outside_proofs.Names.{get_here, get_apart}
+use Rattle.commit_log.specs.m3_outside.declared.file_name.FileName.{FileName}
 use Rattle.shard_files.specs.declared.entries.LogEntry.{LogEntry}
 use Rattle.shard_files.specs.Entries.{spelled}
 use Rattle.shard_files.specs.HeldEntries.{HoldsEntries}

@@ -3,12 +3,12 @@ use Rattle.std.proofs.Common.{◌≡◌, ◌⊎◌, inl, inr, ℕ, zero, suc, �
 use Rattle.std.specs.Prelude.{filter}
 use Rattle.std.specs.FinMap.{get, empty, entries, len-entries, len-empty}
 use Rattle.std.proofs.lemmas.List.{nil_from_length}
-use Rattle.m3_model.specs.Members.{IsIn}
-use Rattle.m3_model.specs.declared.point.Point.{Point}
-use Rattle.m3_model.proofs.MemberLemmas.{IsIn-append_left, IsIn-append_right, IsIn-append_cases}
-use Rattle.m3_outside.specs.declared.file_name.FileName.{FileName}
-use Rattle.m3_outside.specs.Files.{Files, name_cmp}
-use Rattle.m3_outside.proofs.Names.{get_apart}
+use Rattle.commit_log.specs.m3_model.Members.{IsIn}
+use Rattle.commit_log.specs.m3_model.declared.point.Point.{Point}
+use Rattle.commit_log.proofs.m3_model_proofs.MemberLemmas.{IsIn-append_left, IsIn-append_right, IsIn-append_cases}
+use Rattle.commit_log.specs.m3_outside.declared.file_name.FileName.{FileName}
+use Rattle.commit_log.specs.m3_outside.Files.{Files, name_cmp}
+use Rattle.commit_log.proofs.m3_outside_proofs.Names.{get_apart}
 use Rattle.commit_log.specs.Segment.{segment, MayAdd, Adds, OthersStay}
 use Rattle.commit_log.specs.LogEnd.{NoneFrom, MayBeginSegment}
 use Rattle.shard_files.specs.declared.entries.LogEntry.{LogEntry}

@@ -6,18 +6,18 @@ use Rattle.std.specs.FinMap.{get}
 use Rattle.std.proofs.lemmas.Option.{same_Some}
 use Rattle.sha2.specs.Sha256.{sha256}
 use Rattle.sha2.proofs.Facts256.{length-sha256}
-use Rattle.m3_model.specs.Members.{IsIn}
-use Rattle.m3_model.specs.declared.point.Series.{Series}
-use Rattle.m3_model.proofs.MemberLemmas.{IsIn-append_right, IsIn-append_cases, IsIn-map}
-use Rattle.m3_outside.specs.declared.file_name.FileName.{FileName}
-use Rattle.m3_outside.specs.Files.{Files}
+use Rattle.commit_log.specs.m3_model.Members.{IsIn}
+use Rattle.commit_log.specs.m3_model.declared.point.Series.{Series}
+use Rattle.commit_log.proofs.m3_model_proofs.MemberLemmas.{IsIn-append_right, IsIn-append_cases, IsIn-map}
+use Rattle.commit_log.specs.m3_outside.declared.file_name.FileName.{FileName}
+use Rattle.commit_log.specs.m3_outside.Files.{Files}
 use Rattle.commit_log.specs.Contents.{numbers, PartsHold}
 use Rattle.commit_log.specs.Segment.{segment, chunk_bytes, written, IsEnd, ReadsChunks, HasChunks}
 use Rattle.commit_log.proofs.LawLemmas.{same_chunk, no_chunk, chunk_long}
-use Rattle.wire_bytes.specs.Volumes.{VolumeHead, Part, Info, Summaries, Index, Data, Bloom, Digests, Checkpoint, part_bytes, digests_bytes, info_bytes, summaries_bytes, index_bytes, data_bytes, bloom_bytes, count_of, checkpoint_bytes}
-use Rattle.wire_bytes.specs.Snapshots.{Snapshot, snapshot_bytes}
-use Rattle.wire_bytes.specs.Entries.{AnEntry}
-use Rattle.wire_bytes.proofs.StopLemmas.{stops_one}
+use Rattle.commit_log.specs.wire_bytes.Volumes.{VolumeHead, Part, Info, Summaries, Index, Data, Bloom, Digests, Checkpoint, part_bytes, digests_bytes, info_bytes, summaries_bytes, index_bytes, data_bytes, bloom_bytes, count_of, checkpoint_bytes}
+use Rattle.commit_log.specs.wire_bytes.Snapshots.{Snapshot, snapshot_bytes}
+use Rattle.commit_log.specs.wire_bytes.Entries.{AnEntry}
+use Rattle.commit_log.proofs.wire_bytes_proofs.StopLemmas.{stops_one}
 use Rattle.shard_files.specs.declared.entries.LogEntry.{LogEntry}
 use Rattle.shard_files.specs.Entries.{spelled, IsWithin, AreWithin}
 use Rattle.shard_files.specs.Parts.{part_name, part_of, VolumeHolds, counted_volumes, counted_snapshots, snapshot_data, snapshot_checkpoint, SnapshotHolds, NewestIs, KnownVolume, VolumesAre}

@@ -2,11 +2,11 @@
 use Rattle.std.proofs.Common.{◌≡◌, inl, inr, ⊎_elim, ℕ, max, List, ℤ, ◌≤ℤ◌, refl, subst, arith}
 use Rattle.std.specs.Int.Signed.{≤ℤ_refl, <ℤ-≤ℤ_trans, <ℤ_irrefl}
 use Rattle.std.proofs.lemmas.Int.{by_lt_z}
-use Rattle.m3_model.specs.Members.{IsIn}
-use Rattle.m3_model.specs.Reads.{Covers}
-use Rattle.m3_model.specs.declared.point.Point.{Point}
-use Rattle.m3_outside.specs.Files.{Files}
-use Rattle.m3_outside.specs.DiskState.{DiskState, StepOf, IsLawfulDisk}
+use Rattle.commit_log.specs.m3_model.Members.{IsIn}
+use Rattle.commit_log.specs.m3_model.Reads.{Covers}
+use Rattle.commit_log.specs.m3_model.declared.point.Point.{Point}
+use Rattle.commit_log.specs.m3_outside.Files.{Files}
+use Rattle.commit_log.specs.m3_outside.DiskState.{DiskState, StepOf, IsLawfulDisk}
 use Rattle.shard_files.specs.FilesHold.{FilesHold}
 use Rattle.shard_files.specs.Gains.{Gain, nothing, Grows, HoldsPart, Gains, MayGain}
 use Rattle.shard_files.specs.HeldLaws.{StopLeavesPart, WasGrown}

@@ -2,8 +2,8 @@
 use Rattle.std.proofs.Common.{◌≡◌, ◌⊎◌, inl, inr, ⊎_elim, ℕ, ◌+◌, ◌≤◌, List, [], ◌∷◌, ◌++◌, map, max, refl, sym, ap, subst, ◌∙◌, arith, append_assoc, append-nil}
 use Rattle.std.proofs.lemmas.List.{map_push, nil_from_length}
 use Rattle.std.specs.FinMap.{empty, entries, len-entries, len-empty}
-use Rattle.m3_outside.specs.Files.{Files, name_cmp}
-use Rattle.m3_outside.specs.declared.file_name.FileName.{FileName}
+use Rattle.commit_log.specs.m3_outside.Files.{Files, name_cmp}
+use Rattle.commit_log.specs.m3_outside.declared.file_name.FileName.{FileName}
 use Rattle.commit_log.specs.Contents.{numbers, numbers_of, PartsHold}
 use Rattle.commit_log.specs.Segment.{segment, MayAdd, Adds}
 use Rattle.commit_log.specs.LogEnd.{NoneAbove, MayBeginSegment}

@@ -1,6 +1,6 @@
 -- Calls that rearrange, one after another, and what a stop within one leaves.
 use Rattle.std.proofs.Common.{⊎_elim, arith}
-use Rattle.m3_outside.specs.DiskState.{DiskState, StepOf, IsLawfulDisk}
+use Rattle.commit_log.specs.m3_outside.DiskState.{DiskState, StepOf, IsLawfulDisk}
 use Rattle.shard_files.specs.Keeps.{Keeps, KeepsThen, WasKept, StopKeeps}
 
 pub keeps_then : KeepsThen

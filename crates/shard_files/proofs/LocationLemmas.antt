@@ -2,18 +2,18 @@
 use Rattle.std.proofs.Common.{◌≡◌, ℕ, suc, ◌+◌, ◌-◌, ◌<◌, List, [], ◌∷◌, ◌++◌, length, take, drop, refl, sym, ap, subst, ◌∙◌, arith, append_assoc, append-nil, length-append, length-take, length-drop}
 use Rattle.std.proofs.lemmas.List.{take_at, drop_at, drop-drop, take-take, take-append-drop}
 use Rattle.std.proofs.Math.ListN.{drop_of_length-le}
-use Rattle.m3_model.specs.declared.point.Point.{Point}
-use Rattle.wire_bytes.specs.Fields.{Stands, Begins, Misfits, IsFault, StopsAt}
-use Rattle.wire_bytes.specs.Points.{APoint, PointStands}
-use Rattle.wire_bytes.specs.Entries.{IsBounded, bytes_of_point, points_bytes, AllBounded, ArePoints, points_entry, AnEntry, OfPoints, OfFence, OfTenure, PointsStand, EntryStands}
-use Rattle.wire_bytes.specs.declared.wire_err.WireErr.TheVariants as errors
-use Rattle.wire_bytes.specs.declared.points.PointAt.{PointAt}
-use Rattle.wire_bytes.specs.declared.entry_read.EntryAt.{EntryAt}
-use Rattle.wire_bytes.specs.declared.entry_read.EntryAt.TheVariants as found
-use Rattle.wire_bytes.proofs.FieldLemmas.{begins_goes, begins_take, one_stands, stands_both}
-use Rattle.wire_bytes.proofs.PointLemmas.{point_ends}
-use Rattle.wire_bytes.proofs.VolumeLemmas.{point_bytes_are, points_front}
-use Rattle.wire_bytes.proofs.EntryLemmas.{entry_ends, points_more, bounded_more, stands_none}
+use Rattle.commit_log.specs.m3_model.declared.point.Point.{Point}
+use Rattle.commit_log.specs.wire_bytes.Fields.{Stands, Begins, Misfits, IsFault, StopsAt}
+use Rattle.commit_log.specs.wire_bytes.Points.{APoint, PointStands}
+use Rattle.commit_log.specs.wire_bytes.Entries.{IsBounded, bytes_of_point, points_bytes, AllBounded, ArePoints, points_entry, AnEntry, OfPoints, OfFence, OfTenure, PointsStand, EntryStands}
+use Rattle.commit_log.specs.wire_bytes.declared.wire_err.WireErr.TheVariants as errors
+use Rattle.commit_log.specs.wire_bytes.declared.points.PointAt.{PointAt}
+use Rattle.commit_log.specs.wire_bytes.declared.entry_read.EntryAt.{EntryAt}
+use Rattle.commit_log.specs.wire_bytes.declared.entry_read.EntryAt.TheVariants as found
+use Rattle.commit_log.proofs.wire_bytes_proofs.FieldLemmas.{begins_goes, begins_take, one_stands, stands_both}
+use Rattle.commit_log.proofs.wire_bytes_proofs.PointLemmas.{point_ends}
+use Rattle.commit_log.proofs.wire_bytes_proofs.VolumeLemmas.{point_bytes_are, points_front}
+use Rattle.commit_log.proofs.wire_bytes_proofs.EntryLemmas.{entry_ends, points_more, bounded_more, stands_none}
 use Rattle.shard_files.specs.declared.entries.LogEntry.TheVariants as entry
 use Rattle.shard_files.specs.Entries.{IsEntry, HasPoint, HavePoints, end_of}
 

@@ -3,15 +3,15 @@ use Rattle.std.proofs.Common.{◌≡◌, ◌⊎◌, rules, inl, inr, ⊎_elim, �
 use Rattle.std.specs.Prelude.{◌==◌, is_some, filter, nat_le, nat_lt}
 use Rattle.std.specs.FinMap.{get, keys}
 use Rattle.std.proofs.lemmas.List.Elements.{filter_agree}
-use Rattle.m3_model.specs.Members.{IsIn}
-use Rattle.m3_model.proofs.MemberLemmas.{IsIn-append_left, IsIn-append_right, map-IsIn}
-use Rattle.m3_model.proofs.Lists.{filter-IsIn}
-use Rattle.m3_outside.specs.declared.file_name.FileName.{FileName}
-use Rattle.m3_outside.specs.Files.{Files, IsAbsent}
-use Rattle.m3_outside.specs.DiskState.{HaveSameNames}
+use Rattle.commit_log.specs.m3_model.Members.{IsIn}
+use Rattle.commit_log.proofs.m3_model_proofs.MemberLemmas.{IsIn-append_left, IsIn-append_right, map-IsIn}
+use Rattle.commit_log.proofs.m3_model_proofs.Lists.{filter-IsIn}
+use Rattle.commit_log.specs.m3_outside.declared.file_name.FileName.{FileName}
+use Rattle.commit_log.specs.m3_outside.Files.{Files, IsAbsent}
+use Rattle.commit_log.specs.m3_outside.DiskState.{HaveSameNames}
 use Rattle.commit_log.specs.Contents.{next_after, numbers_of}
 use Rattle.commit_log.specs.Segment.{segment}
-use Rattle.wire_bytes.specs.Volumes.{Part, Info, Summaries, Index, Data, Bloom, Digests, Checkpoint}
+use Rattle.commit_log.specs.wire_bytes.Volumes.{Part, Info, Summaries, Index, Data, Bloom, Digests, Checkpoint}
 use Rattle.shard_files.specs.Parts.{kind_of, part_name, is_open, is_snapshot_checkpoint, snapshot_data, snapshot_checkpoint}
 use Rattle.shard_files.specs.Steps.{is_part, next_volume, files_of_volume, is_snapshot_file, next_snapshot, is_older}
 use Rattle.shard_files.specs.StepLaws.{NextVolumeIsNew, NextSnapshotIsNew, TakenByNames}

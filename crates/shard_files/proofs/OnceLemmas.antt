@@ -4,10 +4,10 @@ use Rattle.std.specs.Cmp.{IsTotalOrder, int_cmp_total}
 use Rattle.std.specs.Ordering.{ordering_reverse}
 use Rattle.std.specs.declared.cmp.Ordering.TheVariants.{Less, Greater}
 use Rattle.std.proofs.lemmas.Cmp.{then_total, on_total}
-use Rattle.m3_model.specs.Contents.{key_of}
-use Rattle.m3_model.specs.Keys.{key_cmp_total}
-use Rattle.m3_model.specs.Members.{IsIn}
-use Rattle.m3_model.specs.declared.point.Point.{Point}
+use Rattle.commit_log.specs.m3_model.Contents.{key_of}
+use Rattle.commit_log.specs.m3_model.Keys.{key_cmp_total}
+use Rattle.commit_log.specs.m3_model.Members.{IsIn}
+use Rattle.commit_log.specs.m3_model.declared.point.Point.{Point}
 use Rattle.commit_log.proofs.Numbers.{ascending_is_one}
 use Rattle.shard_files.specs.Once.{point_cmp, IsBefore, OnceIsOne, OnceHasContent, HeldOnceIsOne}
 use Rattle.shard_files.proofs.ContentLemmas.{same_content}

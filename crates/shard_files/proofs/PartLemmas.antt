@@ -4,17 +4,17 @@ use Rattle.std.specs.Prelude.{◌==◌}
 use Rattle.std.proofs.lemmas.Bool.{eqb-true, and_parts}
 use Rattle.std.specs.FinMap.{get}
 use Rattle.std.proofs.lemmas.Option.{same_Some}
-use Rattle.m3_model.specs.Members.{IsIn}
-use Rattle.m3_model.specs.declared.point.Series.{Series}
-use Rattle.m3_outside.specs.declared.file_name.FileName.{FileName}
-use Rattle.m3_outside.specs.Files.{Files}
+use Rattle.commit_log.specs.m3_model.Members.{IsIn}
+use Rattle.commit_log.specs.m3_model.declared.point.Series.{Series}
+use Rattle.commit_log.specs.m3_outside.declared.file_name.FileName.{FileName}
+use Rattle.commit_log.specs.m3_outside.Files.{Files}
 use Rattle.commit_log.specs.Segment.{segment}
 use Rattle.commit_log.specs.Contents.{numbers, PartsHold}
 use Rattle.commit_log.proofs.Numbers.{in_there, there_in, ascend, same_members}
 use Rattle.commit_log.proofs.Parts.{parts_same}
-use Rattle.wire_bytes.specs.Volumes.{VolumeHead, Part, Info, Summaries, Index, Data, Bloom, Digests, Checkpoint, part_bytes}
-use Rattle.wire_bytes.specs.Snapshots.{Snapshot, snapshot_bytes}
-use Rattle.wire_bytes.proofs.VolumeLemmas.{volumes_are_one, snapshots_are_one}
+use Rattle.commit_log.specs.wire_bytes.Volumes.{VolumeHead, Part, Info, Summaries, Index, Data, Bloom, Digests, Checkpoint, part_bytes}
+use Rattle.commit_log.specs.wire_bytes.Snapshots.{Snapshot, snapshot_bytes}
+use Rattle.commit_log.proofs.wire_bytes_proofs.VolumeLemmas.{volumes_are_one, snapshots_are_one}
 use Rattle.shard_files.specs.declared.entries.LogEntry.{LogEntry}
 use Rattle.shard_files.specs.Entries.{spelled}
 use Rattle.shard_files.specs.HeldEntries.{HoldsEntries}

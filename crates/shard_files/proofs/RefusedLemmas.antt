@@ -1,10 +1,10 @@
 -- Files that hold nothing, since what counts lacks one of its files.
 use Rattle.std.proofs.Common.{◌≡◌, inl, inr, refl, sym, ap, ◌∙◌, true, false, None}
 use Rattle.std.specs.FinMap.{get}
-use Rattle.m3_outside.specs.declared.file_name.FileName.{FileName}
-use Rattle.m3_outside.specs.Files.{files_without}
-use Rattle.m3_outside.proofs.Names.{get_gone, get_stays}
-use Rattle.wire_bytes.specs.Volumes.{Part, Info, Summaries, Index, Data, Bloom, Digests, Checkpoint}
+use Rattle.commit_log.specs.m3_outside.declared.file_name.FileName.{FileName}
+use Rattle.commit_log.specs.m3_outside.Files.{files_without}
+use Rattle.commit_log.proofs.m3_outside_proofs.Names.{get_gone, get_stays}
+use Rattle.commit_log.specs.wire_bytes.Volumes.{Part, Info, Summaries, Index, Data, Bloom, Digests, Checkpoint}
 use Rattle.shard_files.specs.Parts.{is_open, part_name, part_of, kind_of, is_volume_checkpoint, counted_volumes, is_snapshot_checkpoint, snapshot_data, snapshot_checkpoint}
 use Rattle.shard_files.specs.StepLaws.{DoneIsStep, ClosedIsUncounted, VolumeNeedsItsFiles, CheckpointGoesFirst, SnapshotNeedsItsData}
 use Rattle.shard_files.proofs.CountedLemmas.{counted_open, is_counted}

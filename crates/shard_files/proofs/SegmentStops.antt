@@ -4,12 +4,12 @@ use Rattle.std.proofs.lemmas.List.{drop_at, drop-drop, take-append-drop, take-ap
 use Rattle.std.proofs.lemmas.Bool.{cases_lt}
 use Rattle.std.proofs.lemmas.Result.{err_from_is_err_and}
 use Rattle.byteorder.specs.Endian.{big_bytes}
-use Rattle.m3_model.specs.Members.{IsIn}
-use Rattle.m3_model.proofs.MemberLemmas.{IsIn-map}
-use Rattle.wire_bytes.specs.Fields.{Begins, StopsAt}
-use Rattle.wire_bytes.specs.Entries.{AnEntry}
-use Rattle.wire_bytes.proofs.FieldLemmas.{begins_take}
-use Rattle.wire_bytes.proofs.StopLemmas.{stops_one}
+use Rattle.commit_log.specs.m3_model.Members.{IsIn}
+use Rattle.commit_log.proofs.m3_model_proofs.MemberLemmas.{IsIn-map}
+use Rattle.commit_log.specs.wire_bytes.Fields.{Begins, StopsAt}
+use Rattle.commit_log.specs.wire_bytes.Entries.{AnEntry}
+use Rattle.commit_log.proofs.wire_bytes_proofs.FieldLemmas.{begins_take}
+use Rattle.commit_log.proofs.wire_bytes_proofs.StopLemmas.{stops_one}
 use Rattle.commit_log.specs.Segment.{chunk_bytes, written, IsSegment}
 use Rattle.commit_log.specs.Reading.{ChunkStands, IsFront}
 use Rattle.commit_log.proofs.Chunks.{written_push}

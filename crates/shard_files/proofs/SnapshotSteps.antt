@@ -6,19 +6,19 @@ use Rattle.std.proofs.lemmas.Bool.{eqb-true, ltb-true, and_parts}
 use Rattle.std.proofs.lemmas.List.Elements.{filter-append}
 use Rattle.std.specs.declared.cmp.Ordering.TheVariants.{Less}
 use Rattle.std.specs.FinMap.{get, keys}
-use Rattle.m3_model.specs.Ascends.{Ascends}
-use Rattle.m3_model.specs.Contents.{Contents}
-use Rattle.m3_model.specs.Members.{IsIn}
-use Rattle.m3_model.specs.declared.point.Point.{Point}
-use Rattle.m3_model.proofs.MemberLemmas.{IsIn-append_left, IsIn-append_right, IsIn-append_cases, IsIn-push}
-use Rattle.m3_model.proofs.Lists.{IsIn-filter, IsIn-filter_passes, filter-IsIn}
-use Rattle.m3_model.proofs.Ascending.{Ascends-filter}
-use Rattle.m3_outside.specs.declared.file_name.FileName.{FileName}
-use Rattle.m3_outside.specs.Files.{Files}
-use Rattle.m3_outside.specs.Removal.{MayTakeAway}
-use Rattle.m3_outside.proofs.Names.{name_is}
-use Rattle.m3_outside.proofs.Removal.{gone_none, left_same}
-use Rattle.wire_bytes.specs.Snapshots.{Snapshot}
+use Rattle.commit_log.specs.m3_model.Ascends.{Ascends}
+use Rattle.commit_log.specs.m3_model.Contents.{Contents}
+use Rattle.commit_log.specs.m3_model.Members.{IsIn}
+use Rattle.commit_log.specs.m3_model.declared.point.Point.{Point}
+use Rattle.commit_log.proofs.m3_model_proofs.MemberLemmas.{IsIn-append_left, IsIn-append_right, IsIn-append_cases, IsIn-push}
+use Rattle.commit_log.proofs.m3_model_proofs.Lists.{IsIn-filter, IsIn-filter_passes, filter-IsIn}
+use Rattle.commit_log.proofs.m3_model_proofs.Ascending.{Ascends-filter}
+use Rattle.commit_log.specs.m3_outside.declared.file_name.FileName.{FileName}
+use Rattle.commit_log.specs.m3_outside.Files.{Files}
+use Rattle.commit_log.specs.m3_outside.Removal.{MayTakeAway}
+use Rattle.commit_log.proofs.m3_outside_proofs.Names.{name_is}
+use Rattle.commit_log.proofs.m3_outside_proofs.Removal.{gone_none, left_same}
+use Rattle.commit_log.specs.wire_bytes.Snapshots.{Snapshot}
 use Rattle.shard_files.specs.HeldEntries.{points_of}
 use Rattle.shard_files.specs.Parts.{is_open, snapshot_data, snapshot_checkpoint, SnapshotHolds, is_snapshot_checkpoint, counted_snapshots, IsNewest, NewestIs, IsWhole, AreWhole}
 use Rattle.shard_files.specs.FilesHold.{volume_points, points_in_newest, FilesHold}

@@ -1,9 +1,9 @@
 -- Entries by their bytes: one spelling of each.
 use Rattle.std.proofs.Common.{◌≡◌, ℕ, List, [], ◌∷◌, ◌++◌, map, length, refl, ap, arith}
-use Rattle.wire_bytes.specs.Entries.{AnEntry, OfPoints, OfFence, OfTenure}
-use Rattle.wire_bytes.proofs.NumberLemmas.{bytes_one}
-use Rattle.wire_bytes.proofs.PointLemmas.{number_parts}
-use Rattle.wire_bytes.proofs.VolumeLemmas.{points_front}
+use Rattle.commit_log.specs.wire_bytes.Entries.{AnEntry, OfPoints, OfFence, OfTenure}
+use Rattle.commit_log.proofs.wire_bytes_proofs.NumberLemmas.{bytes_one}
+use Rattle.commit_log.proofs.wire_bytes_proofs.PointLemmas.{number_parts}
+use Rattle.commit_log.proofs.wire_bytes_proofs.VolumeLemmas.{points_front}
 use Rattle.shard_files.specs.declared.entries.LogEntry.{LogEntry}
 use Rattle.shard_files.specs.declared.entries.LogEntry.TheVariants as entry
 use Rattle.shard_files.specs.Entries.{spelled, IsWithin, AreWithin}

@@ -2,19 +2,19 @@
 use Rattle.std.proofs.Common.{◌≡◌, ◌⊎◌, inl, inr, ⊎_elim, ℕ, ◌<◌, ◌≤◌, List, [], ◌∷◌, ◌++◌, map, refl, sym, ap, subst, ◌∙◌, arith, true, false, cond, Some, None, Option}
 use Rattle.std.specs.Prelude.{is_some, filter}
 use Rattle.std.specs.FinMap.{get}
-use Rattle.m3_model.specs.Answers.{HasPoint}
-use Rattle.m3_model.specs.Contents.{Contents}
-use Rattle.m3_model.specs.Members.{IsIn}
-use Rattle.m3_model.specs.declared.point.Point.{Point}
-use Rattle.m3_model.specs.declared.point.Series.{Series}
-use Rattle.m3_model.proofs.MemberLemmas.{IsIn-append_left, IsIn-append_right, IsIn-append_cases, IsIn-map}
-use Rattle.m3_model.proofs.Lists.{IsIn-filter}
-use Rattle.m3_outside.specs.declared.file_name.FileName.{FileName}
-use Rattle.m3_outside.specs.Files.{Files, IsAbsent}
-use Rattle.m3_outside.specs.Removal.{without_files, MayTakeAway}
-use Rattle.m3_outside.proofs.Names.{name_is}
-use Rattle.m3_outside.proofs.Removal.{none_stays, gone_none, left_same}
-use Rattle.wire_bytes.specs.Volumes.{VolumeHead, Part, Info, Summaries, Index, Data, Bloom, Digests, Checkpoint}
+use Rattle.commit_log.specs.m3_model.Answers.{HasPoint}
+use Rattle.commit_log.specs.m3_model.Contents.{Contents}
+use Rattle.commit_log.specs.m3_model.Members.{IsIn}
+use Rattle.commit_log.specs.m3_model.declared.point.Point.{Point}
+use Rattle.commit_log.specs.m3_model.declared.point.Series.{Series}
+use Rattle.commit_log.proofs.m3_model_proofs.MemberLemmas.{IsIn-append_left, IsIn-append_right, IsIn-append_cases, IsIn-map}
+use Rattle.commit_log.proofs.m3_model_proofs.Lists.{IsIn-filter}
+use Rattle.commit_log.specs.m3_outside.declared.file_name.FileName.{FileName}
+use Rattle.commit_log.specs.m3_outside.Files.{Files, IsAbsent}
+use Rattle.commit_log.specs.m3_outside.Removal.{without_files, MayTakeAway}
+use Rattle.commit_log.proofs.m3_outside_proofs.Names.{name_is}
+use Rattle.commit_log.proofs.m3_outside_proofs.Removal.{none_stays, gone_none, left_same}
+use Rattle.commit_log.specs.wire_bytes.Volumes.{VolumeHead, Part, Info, Summaries, Index, Data, Bloom, Digests, Checkpoint}
 use Rattle.shard_files.specs.HeldEntries.{points_of}
 use Rattle.shard_files.specs.Parts.{is_open, kind_of, part_name, part_of, VolumeHolds, KnownVolume, IsKnown, AreKnown, VolumesAre, is_volume_checkpoint, counted_volumes}
 use Rattle.shard_files.specs.FilesHold.{points_known, volume_points, points_in_newest, FilesHold}

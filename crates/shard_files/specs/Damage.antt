@@ -2,18 +2,18 @@
 use Rattle.std.specs.Prelude.{◌≡◌, ◌⊎◌, ◌+◌, ◌<◌, ◌≤◌, ◌^◌, ℕ, List, [], ◌∷◌, ◌++◌, map, length, take, drop, unwrap_or, Option, Some, None}
 use Rattle.std.specs.FinMap.{get}
 use Rattle.sha2.specs.Sha256.{sha256}
-use Rattle.m3_model.specs.Members.{IsIn}
-use Rattle.m3_model.specs.declared.limits.TheConstants.{SEGMENT_BYTES}
-use Rattle.m3_model.specs.declared.point.Point.{Point}
-use Rattle.m3_model.specs.declared.point.Series.{Series}
-use Rattle.m3_outside.specs.Files.{Files, IsAbsent}
-use Rattle.m3_outside.specs.declared.file_name.FileName.{FileName}
+use Rattle.commit_log.specs.m3_model.Members.{IsIn}
+use Rattle.commit_log.specs.m3_model.declared.limits.TheConstants.{SEGMENT_BYTES}
+use Rattle.commit_log.specs.m3_model.declared.point.Point.{Point}
+use Rattle.commit_log.specs.m3_model.declared.point.Series.{Series}
+use Rattle.commit_log.specs.m3_outside.Files.{Files, IsAbsent}
+use Rattle.commit_log.specs.m3_outside.declared.file_name.FileName.{FileName}
 use Rattle.commit_log.specs.Contents.{numbers}
 use Rattle.commit_log.specs.Segment.{segment, chunk_bytes, written, IsSegment}
-use Rattle.wire_bytes.specs.Fields.{StopsAt}
-use Rattle.wire_bytes.specs.Entries.{AnEntry}
-use Rattle.wire_bytes.specs.Volumes.{VolumeHead, IsHead, IsVolume, Part, Info, Summaries, Index, Data, Bloom, Digests, Checkpoint, info_of, data_bytes, part_bytes}
-use Rattle.wire_bytes.specs.Snapshots.{Snapshot, IsSnapshot, snapshot_bytes}
+use Rattle.commit_log.specs.wire_bytes.Fields.{StopsAt}
+use Rattle.commit_log.specs.wire_bytes.Entries.{AnEntry}
+use Rattle.commit_log.specs.wire_bytes.Volumes.{VolumeHead, IsHead, IsVolume, Part, Info, Summaries, Index, Data, Bloom, Digests, Checkpoint, info_of, data_bytes, part_bytes}
+use Rattle.commit_log.specs.wire_bytes.Snapshots.{Snapshot, IsSnapshot, snapshot_bytes}
 use Rattle.shard_files.specs.Parts.{part_name, part_of, IsRead, counted_volumes, counted_snapshots, snapshot_data, snapshot_checkpoint}
 use Rattle.shard_files.specs.FilesHold.{FilesHold}
 

@@ -1,12 +1,12 @@
 -- Entries of a replica's log, as bytes.
 use Rattle.std.specs.Prelude.{◌≡◌, ⊤, ℕ, ◌-◌, ◌<◌, ◌≤◌, ◌^◌, List, [], ◌∷◌, length}
-use Rattle.m3_model.specs.declared.point.Point.{Point}
-use Rattle.wire_bytes.specs.Fields.{StopsAt}
-use Rattle.wire_bytes.specs.Entries.{AnEntry, ArePoints, PointsStand, points_entry, fence_entry, tenure_entry}
-use Rattle.wire_bytes.specs.Points.{PointStands}
-use Rattle.wire_bytes.specs.declared.points.PointAt.{PointAt}
-use Rattle.wire_bytes.specs.declared.entry_read.EntryAt.{EntryAt}
-use Rattle.wire_bytes.specs.declared.entry_read.EntryAt.TheVariants as found
+use Rattle.commit_log.specs.m3_model.declared.point.Point.{Point}
+use Rattle.commit_log.specs.wire_bytes.Fields.{StopsAt}
+use Rattle.commit_log.specs.wire_bytes.Entries.{AnEntry, ArePoints, PointsStand, points_entry, fence_entry, tenure_entry}
+use Rattle.commit_log.specs.wire_bytes.Points.{PointStands}
+use Rattle.commit_log.specs.wire_bytes.declared.points.PointAt.{PointAt}
+use Rattle.commit_log.specs.wire_bytes.declared.entry_read.EntryAt.{EntryAt}
+use Rattle.commit_log.specs.wire_bytes.declared.entry_read.EntryAt.TheVariants as found
 use Rattle.shard_files.specs.declared.entries.LogEntry.{LogEntry}
 use Rattle.shard_files.specs.declared.entries.LogEntry.TheVariants as entry
 use Rattle.shard_files.specs.declared.entries.EntryErr.{EntryErr}

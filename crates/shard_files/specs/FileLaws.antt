@@ -1,14 +1,14 @@
 -- What files hold is one thing, and a matter of few files.
 use Rattle.std.specs.Prelude.{◌≡◌, ◌≤◌, ◌↔◌, max, ℕ, true, List, Option}
 use Rattle.std.specs.FinMap.{get}
-use Rattle.m3_model.specs.declared.point.Point.{Point}
-use Rattle.m3_model.specs.declared.point.Series.{Series}
-use Rattle.m3_outside.specs.Files.{Files, IsAbsent}
-use Rattle.m3_outside.specs.declared.file_name.FileName.{FileName}
+use Rattle.commit_log.specs.m3_model.declared.point.Point.{Point}
+use Rattle.commit_log.specs.m3_model.declared.point.Series.{Series}
+use Rattle.commit_log.specs.m3_outside.Files.{Files, IsAbsent}
+use Rattle.commit_log.specs.m3_outside.declared.file_name.FileName.{FileName}
 use Rattle.commit_log.specs.LogEnd.{NoneAbove, NoneFrom, MayBeginSegment}
 use Rattle.commit_log.specs.Segment.{segment, MayAdd, Adds}
-use Rattle.wire_bytes.specs.Snapshots.{Snapshot}
-use Rattle.wire_bytes.specs.Volumes.{VolumeHead, points_of_rows}
+use Rattle.commit_log.specs.wire_bytes.Snapshots.{Snapshot}
+use Rattle.commit_log.specs.wire_bytes.Volumes.{VolumeHead, points_of_rows}
 use Rattle.shard_files.specs.declared.entries.LogEntry.{LogEntry}
 use Rattle.shard_files.specs.Entries.{IsEntry}
 use Rattle.shard_files.specs.HeldEntries.{HoldsEntries, LogAmountsTo}

@@ -1,9 +1,9 @@
 -- What the files of a replica's disk hold, whole: the volumes that count, the newest snapshot that counts, and the log.
 use Rattle.std.specs.Prelude.{◌≡◌, ℕ, max, List, [], ◌++◌, Option, Some, None, flat_map}
-use Rattle.m3_model.specs.declared.point.Point.{Point}
-use Rattle.m3_outside.specs.Files.{Files}
-use Rattle.wire_bytes.specs.Volumes.{points_of_rows}
-use Rattle.wire_bytes.specs.Snapshots.{Snapshot}
+use Rattle.commit_log.specs.m3_model.declared.point.Point.{Point}
+use Rattle.commit_log.specs.m3_outside.Files.{Files}
+use Rattle.commit_log.specs.wire_bytes.Volumes.{points_of_rows}
+use Rattle.commit_log.specs.wire_bytes.Snapshots.{Snapshot}
 use Rattle.shard_files.specs.declared.entries.LogEntry.{LogEntry}
 use Rattle.shard_files.specs.HeldEntries.{HoldsEntries, points_of, tenure_of, fence_of}
 use Rattle.shard_files.specs.Parts.{KnownVolume, VolumesAre, NewestIs, AreWhole}

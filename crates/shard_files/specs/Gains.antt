@@ -1,13 +1,13 @@
 -- What a call brings to the files of a replica, wherever a stop falls.
 use Rattle.std.specs.Prelude.{◌≡◌, ◌⊎◌, ⊤, ℕ, max, true, List, [], ◌∷◌, Result, OnOk, IsErrOf}
-use Rattle.m3_model.specs.Members.{IsIn}
-use Rattle.m3_model.specs.Reads.{Covers}
-use Rattle.m3_model.specs.declared.point.Point.{Point}
-use Rattle.m3_outside.specs.Causes.{CountsFaults}
-use Rattle.m3_outside.specs.Files.{Files}
-use Rattle.m3_outside.specs.DiskState.{DiskState, StepOf, Elapses}
-use Rattle.m3_outside.specs.declared.disk_err.DiskErr.{DiskErr}
-use Rattle.m3_outside.specs.declared.disk_err.DiskErr.TheVariants.{Failed as DiskFailed, Memory as WantOfMemory}
+use Rattle.commit_log.specs.m3_model.Members.{IsIn}
+use Rattle.commit_log.specs.m3_model.Reads.{Covers}
+use Rattle.commit_log.specs.m3_model.declared.point.Point.{Point}
+use Rattle.commit_log.specs.m3_outside.Causes.{CountsFaults}
+use Rattle.commit_log.specs.m3_outside.Files.{Files}
+use Rattle.commit_log.specs.m3_outside.DiskState.{DiskState, StepOf, Elapses}
+use Rattle.commit_log.specs.m3_outside.declared.disk_err.DiskErr.{DiskErr}
+use Rattle.commit_log.specs.m3_outside.declared.disk_err.DiskErr.TheVariants.{Failed as DiskFailed, Memory as WantOfMemory}
 use Rattle.shard_files.specs.Parts.{AreWhole}
 use Rattle.shard_files.specs.FilesHold.{FilesHold}
 

@@ -1,7 +1,7 @@
 -- What the log of a replica holds: the points of its entries, their greatest tenure and their greatest fence.
 use Rattle.std.specs.Prelude.{◌≡◌, ℕ, max, List, [], ◌∷◌, ◌++◌, map}
-use Rattle.m3_model.specs.declared.point.Point.{Point}
-use Rattle.m3_outside.specs.Files.{Files}
+use Rattle.commit_log.specs.m3_model.declared.point.Point.{Point}
+use Rattle.commit_log.specs.m3_outside.Files.{Files}
 use Rattle.commit_log.specs.Contents.{numbers, PartsHold}
 use Rattle.shard_files.specs.declared.entries.LogEntry.{LogEntry}
 use Rattle.shard_files.specs.declared.entries.LogEntry.TheVariants as entry

@@ -1,10 +1,10 @@
 -- What a log holds is one thing, what one more entry does to it, and what a stop leaves of a call that brings something.
 use Rattle.std.specs.Prelude.{◌≡◌, ℕ, max, true, List, [], ◌∷◌, ◌++◌, fold}
-use Rattle.m3_model.specs.Contents.{raised, content_of}
-use Rattle.m3_model.specs.Members.{IsIn}
-use Rattle.m3_model.specs.declared.point.Point.{Point}
-use Rattle.m3_outside.specs.Files.{Files}
-use Rattle.m3_outside.specs.DiskState.{DiskState, EachImage, Elapses}
+use Rattle.commit_log.specs.m3_model.Contents.{raised, content_of}
+use Rattle.commit_log.specs.m3_model.Members.{IsIn}
+use Rattle.commit_log.specs.m3_model.declared.point.Point.{Point}
+use Rattle.commit_log.specs.m3_outside.Files.{Files}
+use Rattle.commit_log.specs.m3_outside.DiskState.{DiskState, EachImage, Elapses}
 use Rattle.shard_files.specs.declared.entries.LogEntry.{LogEntry}
 use Rattle.shard_files.specs.Entries.{spelled, IsWithin}
 use Rattle.shard_files.specs.HeldEntries.{HoldsEntries, points_in, tenure_in, fence_in, points_of, tenure_of, fence_of}

@@ -1,12 +1,12 @@
 -- What a call does to what files hold that brings no point: a flush, a tick and a snapshot.
 use Rattle.std.specs.Prelude.{◌≡◌, ℕ, true, List}
-use Rattle.m3_model.specs.Answers.{HasPoint}
-use Rattle.m3_model.specs.Contents.{Contents}
-use Rattle.m3_model.specs.Members.{IsIn}
-use Rattle.m3_model.specs.declared.point.Point.{Point}
-use Rattle.m3_outside.specs.Causes.{CountsFaults}
-use Rattle.m3_outside.specs.Files.{Files}
-use Rattle.m3_outside.specs.DiskState.{DiskState, EachImage, Elapses}
+use Rattle.commit_log.specs.m3_model.Answers.{HasPoint}
+use Rattle.commit_log.specs.m3_model.Contents.{Contents}
+use Rattle.commit_log.specs.m3_model.Members.{IsIn}
+use Rattle.commit_log.specs.m3_model.declared.point.Point.{Point}
+use Rattle.commit_log.specs.m3_outside.Causes.{CountsFaults}
+use Rattle.commit_log.specs.m3_outside.Files.{Files}
+use Rattle.commit_log.specs.m3_outside.DiskState.{DiskState, EachImage, Elapses}
 use Rattle.shard_files.specs.Parts.{AreWhole}
 use Rattle.shard_files.specs.FilesHold.{FilesHold, IsSound}
 

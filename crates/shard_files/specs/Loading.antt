@@ -1,16 +1,16 @@
 -- What is found of the entries in files, or why none are.
 use Rattle.std.specs.Prelude.{◌≡◌, ⊤, ℕ, List, ◌++◌, map, length, Option}
-use Rattle.m3_model.specs.declared.limits.TheConstants.{SEGMENT_BYTES}
-use Rattle.m3_outside.specs.Files.{Files}
-use Rattle.m3_outside.specs.declared.disk_err.DiskErr.{DiskErr}
-use Rattle.m3_outside.specs.declared.disk_err.DiskErr.TheVariants as disk
+use Rattle.commit_log.specs.m3_model.declared.limits.TheConstants.{SEGMENT_BYTES}
+use Rattle.commit_log.specs.m3_outside.Files.{Files}
+use Rattle.commit_log.specs.m3_outside.declared.disk_err.DiskErr.{DiskErr}
+use Rattle.commit_log.specs.m3_outside.declared.disk_err.DiskErr.TheVariants as disk
 use Rattle.commit_log.specs.Contents.{numbers, PartsHold}
 use Rattle.commit_log.specs.Segment.{segment, ReadsChunks}
 use Rattle.shard_files.specs.declared.entries.LogEntry.{LogEntry}
 use Rattle.shard_files.specs.declared.entries.EntryErr.{EntryErr}
 use Rattle.shard_files.specs.declared.entries.EntryErr.TheVariants as refused
 use Rattle.shard_files.specs.Entries.{spelled, AreWithin}
-use Rattle.wire_bytes.specs.Snapshots.{Snapshot}
+use Rattle.commit_log.specs.wire_bytes.Snapshots.{Snapshot}
 use Rattle.shard_files.specs.Parts.{KnownVolume, VolumesAre, NewestIs}
 use Rattle.shard_files.specs.Damage.{Damage, OfForm, OfDigest, FirstFound, FirstStop, BreaksSegment, FirstDamage}
 use Rattle.shard_files.specs.declared.load_err.LoadErr.{LoadErr}

@@ -3,12 +3,12 @@ use Rattle.std.specs.Prelude.{◌≡◌, ◌↔◌, ℕ, List}
 use Rattle.std.specs.Ordering.{int_cmp, on, then_cmp}
 use Rattle.std.specs.declared.cmp.Ordering.{Ordering}
 use Rattle.std.specs.declared.cmp.Ordering.TheVariants.{Less}
-use Rattle.m3_model.specs.Ascends.{Ascends}
-use Rattle.m3_model.specs.Contents.{key_of, content_of}
-use Rattle.m3_model.specs.Keys.{key_cmp}
-use Rattle.m3_model.specs.Members.{IsIn}
-use Rattle.m3_model.specs.declared.point.Point.{Point}
-use Rattle.m3_outside.specs.Files.{Files}
+use Rattle.commit_log.specs.m3_model.Ascends.{Ascends}
+use Rattle.commit_log.specs.m3_model.Contents.{key_of, content_of}
+use Rattle.commit_log.specs.m3_model.Keys.{key_cmp}
+use Rattle.commit_log.specs.m3_model.Members.{IsIn}
+use Rattle.commit_log.specs.m3_model.declared.point.Point.{Point}
+use Rattle.commit_log.specs.m3_outside.Files.{Files}
 use Rattle.shard_files.specs.FilesHold.{FilesHold}
 
 -- by key, and then by value

@@ -1,18 +1,18 @@
 -- Where a volume is written, one is taken away, a snapshot is saved, the log is cut and older snapshots are taken away, each stop keeps what is to be kept.
 use Rattle.std.specs.Prelude.{◌≡◌, ◌⊎◌, ◌≤◌, ◌<◌, ℕ, true, false, List, [], ◌∷◌, ◌++◌}
 use Rattle.std.specs.FinMap.{get}
-use Rattle.m3_model.specs.Answers.{HasPoint}
-use Rattle.m3_model.specs.Contents.{Contents}
-use Rattle.m3_model.specs.Members.{IsIn}
-use Rattle.m3_model.specs.declared.point.Point.{Point}
-use Rattle.m3_model.specs.declared.point.Series.{Series}
-use Rattle.m3_outside.specs.Files.{Files, IsAbsent}
-use Rattle.m3_outside.specs.DiskState.{DiskState, EachImage, Elapses, HaveSameNames}
-use Rattle.m3_outside.specs.Removal.{MayTakeAway, without_files}
-use Rattle.m3_outside.specs.declared.file_name.FileName.{FileName}
+use Rattle.commit_log.specs.m3_model.Answers.{HasPoint}
+use Rattle.commit_log.specs.m3_model.Contents.{Contents}
+use Rattle.commit_log.specs.m3_model.Members.{IsIn}
+use Rattle.commit_log.specs.m3_model.declared.point.Point.{Point}
+use Rattle.commit_log.specs.m3_model.declared.point.Series.{Series}
+use Rattle.commit_log.specs.m3_outside.Files.{Files, IsAbsent}
+use Rattle.commit_log.specs.m3_outside.DiskState.{DiskState, EachImage, Elapses, HaveSameNames}
+use Rattle.commit_log.specs.m3_outside.Removal.{MayTakeAway, without_files}
+use Rattle.commit_log.specs.m3_outside.declared.file_name.FileName.{FileName}
 use Rattle.commit_log.specs.Cutting.{segments_below}
-use Rattle.wire_bytes.specs.Volumes.{VolumeHead, Part, Checkpoint, points_of_rows}
-use Rattle.wire_bytes.specs.Snapshots.{Snapshot}
+use Rattle.commit_log.specs.wire_bytes.Volumes.{VolumeHead, Part, Checkpoint, points_of_rows}
+use Rattle.commit_log.specs.wire_bytes.Snapshots.{Snapshot}
 use Rattle.shard_files.specs.HeldEntries.{points_of, tenure_of, fence_of}
 use Rattle.shard_files.specs.Parts.{KnownVolume, part_name, part_of, is_open, counted_volumes, counted_snapshots, snapshot_data, snapshot_checkpoint, IsNewest}
 use Rattle.shard_files.specs.FilesHold.{Counted, HoldParts, FilesHold, AreSound, points_known, volume_points, points_in_newest, tenure_in_newest, fence_in_newest}

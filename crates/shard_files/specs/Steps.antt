@@ -1,12 +1,12 @@
 -- What is done to the files of volumes and snapshots, whatever a stop leaves of it.
 use Rattle.std.specs.Prelude.{◌≡◌, ◌⊎◌, ℕ, Bool, false, ◌==◌, ◌&&◌, nat_le, nat_lt, is_some, List, [], ◌∷◌, ◌++◌, map, filter}
 use Rattle.std.specs.FinMap.{get, keys}
-use Rattle.m3_model.specs.declared.point.Series.{Series}
-use Rattle.m3_outside.specs.Files.{Files}
-use Rattle.m3_outside.specs.declared.file_name.FileName.{FileName}
+use Rattle.commit_log.specs.m3_model.declared.point.Series.{Series}
+use Rattle.commit_log.specs.m3_outside.Files.{Files}
+use Rattle.commit_log.specs.m3_outside.declared.file_name.FileName.{FileName}
 use Rattle.commit_log.specs.Contents.{next_after}
-use Rattle.wire_bytes.specs.Volumes.{VolumeHead, Part, Info, Summaries, Index, Data, Bloom, Digests, Checkpoint}
-use Rattle.wire_bytes.specs.Snapshots.{Snapshot}
+use Rattle.commit_log.specs.wire_bytes.Volumes.{VolumeHead, Part, Info, Summaries, Index, Data, Bloom, Digests, Checkpoint}
+use Rattle.commit_log.specs.wire_bytes.Snapshots.{Snapshot}
 use Rattle.shard_files.specs.Parts.{is_open, part_name, part_of, VolumeHolds, snapshot_data, snapshot_checkpoint, SnapshotHolds}
 
 -- all files that aren't one's own are as before

@@ -1,12 +1,12 @@
 ghost use Rattle.std.specs.Prelude.{◌≡◌, ℕ, ◌≤◌, List, length, IfOk, IfErr};
-ghost use Rattle.wire_bytes.specs.Fields.{Stands};
-ghost use Rattle.wire_bytes.specs.Entries.{IsBounded, bytes_of_point, PointsStand, EntryStands};
+ghost use Rattle.commit_log.specs.wire_bytes.Fields.{Stands};
+ghost use Rattle.commit_log.specs.wire_bytes.Entries.{IsBounded, bytes_of_point, PointsStand, EntryStands};
 ghost use Rattle.shard_files.specs.Entries.{IsEntry, HasPoint, HavePoints, MayBreak, end_of};
 
-use m3_model::{Memory, Point, Seq, Text};
+use commit_log::m3_model::{Memory, Point, Seq, Text};
+use commit_log::wire_bytes::{EntryAt, WireErr, get_entry, get_point};
 use std::alloc::{AllocFailed, Global};
 use thiserror::Error;
-use wire_bytes::{EntryAt, WireErr, get_entry, get_point};
 
 /// An entry of a replica's log.
 #[derive(Drop)]

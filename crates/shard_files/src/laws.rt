@@ -1,6 +1,6 @@
 //! Laws over the definitions of what a replica's files hold.
 ghost use Rattle.std.specs.Prelude.{List};
-ghost use Rattle.m3_outside.specs.Files.{Files};
+ghost use Rattle.commit_log.specs.m3_outside.Files.{Files};
 ghost use Rattle.shard_files.specs.declared.entries.LogEntry.{LogEntry};
 ghost use Rattle.shard_files.specs.FilesHold.{IsSound};
 ghost use Rattle.shard_files.specs.Damage.{Damage};
@@ -8,7 +8,7 @@ ghost use Rattle.shard_files.specs.Loading.{LogTells};
 ghost use Rattle.shard_files.specs.HeldLaws.{OneSpelling, EntriesAreOne, OneMore, GrownIsJoined, StopLeavesPart};
 ghost use Rattle.shard_files.specs.Once.{OnceIsOne, OnceHasContent, HeldOnceIsOne};
 
-use m3_outside::Disk;
+use commit_log::m3_outside::Disk;
 
 /// No two entries within their bounds have the same bytes.
 pub fn one_spelling()

@@ -12,3 +12,7 @@ pub use amount::{Amount, join_entries};
 pub use entries::{EntryErr, LogEntry, read_entry};
 pub use load_err::LoadErr;
 pub use segment_entries::read_segment;
+
+// Libraries that the rows of crates above need not name.
+pub use commit_log;
+pub use commit_log::{m3_model, m3_outside, wire_bytes};

@@ -1,5 +1,5 @@
 ghost use Rattle.std.specs.Prelude.{ℕ, ◌-◌, ◌≤◌, List, length, take, drop, IfOk, IfErr, OnOk};
-ghost use Rattle.m3_model.specs.declared.limits.TheConstants.{SEGMENT_BYTES};
+ghost use Rattle.commit_log.specs.m3_model.declared.limits.TheConstants.{SEGMENT_BYTES};
 ghost use Rattle.commit_log.specs.Reading.{IsFront};
 ghost use Rattle.shard_files.specs.Entries.{IsEntry, MayBreakFrom};
 ghost use Rattle.shard_files.specs.Loading.{ReadsEntries, MayStop};

@@ -1,6 +1,6 @@
 -- Counts of faults over calls.
 use Rattle.std.proofs.Common.{ℕ, arith}
-use Rattle.m3_outside.specs.Causes.{CountsFaults}
+use Rattle.snapshot_files.specs.m3_outside.Causes.{CountsFaults}
 
 -- two counts, one after the other
 pub counts_both : (f g : Type 0) (a b c : ℕ) → CountsFaults f a b → CountsFaults g b c → CountsFaults g a c

@@ -15,7 +15,7 @@ use Rattle.m3_model.proofs.Keyed.{key_cmp-IsAntisymmetric}
 use Rattle.m3_model.proofs.MemberLemmas.{IsIn-append_left, IsIn-append_cases, IsIn-push, IsIn-map, map-IsIn}
 use Rattle.m3_model.proofs.Orders.{both_equal}
 use Rattle.held_points.proofs.ListLemmas.{insert_key-IsIn, IsIn-insert_key}
-use Rattle.shard_files.specs.Once.{IsBefore, IsEachOnce}
+use Rattle.snapshot_files.specs.shard_files.Once.{IsBefore, IsEachOnce}
 use Rattle.shard_open.specs.Ranks.{rank_cmp, ranked, unranked, AreRanksOf}
 
 rank_cmp-IsAntisymmetric : IsAntisymmetric rank_cmp

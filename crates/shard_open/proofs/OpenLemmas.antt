@@ -5,19 +5,19 @@ use Rattle.std.proofs.lemmas.Result.{err_from_is_err_and}
 use Rattle.std.proofs.lemmas.List.{map-append, take_all, take_more}
 use Rattle.std.proofs.lemmas.Grind.{flat_map-append}
 use Rattle.m3_model.specs.declared.point.Point.{Point}
-use Rattle.m3_outside.specs.Files.{Files}
-use Rattle.m3_outside.specs.declared.file_name.FileName.{FileName}
-use Rattle.wire_bytes.specs.Volumes.{Checkpoint}
-use Rattle.volume_bytes.specs.Heads.{head_of}
-use Rattle.shard_files.specs.declared.entries.LogEntry.{LogEntry}
-use Rattle.shard_files.specs.HeldEntries.{HoldsEntries, AmountTo}
-use Rattle.shard_files.specs.Parts.{KnownVolume, IsKnown, AreKnown, VolumeHolds, part_of, counted_volumes}
-use Rattle.shard_files.specs.FilesHold.{points_known, volume_points}
-use Rattle.shard_files.specs.declared.load_err.LoadErr.{LoadErr}
-use Rattle.shard_files.specs.declared.load_err.LoadErr.TheVariants as failures
-use Rattle.shard_files.specs.Once.{HeldOnce, IsEachOnce}
-use Rattle.fileset_check.specs.Whole.{AreVolumes, listed}
-use Rattle.fileset_check.specs.declared.volume.Volume.{Volume}
+use Rattle.snapshot_files.specs.m3_outside.Files.{Files}
+use Rattle.snapshot_files.specs.m3_outside.declared.file_name.FileName.{FileName}
+use Rattle.snapshot_files.specs.wire_bytes.Volumes.{Checkpoint}
+use Rattle.snapshot_files.specs.volume_bytes.Heads.{head_of}
+use Rattle.snapshot_files.specs.shard_files.declared.entries.LogEntry.{LogEntry}
+use Rattle.snapshot_files.specs.shard_files.HeldEntries.{HoldsEntries, AmountTo}
+use Rattle.snapshot_files.specs.shard_files.Parts.{KnownVolume, IsKnown, AreKnown, VolumeHolds, part_of, counted_volumes}
+use Rattle.snapshot_files.specs.shard_files.FilesHold.{points_known, volume_points}
+use Rattle.snapshot_files.specs.shard_files.declared.load_err.LoadErr.{LoadErr}
+use Rattle.snapshot_files.specs.shard_files.declared.load_err.LoadErr.TheVariants as failures
+use Rattle.snapshot_files.specs.shard_files.Once.{HeldOnce, IsEachOnce}
+use Rattle.snapshot_files.specs.fileset_check.Whole.{AreVolumes, listed}
+use Rattle.snapshot_files.specs.fileset_check.declared.volume.Volume.{Volume}
 use Rattle.shard_open.specs.Loads.{known_of, IsOpen, AreOpen, AreOpened, IsNewest}
 use Rattle.shard_open.specs.declared.newest.Newest.{Newest}
 use Rattle.shard_open.specs.declared.volumes.OpenVolume.{OpenVolume}

@@ -7,14 +7,14 @@ use Rattle.m3_model.proofs.MemberLemmas.{IsIn-append_cases, IsIn-map, map-IsIn}
 use Rattle.m3_model.proofs.FindLemmas.{IsIn-get, get-IsIn}
 use Rattle.m3_model.proofs.Lists.{IsIn-get_or}
 use Rattle.m3_model.specs.Members.{IsIn}
-use Rattle.m3_outside.specs.Causes.{CountsFaults}
-use Rattle.m3_outside.specs.declared.file_name.FileName.{FileName}
-use Rattle.m3_outside.specs.declared.failed.Failed.{Failed}
-use Rattle.m3_outside.specs.Files.{Files, IsPresent, Stays, name_cmp}
-use Rattle.m3_outside.specs.DiskState.{DiskState, EachImage, Elapses, IsLawfulDisk}
-use Rattle.m3_outside.specs.DiskCalls.{Syncs, LeavesFiles}
-use Rattle.m3_outside.proofs.Names.{name_total, name_same, same_files}
-use Rattle.m3_outside.proofs.Moments.{elapses_then}
+use Rattle.snapshot_files.specs.m3_outside.Causes.{CountsFaults}
+use Rattle.snapshot_files.specs.m3_outside.declared.file_name.FileName.{FileName}
+use Rattle.snapshot_files.specs.m3_outside.declared.failed.Failed.{Failed}
+use Rattle.snapshot_files.specs.m3_outside.Files.{Files, IsPresent, Stays, name_cmp}
+use Rattle.snapshot_files.specs.m3_outside.DiskState.{DiskState, EachImage, Elapses, IsLawfulDisk}
+use Rattle.snapshot_files.specs.m3_outside.DiskCalls.{Syncs, LeavesFiles}
+use Rattle.snapshot_files.proofs.m3_outside_proofs.Names.{name_total, name_same, same_files}
+use Rattle.snapshot_files.proofs.m3_outside_proofs.Moments.{elapses_then}
 use Rattle.shard_open.proofs.Counts.{counts_both, counts_for}
 
 -- files stay, and the first i of them are as each stop leaves them

@@ -1,19 +1,19 @@
 -- What is told of files that aren't sound.
 use Rattle.std.proofs.Common.{inl, inr, ℕ, List, sym, subst}
 use Rattle.std.specs.Prelude.{◌≢◌}
-use Rattle.m3_outside.specs.Files.{Files}
-use Rattle.m3_outside.specs.declared.file_name.FileName.{FileName}
-use Rattle.wire_bytes.specs.Volumes.{Info, Summaries, Index, Data, Bloom, Digests, Checkpoint}
-use Rattle.shard_files.specs.Damage.{Damage, OfForm, OfDigest, Look, AtForm, AtDigest, AtHead, SnapshotLook, AtGate, AtKept, AtBody, DigestsDiffer}
-use Rattle.shard_files.specs.Loading.{Tells}
-use Rattle.shard_files.specs.declared.load_err.LoadErr.{LoadErr}
-use Rattle.shard_files.specs.declared.load_err.LoadErr.TheVariants as failures
-use Rattle.shard_files.proofs.DamageLemmas.{damaged_is_unsound}
-use Rattle.shard_files.proofs.FirstDamageLemmas.{told_look, told_snapshot, log_damage_is_first}
-use Rattle.fileset_check.specs.Told.{LookTells, VolumesTell, MayTell}
-use Rattle.fileset_check.specs.declared.check_err.CheckErr.{CheckErr}
-use Rattle.fileset_check.specs.declared.check_err.CheckErr.TheVariants as checked
-use Rattle.fileset_check.proofs.LawLemmas as volumes
+use Rattle.snapshot_files.specs.m3_outside.Files.{Files}
+use Rattle.snapshot_files.specs.m3_outside.declared.file_name.FileName.{FileName}
+use Rattle.snapshot_files.specs.wire_bytes.Volumes.{Info, Summaries, Index, Data, Bloom, Digests, Checkpoint}
+use Rattle.snapshot_files.specs.shard_files.Damage.{Damage, OfForm, OfDigest, Look, AtForm, AtDigest, AtHead, SnapshotLook, AtGate, AtKept, AtBody, DigestsDiffer}
+use Rattle.snapshot_files.specs.shard_files.Loading.{Tells}
+use Rattle.snapshot_files.specs.shard_files.declared.load_err.LoadErr.{LoadErr}
+use Rattle.snapshot_files.specs.shard_files.declared.load_err.LoadErr.TheVariants as failures
+use Rattle.snapshot_files.proofs.shard_files_proofs.DamageLemmas.{damaged_is_unsound}
+use Rattle.snapshot_files.proofs.shard_files_proofs.FirstDamageLemmas.{told_look, told_snapshot, log_damage_is_first}
+use Rattle.snapshot_files.specs.fileset_check.Told.{LookTells, VolumesTell, MayTell}
+use Rattle.snapshot_files.specs.fileset_check.declared.check_err.CheckErr.{CheckErr}
+use Rattle.snapshot_files.specs.fileset_check.declared.check_err.CheckErr.TheVariants as checked
+use Rattle.snapshot_files.proofs.fileset_check_proofs.LawLemmas as volumes
 use Rattle.snapshot_files.specs.Told.{LookTells as SnapshotLookTells, NewestTells}
 use Rattle.snapshot_files.proofs.LawLemmas as snapshots
 use Rattle.shard_open.specs.Told.{OfVolumes, OfSnapshot, OfLog, IsToldBy, ToldAreUnsound, ToldIsFirst, DigestsAreApart}

@@ -1,7 +1,7 @@
 -- Which of a replica's bootstrappers claims which times of its shard, by the volumes that count and by the tenure of the files.
 use Rattle.std.specs.Prelude.{ℕ, zero, suc, ◌+◌, ◌-◌, ◌^◌, min, max, List, [], ◌∷◌, ◌++◌, drop, nat_lt, ◌==◌, if◌then◌else◌}
 use Rattle.m3_model.specs.declared.limits.TheConstants.{MOST_NAMESPACES}
-use Rattle.volume_bytes.specs.declared.heads.Head.{Head}
+use Rattle.snapshot_files.specs.volume_bytes.declared.heads.Head.{Head}
 use Rattle.boot_chain.specs.Origins.{claims_of}
 use Rattle.boot_chain.specs.Ranges.{is_first, left_of}
 use Rattle.boot_chain.specs.declared.chain.Claims.{Claims}

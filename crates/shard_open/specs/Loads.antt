@@ -1,11 +1,11 @@
 -- What is loaded of volumes and of the newest snapshot.
 use Rattle.std.specs.Prelude.{◌≡◌, ⊤, ℕ, List, [], ◌∷◌, map, Option}
-use Rattle.m3_outside.specs.Files.{Files}
-use Rattle.wire_bytes.specs.Snapshots.{Snapshot}
-use Rattle.volume_bytes.specs.Heads.{head_of}
-use Rattle.shard_files.specs.Parts.{KnownVolume, VolumesAre, NewestIs, VolumeHolds, number_in_newest}
-use Rattle.shard_files.specs.FilesHold.{points_in_newest, tenure_in_newest, fence_in_newest}
-use Rattle.fileset_check.specs.declared.volume.Volume.{Volume}
+use Rattle.snapshot_files.specs.m3_outside.Files.{Files}
+use Rattle.snapshot_files.specs.wire_bytes.Snapshots.{Snapshot}
+use Rattle.snapshot_files.specs.volume_bytes.Heads.{head_of}
+use Rattle.snapshot_files.specs.shard_files.Parts.{KnownVolume, VolumesAre, NewestIs, VolumeHolds, number_in_newest}
+use Rattle.snapshot_files.specs.shard_files.FilesHold.{points_in_newest, tenure_in_newest, fence_in_newest}
+use Rattle.snapshot_files.specs.fileset_check.declared.volume.Volume.{Volume}
 use Rattle.shard_open.specs.declared.newest.Newest.{Newest}
 use Rattle.shard_open.specs.declared.volumes.OpenVolume.{OpenVolume}
 

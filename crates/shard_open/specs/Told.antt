@@ -1,20 +1,20 @@
 -- What is told of files that aren't sound.
 use Rattle.std.specs.Prelude.{◌≡◌, ◌≢◌, ◌⊎◌, ⊤, ℕ, List, Option}
-use Rattle.m3_outside.specs.Files.{Files}
-use Rattle.m3_outside.specs.declared.file_name.FileName.{FileName}
-use Rattle.wire_bytes.specs.Volumes.{Data}
-use Rattle.wire_bytes.specs.Snapshots.{Snapshot}
-use Rattle.shard_files.specs.Parts.{KnownVolume, VolumesAre, NewestIs}
-use Rattle.shard_files.specs.FilesHold.{IsSound}
-use Rattle.shard_files.specs.Damage.{Damage, OfDigest, AtForm, AtBody, FirstDamage, DigestsDiffer}
-use Rattle.shard_files.specs.Loading.{LogTells, Tells}
-use Rattle.shard_files.specs.declared.load_err.LoadErr.{LoadErr}
-use Rattle.shard_files.specs.declared.load_err.LoadErr.TheVariants as failures
-use Rattle.fileset_read.specs.declared.file_err.FileErr.{FileErr}
-use Rattle.fileset_read.specs.declared.file_err.FileErr.TheVariants as unread
-use Rattle.fileset_check.specs.Told.{IsInside, VolumesTell}
-use Rattle.fileset_check.specs.declared.check_err.CheckErr.{CheckErr}
-use Rattle.fileset_check.specs.declared.check_err.CheckErr.TheVariants as checked
+use Rattle.snapshot_files.specs.m3_outside.Files.{Files}
+use Rattle.snapshot_files.specs.m3_outside.declared.file_name.FileName.{FileName}
+use Rattle.snapshot_files.specs.wire_bytes.Volumes.{Data}
+use Rattle.snapshot_files.specs.wire_bytes.Snapshots.{Snapshot}
+use Rattle.snapshot_files.specs.shard_files.Parts.{KnownVolume, VolumesAre, NewestIs}
+use Rattle.snapshot_files.specs.shard_files.FilesHold.{IsSound}
+use Rattle.snapshot_files.specs.shard_files.Damage.{Damage, OfDigest, AtForm, AtBody, FirstDamage, DigestsDiffer}
+use Rattle.snapshot_files.specs.shard_files.Loading.{LogTells, Tells}
+use Rattle.snapshot_files.specs.shard_files.declared.load_err.LoadErr.{LoadErr}
+use Rattle.snapshot_files.specs.shard_files.declared.load_err.LoadErr.TheVariants as failures
+use Rattle.snapshot_files.specs.fileset_read.declared.file_err.FileErr.{FileErr}
+use Rattle.snapshot_files.specs.fileset_read.declared.file_err.FileErr.TheVariants as unread
+use Rattle.snapshot_files.specs.fileset_check.Told.{IsInside, VolumesTell}
+use Rattle.snapshot_files.specs.fileset_check.declared.check_err.CheckErr.{CheckErr}
+use Rattle.snapshot_files.specs.fileset_check.declared.check_err.CheckErr.TheVariants as checked
 use Rattle.snapshot_files.specs.Told.{NewestTells}
 
 -- What is told of the first volume that isn't whole; where all volumes are, of the newest snapshot; and where that is, too, of the log.

@@ -9,8 +9,8 @@ use boot_chain::{
 };
 use m3_model::Memory;
 use m3_model::limits::MOST_NAMESPACES;
+use snapshot_files::volume_bytes::Head;
 use std::alloc::Global;
-use volume_bytes::Head;
 
 // The filesystem's bootstrapper: it claims the blocks with a volume that counts, of those that it is asked for. The blocks stand
 // in the order of what is asked for.

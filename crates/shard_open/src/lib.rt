@@ -12,8 +12,8 @@ mod sync;
 mod told;
 pub mod volumes;
 
-pub use fileset_check::is_volume;
 pub use load::Loaded;
 pub use rows::append_rows;
+pub use snapshot_files::fileset_check::is_volume;
 pub use snapshot_files::{Snap, is_snapshot};
 pub use volumes::OpenVolume;

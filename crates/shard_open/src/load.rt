@@ -1,13 +1,13 @@
 ghost use Rattle.std.specs.Prelude.{◌≡◌, ◌≤◌, ◌++◌, max, true, length, IfOk, IfErr, IsErrOf};
-ghost use Rattle.m3_outside.specs.Causes.{CountsFaults};
-ghost use Rattle.m3_outside.specs.DiskState.{DiskState, Told, EachImage, Elapses};
-ghost use Rattle.m3_outside.specs.DiskCalls.{LeavesFiles};
-ghost use Rattle.m3_outside.specs.Files.{Files, Stays};
-ghost use Rattle.commit_log.specs.Contents.{numbers as numbers_in};
-ghost use Rattle.commit_log.specs.LogEnd.{NoneFrom};
-ghost use Rattle.shard_files.specs.Once.{HeldOnce, IsEachOnce};
-ghost use Rattle.shard_files.specs.Parts.{IsNewestNumber};
-ghost use Rattle.shard_files.specs.declared.load_err.LoadErr.TheVariants as failures;
+ghost use Rattle.snapshot_files.specs.m3_outside.Causes.{CountsFaults};
+ghost use Rattle.snapshot_files.specs.m3_outside.DiskState.{DiskState, Told, EachImage, Elapses};
+ghost use Rattle.snapshot_files.specs.m3_outside.DiskCalls.{LeavesFiles};
+ghost use Rattle.snapshot_files.specs.m3_outside.Files.{Files, Stays};
+ghost use Rattle.snapshot_files.specs.commit_log.Contents.{numbers as numbers_in};
+ghost use Rattle.snapshot_files.specs.commit_log.LogEnd.{NoneFrom};
+ghost use Rattle.snapshot_files.specs.shard_files.Once.{HeldOnce, IsEachOnce};
+ghost use Rattle.snapshot_files.specs.shard_files.Parts.{IsNewestNumber};
+ghost use Rattle.snapshot_files.specs.shard_files.declared.load_err.LoadErr.TheVariants as failures;
 ghost use Rattle.shard_open.specs.Claims.{claims_by_tenure};
 ghost use Rattle.shard_open.specs.Loads.{AreOpened};
 ghost use Rattle.shard_open.specs.Told.{AreApart, MayBeUnsound};
@@ -20,8 +20,8 @@ use crate::sync::sync_all;
 use crate::volumes::{OpenVolume, open_volumes};
 use boot_chain::Claims;
 use m3_model::{Memory, Point, Seq};
-use m3_outside::Disk;
-use shard_files::{Amount, LoadErr, join_entries};
+use snapshot_files::m3_outside::Disk;
+use snapshot_files::shard_files::{Amount, LoadErr, join_entries};
 use std::alloc::Global;
 
 /// What a replica's disk holds.

@@ -1,19 +1,19 @@
 //! The entries of a replica's log.
 ghost use Rattle.std.specs.Prelude.{◌≡◌, true, length, IfOk, OnOk, IfErr, IsErrOf};
-ghost use Rattle.m3_outside.specs.DiskState.{DiskState, Told};
-ghost use Rattle.m3_outside.specs.DiskCalls.{LeavesFiles};
-ghost use Rattle.commit_log.specs.Contents.{segment_bytes, numbers as numbers_in};
-ghost use Rattle.commit_log.specs.LogEnd.{NoneFrom};
-ghost use Rattle.shard_files.specs.HeldEntries.{HoldsEntries};
-ghost use Rattle.shard_files.specs.Damage.{BreaksSegment};
-ghost use Rattle.shard_files.specs.Loading.{ReadsEntries, FindsEntries, LogTells, Tells, in_segment};
-ghost use Rattle.shard_files.specs.declared.load_err.LoadErr.TheVariants as failures;
+ghost use Rattle.snapshot_files.specs.m3_outside.DiskState.{DiskState, Told};
+ghost use Rattle.snapshot_files.specs.m3_outside.DiskCalls.{LeavesFiles};
+ghost use Rattle.snapshot_files.specs.commit_log.Contents.{segment_bytes, numbers as numbers_in};
+ghost use Rattle.snapshot_files.specs.commit_log.LogEnd.{NoneFrom};
+ghost use Rattle.snapshot_files.specs.shard_files.HeldEntries.{HoldsEntries};
+ghost use Rattle.snapshot_files.specs.shard_files.Damage.{BreaksSegment};
+ghost use Rattle.snapshot_files.specs.shard_files.Loading.{ReadsEntries, FindsEntries, LogTells, Tells, in_segment};
+ghost use Rattle.snapshot_files.specs.shard_files.declared.load_err.LoadErr.TheVariants as failures;
 ghost use Rattle.shard_open.specs.Told.{AreApart};
 
-use commit_log::{Segments, list_segments, read_front};
 use m3_model::Seq;
-use m3_outside::{Disk, FileName};
-use shard_files::{EntryErr, LoadErr, LogEntry, read_segment};
+use snapshot_files::commit_log::{Segments, list_segments, read_front};
+use snapshot_files::m3_outside::{Disk, FileName};
+use snapshot_files::shard_files::{EntryErr, LoadErr, LogEntry, read_segment};
 use std::alloc::Global;
 
 /// What a replica's log holds.

@@ -1,18 +1,18 @@
 //! The newest snapshot that counts.
 ghost use Rattle.std.specs.Prelude.{◌≡◌, ◌≤◌, true, IfOk, IfErr, IsErrOf};
-ghost use Rattle.m3_outside.specs.DiskState.{DiskState};
-ghost use Rattle.m3_outside.specs.DiskCalls.{LeavesFiles};
-ghost use Rattle.shard_files.specs.Loading.{Tells};
-ghost use Rattle.shard_files.specs.declared.load_err.LoadErr.TheVariants as failures;
+ghost use Rattle.snapshot_files.specs.m3_outside.DiskState.{DiskState};
+ghost use Rattle.snapshot_files.specs.m3_outside.DiskCalls.{LeavesFiles};
+ghost use Rattle.snapshot_files.specs.shard_files.Loading.{Tells};
+ghost use Rattle.snapshot_files.specs.shard_files.declared.load_err.LoadErr.TheVariants as failures;
 ghost use Rattle.snapshot_files.specs.Told.{NewestTells};
 ghost use Rattle.shard_open.specs.Loads.{IsNewest};
 ghost use Rattle.shard_open.specs.Told.{AreApart};
 
 use crate::told::told;
 use m3_model::{Point, Seq};
-use m3_outside::Disk;
-use shard_files::LoadErr;
+use snapshot_files::m3_outside::Disk;
 use snapshot_files::newest;
+use snapshot_files::shard_files::LoadErr;
 use std::alloc::Global;
 
 /// What the newest snapshot has; nothing where there is none.

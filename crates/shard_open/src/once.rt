@@ -2,7 +2,7 @@
 ghost use Rattle.std.specs.Prelude.{◌≡◌, map, IfOk, OnOk};
 ghost use Rattle.std.specs.BTreeSet.{insert_key};
 ghost use Rattle.m3_model.specs.Ascends.{Ascends};
-ghost use Rattle.shard_files.specs.Once.{IsBefore, IsEachOnce};
+ghost use Rattle.snapshot_files.specs.shard_files.Once.{IsBefore, IsEachOnce};
 ghost use Rattle.shard_open.specs.Ranks.{rank_cmp, ranked, unranked, AreRanksOf};
 
 use m3_model::{Key, Memory, Point, Seq};

@@ -1,6 +1,6 @@
 //! Points of a volume's series.
 ghost use Rattle.std.specs.Prelude.{◌≡◌, ◌++◌, OnOk};
-ghost use Rattle.wire_bytes.specs.Volumes.{points_of_row, points_of_rows};
+ghost use Rattle.snapshot_files.specs.wire_bytes.Volumes.{points_of_row, points_of_rows};
 
 use m3_model::{Duplicate, Memory, Point, Series};
 use std::alloc::Global;

@@ -1,10 +1,10 @@
 ghost use Rattle.std.specs.Prelude.{◌≡◌, true, OnOk, IsErrOf};
-ghost use Rattle.m3_outside.specs.Causes.{CountsFaults};
-ghost use Rattle.m3_outside.specs.DiskState.{DiskState, EachImage, Elapses};
-ghost use Rattle.m3_outside.specs.Files.{Stays};
-ghost use Rattle.m3_outside.specs.declared.disk_err.DiskErr.TheVariants.{Failed as DiskFailed};
+ghost use Rattle.snapshot_files.specs.m3_outside.Causes.{CountsFaults};
+ghost use Rattle.snapshot_files.specs.m3_outside.DiskState.{DiskState, EachImage, Elapses};
+ghost use Rattle.snapshot_files.specs.m3_outside.Files.{Stays};
+ghost use Rattle.snapshot_files.specs.m3_outside.declared.disk_err.DiskErr.TheVariants.{Failed as DiskFailed};
 
-use m3_outside::{Disk, DiskErr};
+use snapshot_files::m3_outside::{Disk, DiskErr};
 
 /// Syncs all files: a stop then leaves what reads give, and nothing else.
 ///

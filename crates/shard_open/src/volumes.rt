@@ -1,26 +1,26 @@
 //! The volumes that count, checked and read.
 ghost use Rattle.std.specs.Prelude.{◌≡◌, ◌++◌, [], ◌∷◌, true, map, IfOk, IfErr, OnOk, IsErrOf};
 ghost use Rattle.m3_model.specs.Members.{IsIn};
-ghost use Rattle.m3_outside.specs.DiskState.{DiskState, Told};
-ghost use Rattle.m3_outside.specs.DiskCalls.{LeavesFiles};
-ghost use Rattle.wire_bytes.specs.Volumes.{points_of_rows};
-ghost use Rattle.volume_bytes.specs.Heads.{head_of};
-ghost use Rattle.shard_files.specs.FilesHold.{volume_points};
-ghost use Rattle.shard_files.specs.Loading.{Tells};
-ghost use Rattle.shard_files.specs.declared.load_err.LoadErr.TheVariants as failures;
-ghost use Rattle.fileset_read.specs.Volumes.{IsThere};
-ghost use Rattle.fileset_check.specs.Told.{VolumesTell};
-ghost use Rattle.fileset_check.specs.declared.volume.Volume.{Volume as Listed};
+ghost use Rattle.snapshot_files.specs.m3_outside.DiskState.{DiskState, Told};
+ghost use Rattle.snapshot_files.specs.m3_outside.DiskCalls.{LeavesFiles};
+ghost use Rattle.snapshot_files.specs.wire_bytes.Volumes.{points_of_rows};
+ghost use Rattle.snapshot_files.specs.volume_bytes.Heads.{head_of};
+ghost use Rattle.snapshot_files.specs.shard_files.FilesHold.{volume_points};
+ghost use Rattle.snapshot_files.specs.shard_files.Loading.{Tells};
+ghost use Rattle.snapshot_files.specs.shard_files.declared.load_err.LoadErr.TheVariants as failures;
+ghost use Rattle.snapshot_files.specs.fileset_read.Volumes.{IsThere};
+ghost use Rattle.snapshot_files.specs.fileset_check.Told.{VolumesTell};
+ghost use Rattle.snapshot_files.specs.fileset_check.declared.volume.Volume.{Volume as Listed};
 ghost use Rattle.shard_open.specs.Loads.{known_of, AreOpen, AreOpened, IsOpen};
 ghost use Rattle.shard_open.specs.Told.{AreApart, IsUnreadAs};
 
 use crate::rows::append_rows;
 use crate::told::told;
-use fileset_check::{Volume, volumes};
-use fileset_read::{FileErr, rows};
 use m3_model::{Memory, Point, Seq, Series};
-use m3_outside::Disk;
-use shard_files::LoadErr;
+use snapshot_files::fileset_check::{Volume, volumes};
+use snapshot_files::fileset_read::{FileErr, rows};
+use snapshot_files::m3_outside::Disk;
+use snapshot_files::shard_files::LoadErr;
 use std::alloc::Global;
 
 /// A volume that counts.

@@ -9,14 +9,14 @@ use Rattle.m3_outside.specs.Files.{files_with_zeros}
 use Rattle.m3_outside.specs.declared.disk_err.DiskErr.{DiskErr}
 use Rattle.m3_outside.specs.declared.disk_err.DiskErr.TheVariants.{Memory, Failed as DiskFailed}
 use Rattle.m3_outside.specs.declared.file_name.FileName.{FileName}
-use Rattle.commit_log.specs.Contents.{numbers}
-use Rattle.commit_log.specs.LogEnd.{LogEnd, NoneFrom}
-use Rattle.commit_log.specs.Segment.{segment}
-use Rattle.shard_files.specs.Parts.{IsNewestNumber}
-use Rattle.shard_files.specs.Steps.{OthersStay, is_part}
-use Rattle.shard_files.proofs.CountedLemmas.{both}
-use Rattle.volume_bytes.specs.declared.heads.Head.{Head}
-use Rattle.volume_steps.specs.KnownLists.{IsOfOne}
+use Rattle.listed_volumes.specs.commit_log.Contents.{numbers}
+use Rattle.listed_volumes.specs.commit_log.LogEnd.{LogEnd, NoneFrom}
+use Rattle.listed_volumes.specs.commit_log.Segment.{segment}
+use Rattle.listed_volumes.specs.shard_files.Parts.{IsNewestNumber}
+use Rattle.listed_volumes.specs.shard_files.Steps.{OthersStay, is_part}
+use Rattle.listed_volumes.proofs.shard_files_proofs.CountedLemmas.{both}
+use Rattle.listed_volumes.specs.volume_bytes.declared.heads.Head.{Head}
+use Rattle.snapshot_steps.specs.volume_steps.KnownLists.{IsOfOne}
 use Rattle.snapshot_steps.specs.Counts.{AreCounted, StayCounted}
 use Rattle.snapshot_steps.proofs.LogCounts.{counted_alike, counted_made, same_newest}
 use Rattle.shard_store.specs.StoreParts.{IsCachedIn, IsCountedIn, IsKept, IsOpenOn}

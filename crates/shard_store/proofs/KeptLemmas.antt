@@ -3,10 +3,10 @@ use Rattle.std.proofs.Common.{◌≡◌, ℕ, ◌≤◌, max, List, sym, subst, 
 use Rattle.m3_model.specs.Members.{IsIn}
 use Rattle.m3_model.specs.declared.point.Point.{Point}
 use Rattle.m3_outside.specs.Files.{Files}
-use Rattle.shard_files.specs.FilesHold.{FilesHold}
-use Rattle.shard_files.specs.Gains.{Gain, Gains}
-use Rattle.shard_files.proofs.GainLemmas.{grows_itself}
-use Rattle.shard_files.proofs.FilesHoldLemmas.{files_hold_one}
+use Rattle.listed_volumes.specs.shard_files.FilesHold.{FilesHold}
+use Rattle.listed_volumes.specs.shard_files.Gains.{Gain, Gains}
+use Rattle.listed_volumes.proofs.shard_files_proofs.GainLemmas.{grows_itself}
+use Rattle.listed_volumes.proofs.shard_files_proofs.FilesHoldLemmas.{files_hold_one}
 
 -- a gain without points that is there already
 pub there_already : (gain : Gain) (x : Files) (points : List Point) (tenure fence : ℕ) → FilesHold points tenure fence x → ((p : Point) → IsIn gain.points p → ⊥) → gain.tenure ≤ tenure → gain.fence ≤ fence → Gains gain x x

@@ -8,20 +8,20 @@ use Rattle.m3_model.specs.Members.{IsIn}
 use Rattle.m3_model.specs.declared.point.Point.{Point}
 use Rattle.m3_model.specs.declared.point.Series.{Series}
 use Rattle.m3_model.proofs.MemberLemmas.{IsIn-append_cases, IsIn-map}
-use Rattle.wire_bytes.specs.Entries.{IsBounded}
-use Rattle.wire_bytes.specs.Volumes.{IsVolume, points_of_row, points_of_rows}
+use Rattle.listed_volumes.specs.wire_bytes.Entries.{IsBounded}
+use Rattle.listed_volumes.specs.wire_bytes.Volumes.{IsVolume, points_of_row, points_of_rows}
 use Rattle.listed_volumes.specs.Blocks.{block_head}
 use Rattle.m3_outside.specs.declared.file_name.FileName.{FileName}
-use Rattle.volume_bytes.specs.declared.heads.Head.{Head}
-use Rattle.volume_bytes.specs.Heads.{head_of}
-use Rattle.shard_files.specs.Parts.{AreKnown, KnownVolume, VolumesAre, counted_volumes}
-use Rattle.shard_files.proofs.CountedLemmas.{IsIn-filter}
-use Rattle.shard_files.proofs.PartLemmas.{one_volumes}
-use Rattle.shard_files.proofs.VolumeSteps.{of_known}
+use Rattle.listed_volumes.specs.volume_bytes.declared.heads.Head.{Head}
+use Rattle.listed_volumes.specs.volume_bytes.Heads.{head_of}
+use Rattle.listed_volumes.specs.shard_files.Parts.{AreKnown, KnownVolume, VolumesAre, counted_volumes}
+use Rattle.listed_volumes.proofs.shard_files_proofs.CountedLemmas.{IsIn-filter}
+use Rattle.listed_volumes.proofs.shard_files_proofs.PartLemmas.{one_volumes}
+use Rattle.listed_volumes.proofs.shard_files_proofs.VolumeSteps.{of_known}
 use Rattle.listed_volumes.specs.Known.{AreOf, AreThere}
 use Rattle.listed_volumes.proofs.KnownLemmas.{volumes_are_known, known_are_there}
-use Rattle.volume_steps.specs.Known.{HoldsKnown}
-use Rattle.volume_steps.proofs.KnownLemmas.{are_known}
+use Rattle.snapshot_steps.specs.volume_steps.Known.{HoldsKnown}
+use Rattle.snapshot_steps.proofs.volume_steps_proofs.KnownLemmas.{are_known}
 use Rattle.listed_volumes.specs.Listed.{AreHeld, known_in}
 use Rattle.listed_volumes.specs.declared.volume.ListedVolume.{ListedVolume}
 

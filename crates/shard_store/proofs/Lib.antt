@@ -21,3 +21,6 @@ pub mod CountedLemmas
 pub mod CacheLemmas
 pub use Rattle.shard_open.proofs.Counts
 pub use Rattle.shard_open.proofs.ToldLemmas
+pub use Rattle.listed_volumes.proofs.block_buffer_proofs as block_buffer_proofs
+pub use Rattle.listed_volumes.proofs.commit_log_proofs as commit_log_proofs
+pub use Rattle.listed_volumes.proofs.shard_files_proofs as shard_files_proofs

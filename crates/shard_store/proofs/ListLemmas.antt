@@ -4,11 +4,11 @@ use Rattle.std.proofs.Math.Seq.{take-suc}
 use Rattle.std.proofs.lemmas.List.Sums.{fold-append}
 use Rattle.m3_model.specs.Contents.{Contents}
 use Rattle.m3_model.specs.declared.point.Series.{Series}
-use Rattle.block_buffer.specs.Joins.{points_of_series}
-use Rattle.block_buffer.specs.Taken.{settled_at, settled_with}
-use Rattle.wire_bytes.specs.Volumes.{points_of_rows}
-use Rattle.shard_files.specs.Parts.{KnownVolume}
-use Rattle.shard_files.specs.FilesHold.{points_known, volume_points}
+use Rattle.listed_volumes.specs.block_buffer.Joins.{points_of_series}
+use Rattle.listed_volumes.specs.block_buffer.Taken.{settled_at, settled_with}
+use Rattle.listed_volumes.specs.wire_bytes.Volumes.{points_of_rows}
+use Rattle.listed_volumes.specs.shard_files.Parts.{KnownVolume}
+use Rattle.listed_volumes.specs.shard_files.FilesHold.{points_known, volume_points}
 use Rattle.shard_open.specs.Loads.{known_of}
 use Rattle.shard_open.specs.declared.volumes.OpenVolume.{OpenVolume}
 

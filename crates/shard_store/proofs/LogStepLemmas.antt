@@ -7,40 +7,40 @@ use Rattle.m3_outside.specs.DiskState.{DiskState, Told, EachImage, StepOf, Elaps
 use Rattle.m3_outside.specs.declared.disk_err.DiskErr.{DiskErr}
 use Rattle.m3_outside.specs.declared.disk_err.DiskErr.TheVariants.{Memory, Failed as DiskFailed}
 use Rattle.m3_outside.proofs.Moments.{step_as, elapses_as, elapses_then}
-use Rattle.commit_log.specs.Segment.{segment, MayAdd, Adds}
-use Rattle.commit_log.specs.LogEnd.{LogEnd, NoneAbove, NoneFrom, LogEndStands, MayBeginSegment}
-use Rattle.shard_files.specs.declared.entries.LogEntry.{LogEntry}
-use Rattle.shard_files.specs.Entries.{IsEntry}
-use Rattle.shard_files.specs.Parts.{KnownVolume, VolumesAre, counted_volumes}
-use Rattle.shard_files.specs.FilesHold.{file_points, volume_points}
-use Rattle.shard_files.specs.Once.{HeldOnce}
-use Rattle.shard_files.specs.Gains.{Gain, nothing, Gains, MayGain, Brings}
-use Rattle.shard_files.specs.LogSteps.{gain_in}
-use Rattle.block_buffer.specs.Held.{InMemory}
-use Rattle.block_buffer.specs.Taken.{settled_with}
+use Rattle.listed_volumes.specs.commit_log.Segment.{segment, MayAdd, Adds}
+use Rattle.listed_volumes.specs.commit_log.LogEnd.{LogEnd, NoneAbove, NoneFrom, LogEndStands, MayBeginSegment}
+use Rattle.listed_volumes.specs.shard_files.declared.entries.LogEntry.{LogEntry}
+use Rattle.listed_volumes.specs.shard_files.Entries.{IsEntry}
+use Rattle.listed_volumes.specs.shard_files.Parts.{KnownVolume, VolumesAre, counted_volumes}
+use Rattle.listed_volumes.specs.shard_files.FilesHold.{file_points, volume_points}
+use Rattle.listed_volumes.specs.shard_files.Once.{HeldOnce}
+use Rattle.listed_volumes.specs.shard_files.Gains.{Gain, nothing, Gains, MayGain, Brings}
+use Rattle.listed_volumes.specs.shard_files.LogSteps.{gain_in}
+use Rattle.listed_volumes.specs.block_buffer.Held.{InMemory}
+use Rattle.listed_volumes.specs.block_buffer.Taken.{settled_with}
 use Rattle.m3_model.specs.Answers.{HasPoint}
 use Rattle.m3_model.specs.Contents.{Contents, content_of, key_of, raised}
 use Rattle.m3_model.specs.declared.point.Key.{Key}
-use Rattle.shard_files.specs.declared.entries.LogEntry.TheVariants as entry
+use Rattle.listed_volumes.specs.shard_files.declared.entries.LogEntry.TheVariants as entry
 use Rattle.shard_store.specs.declared.opened.Opened.{Opened}
 use Rattle.shard_store.specs.StoreParts.{state_of, IsKept}
 use Rattle.shard_store.specs.Stores.{StoreState, HoldsOpened, IsKeptOn, joined_with, memory_with}
 use Rattle.listed_volumes.specs.Listed.{known_in}
-use Rattle.wire_bytes.specs.Entries.{IsBounded, ArePoints}
+use Rattle.listed_volumes.specs.wire_bytes.Entries.{IsBounded, ArePoints}
 use Rattle.m3_model.specs.Members.{IsIn}
 use Rattle.m3_model.specs.declared.point.Point.{Point}
-use Rattle.shard_files.proofs.GainLemmas.{gains_nothing, all_is_part, nothing_is_part, nothing_then_all, nothing_then_part}
-use Rattle.shard_files.specs.HeldEntries.{tenure_in, fence_in}
-use Rattle.shard_files.proofs.HeldLemmas.{tenure_is_fence}
-use Rattle.shard_files.proofs.ContentLemmas.{content_source}
-use Rattle.shard_files.proofs.FilesHoldLemmas.{append_brings}
-use Rattle.shard_files.proofs.PartLemmas.{one_volumes}
+use Rattle.listed_volumes.proofs.shard_files_proofs.GainLemmas.{gains_nothing, all_is_part, nothing_is_part, nothing_then_all, nothing_then_part}
+use Rattle.listed_volumes.specs.shard_files.HeldEntries.{tenure_in, fence_in}
+use Rattle.listed_volumes.proofs.shard_files_proofs.HeldLemmas.{tenure_is_fence}
+use Rattle.listed_volumes.proofs.shard_files_proofs.ContentLemmas.{content_source}
+use Rattle.listed_volumes.proofs.shard_files_proofs.FilesHoldLemmas.{append_brings}
+use Rattle.listed_volumes.proofs.shard_files_proofs.PartLemmas.{one_volumes}
 use Rattle.m3_model.proofs.MemberLemmas.{IsIn-append_left, IsIn-append_cases}
-use Rattle.volume_steps.specs.Known.{HoldsKnown, points_beside}
-use Rattle.volume_steps.proofs.KnownLemmas.{stands_there}
-use Rattle.volume_steps.proofs.LawLemmas.{join_is_there}
+use Rattle.snapshot_steps.specs.volume_steps.Known.{HoldsKnown, points_beside}
+use Rattle.snapshot_steps.proofs.volume_steps_proofs.KnownLemmas.{stands_there}
+use Rattle.snapshot_steps.proofs.volume_steps_proofs.LawLemmas.{join_is_there}
 use Rattle.shard_store.proofs.KeptLemmas.{there_already}
-use Rattle.volume_steps.proofs.LogLemmas.{log_steps_keep}
+use Rattle.snapshot_steps.proofs.volume_steps_proofs.LogLemmas.{log_steps_keep}
 use Rattle.shard_store.proofs.PointLemmas.{settled_source}
 
 -- no image has a segment above the log's end

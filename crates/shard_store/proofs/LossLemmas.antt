@@ -18,29 +18,29 @@ use Rattle.m3_outside.specs.DiskState.{DiskState, EachImage, IsLawfulDisk, Told}
 use Rattle.m3_outside.specs.Files.{Files}
 use Rattle.m3_outside.specs.declared.disk_err.DiskErr.{DiskErr}
 use Rattle.m3_outside.specs.declared.disk_err.DiskErr.TheVariants.{Failed as DiskFailed, Memory as WantOfMemory}
-use Rattle.block_buffer.specs.Held.{has_expired, is_in_block, without}
-use Rattle.block_buffer.specs.Joins.{joined}
-use Rattle.commit_log.proofs.Leaves.{leaves_none, leaves_then}
-use Rattle.commit_log.proofs.ReadLemmas.{passed_err}
-use Rattle.fileset_read.specs.Volumes.{of_disk}
-use Rattle.fileset_read.specs.declared.file_err.FileErr.{FileErr}
-use Rattle.fileset_read.specs.declared.file_err.FileErr.TheVariants as unread
-use Rattle.series_merge.specs.Merges.{IsMergeOf}
-use Rattle.series_merge.proofs.OrderLemmas.{content_in}
-use Rattle.wire_bytes.specs.Volumes.{count_of}
-use Rattle.volume_bytes.specs.declared.heads.Head.{Head}
-use Rattle.volume_bytes.specs.Heads.{head_of}
-use Rattle.shard_files.specs.FilesHold.{volume_points}
-use Rattle.shard_files.specs.Keeps.{Rearranges}
-use Rattle.shard_files.specs.Parts.{KnownVolume, VolumesAre}
-use Rattle.shard_files.proofs.ContentLemmas.{content_holds}
-use Rattle.shard_files.proofs.CountedLemmas.{IsIn-filter, both}
-use Rattle.shard_files.proofs.GainLemmas.{covers_itself}
-use Rattle.volume_steps.specs.Known.{HaveContent, HoldsKnown}
-use Rattle.volume_steps.specs.KnownLists.{without_volumes}
-use Rattle.volume_steps.proofs.KnownLemmas.{hold_with_fewer}
-use Rattle.volume_steps.proofs.LawLemmas.{join_is_there}
-use Rattle.volume_steps.proofs.RemovalLemmas.{left_moment}
+use Rattle.listed_volumes.specs.block_buffer.Held.{has_expired, is_in_block, without}
+use Rattle.listed_volumes.specs.block_buffer.Joins.{joined}
+use Rattle.listed_volumes.proofs.commit_log_proofs.Leaves.{leaves_none, leaves_then}
+use Rattle.listed_volumes.proofs.commit_log_proofs.ReadLemmas.{passed_err}
+use Rattle.listed_volumes.specs.fileset_read.Volumes.{of_disk}
+use Rattle.listed_volumes.specs.fileset_read.declared.file_err.FileErr.{FileErr}
+use Rattle.listed_volumes.specs.fileset_read.declared.file_err.FileErr.TheVariants as unread
+use Rattle.listed_volumes.specs.series_merge.Merges.{IsMergeOf}
+use Rattle.listed_volumes.proofs.series_merge_proofs.OrderLemmas.{content_in}
+use Rattle.listed_volumes.specs.wire_bytes.Volumes.{count_of}
+use Rattle.listed_volumes.specs.volume_bytes.declared.heads.Head.{Head}
+use Rattle.listed_volumes.specs.volume_bytes.Heads.{head_of}
+use Rattle.listed_volumes.specs.shard_files.FilesHold.{volume_points}
+use Rattle.listed_volumes.specs.shard_files.Keeps.{Rearranges}
+use Rattle.listed_volumes.specs.shard_files.Parts.{KnownVolume, VolumesAre}
+use Rattle.listed_volumes.proofs.shard_files_proofs.ContentLemmas.{content_holds}
+use Rattle.listed_volumes.proofs.shard_files_proofs.CountedLemmas.{IsIn-filter, both}
+use Rattle.listed_volumes.proofs.shard_files_proofs.GainLemmas.{covers_itself}
+use Rattle.snapshot_steps.specs.volume_steps.Known.{HaveContent, HoldsKnown}
+use Rattle.snapshot_steps.specs.volume_steps.KnownLists.{without_volumes}
+use Rattle.snapshot_steps.proofs.volume_steps_proofs.KnownLemmas.{hold_with_fewer}
+use Rattle.snapshot_steps.proofs.volume_steps_proofs.LawLemmas.{join_is_there}
+use Rattle.snapshot_steps.proofs.volume_steps_proofs.RemovalLemmas.{left_moment}
 use Rattle.shard_store.specs.Stores.{joined_with}
 use Rattle.shard_store.specs.Ticks.{expired_in, has_outlived, keys_in, live_volumes, ticked_content}
 use Rattle.shard_store.proofs.BlockLemmas.{more_points}

@@ -16,21 +16,21 @@ use Rattle.m3_outside.specs.Files.{Files}
 use Rattle.m3_outside.specs.DiskState.{DiskState, EachImage, IsLawfulDisk}
 use Rattle.m3_outside.specs.declared.disk_err.DiskErr.{DiskErr}
 use Rattle.m3_outside.specs.declared.disk_err.DiskErr.TheVariants.{Memory, Failed as DiskFailed}
-use Rattle.commit_log.specs.Contents.{numbers, numbers_of}
-use Rattle.commit_log.specs.LogEnd.{LogEnd, LogEndStands}
-use Rattle.commit_log.specs.Segment.{segment, HasChunks, ReadsChunks, written}
-use Rattle.series_slots.specs.Ranges.{IsRangeOf}
-use Rattle.wire_bytes.specs.Entries.{AllBounded, IsBounded}
-use Rattle.wire_bytes.specs.Snapshots.{Snapshot}
-use Rattle.wire_bytes.specs.Volumes.{points_of_rows}
-use Rattle.shard_files.specs.declared.entries.LogEntry.{LogEntry}
-use Rattle.shard_files.specs.declared.entries.LogEntry.TheVariants as entry
-use Rattle.shard_files.specs.Entries.{IsWithin, AreWithin}
-use Rattle.shard_files.specs.HeldEntries.{points_in, points_of}
-use Rattle.shard_files.specs.Parts.{KnownVolume, NewestIs, counted_snapshots, snapshot_checkpoint}
-use Rattle.shard_files.specs.FilesHold.{points_in_newest}
-use Rattle.shard_files.proofs.NextLemmas.{one_keys}
-use Rattle.volume_steps.specs.Known.{HoldsKnown}
+use Rattle.listed_volumes.specs.commit_log.Contents.{numbers, numbers_of}
+use Rattle.listed_volumes.specs.commit_log.LogEnd.{LogEnd, LogEndStands}
+use Rattle.listed_volumes.specs.commit_log.Segment.{segment, HasChunks, ReadsChunks, written}
+use Rattle.listed_volumes.specs.series_slots.Ranges.{IsRangeOf}
+use Rattle.listed_volumes.specs.wire_bytes.Entries.{AllBounded, IsBounded}
+use Rattle.listed_volumes.specs.wire_bytes.Snapshots.{Snapshot}
+use Rattle.listed_volumes.specs.wire_bytes.Volumes.{points_of_rows}
+use Rattle.listed_volumes.specs.shard_files.declared.entries.LogEntry.{LogEntry}
+use Rattle.listed_volumes.specs.shard_files.declared.entries.LogEntry.TheVariants as entry
+use Rattle.listed_volumes.specs.shard_files.Entries.{IsWithin, AreWithin}
+use Rattle.listed_volumes.specs.shard_files.HeldEntries.{points_in, points_of}
+use Rattle.listed_volumes.specs.shard_files.Parts.{KnownVolume, NewestIs, counted_snapshots, snapshot_checkpoint}
+use Rattle.listed_volumes.specs.shard_files.FilesHold.{points_in_newest}
+use Rattle.listed_volumes.proofs.shard_files_proofs.NextLemmas.{one_keys}
+use Rattle.snapshot_steps.specs.volume_steps.Known.{HoldsKnown}
 use Rattle.snapshot_steps.specs.Saved.{AreIn, HoldsSaved, snapshot_of}
 use Rattle.shard_store.specs.OneSnapshot.{AddsSpace, AreBelow, HasOneSnapshot}
 use Rattle.shard_store.proofs.LogStepLemmas.{err_is}

@@ -5,13 +5,13 @@ use Rattle.m3_model.specs.Contents.{Contents, content_of}
 use Rattle.m3_model.specs.Members.{IsIn}
 use Rattle.m3_model.specs.declared.point.Series.{Series}
 use Rattle.m3_outside.specs.Files.{Files}
-use Rattle.block_buffer.specs.Held.{is_in_block}
-use Rattle.shard_files.specs.Parts.{KnownVolume}
-use Rattle.shard_files.specs.FilesHold.{points_known}
-use Rattle.wire_bytes.specs.Volumes.{points_of_rows}
-use Rattle.shard_files.specs.Steps.{next_volume}
-use Rattle.fileset_read.specs.declared.file_err.FileErr.{FileErr}
-use Rattle.fileset_read.specs.declared.file_err.FileErr.TheVariants as failures
+use Rattle.listed_volumes.specs.block_buffer.Held.{is_in_block}
+use Rattle.listed_volumes.specs.shard_files.Parts.{KnownVolume}
+use Rattle.listed_volumes.specs.shard_files.FilesHold.{points_known}
+use Rattle.listed_volumes.specs.wire_bytes.Volumes.{points_of_rows}
+use Rattle.listed_volumes.specs.shard_files.Steps.{next_volume}
+use Rattle.listed_volumes.specs.fileset_read.declared.file_err.FileErr.{FileErr}
+use Rattle.listed_volumes.specs.fileset_read.declared.file_err.FileErr.TheVariants as failures
 use Rattle.listed_volumes.specs.Known.{is_of}
 use Rattle.listed_volumes.specs.BlockErr.{BlockErr}
 use Rattle.listed_volumes.specs.TheVariants as errors

@@ -8,12 +8,12 @@ use Rattle.m3_model.specs.declared.point.Pick.TheVariants as pick
 use Rattle.m3_model.specs.declared.point.Point.{Point}
 use Rattle.m3_model.specs.declared.point.Series.{Series}
 use Rattle.m3_outside.specs.Files.{Files}
-use Rattle.commit_log.specs.Contents.{numbers}
-use Rattle.commit_log.specs.Segment.{segment, HasChunks}
-use Rattle.series_slots.specs.Ranges.{IsRangeOf}
-use Rattle.wire_bytes.specs.Snapshots.{Snapshot}
-use Rattle.wire_bytes.specs.Volumes.{points_of_rows}
-use Rattle.shard_files.specs.Parts.{SnapshotHolds, counted_snapshots, snapshot_checkpoint}
+use Rattle.listed_volumes.specs.commit_log.Contents.{numbers}
+use Rattle.listed_volumes.specs.commit_log.Segment.{segment, HasChunks}
+use Rattle.listed_volumes.specs.series_slots.Ranges.{IsRangeOf}
+use Rattle.listed_volumes.specs.wire_bytes.Snapshots.{Snapshot}
+use Rattle.listed_volumes.specs.wire_bytes.Volumes.{points_of_rows}
+use Rattle.listed_volumes.specs.shard_files.Parts.{SnapshotHolds, counted_snapshots, snapshot_checkpoint}
 use Rattle.snapshot_steps.specs.Saved.{AreIn}
 
 -- The one snapshot that counts has this number, just the points in memory, this tenure and this fence. The log is the one segment of this number, without chunks.

@@ -1,8 +1,8 @@
 -- What an opening takes into memory.
 use Rattle.std.specs.Prelude.{map}
 use Rattle.m3_model.specs.Contents.{Contents, content_of}
-use Rattle.block_buffer.specs.Taken.{settled_with}
-use Rattle.shard_files.specs.FilesHold.{volume_points}
+use Rattle.listed_volumes.specs.block_buffer.Taken.{settled_with}
+use Rattle.listed_volumes.specs.shard_files.FilesHold.{volume_points}
 use Rattle.shard_open.specs.Loads.{known_of}
 use Rattle.shard_open.specs.declared.load.Loaded.{Loaded}
 

@@ -8,14 +8,14 @@ use Rattle.m3_model.specs.Members.{IsIn}
 use Rattle.m3_model.specs.declared.point.Point.{Point}
 use Rattle.m3_outside.specs.Files.{Files}
 use Rattle.m3_outside.specs.DiskState.{DiskState, EachImage}
-use Rattle.block_buffer.specs.Held.{InMemory}
-use Rattle.block_buffer.specs.Joins.{joined}
-use Rattle.commit_log.specs.LogEnd.{LogEnd, LogEndStands}
-use Rattle.shard_files.specs.HeldEntries.{points_in}
-use Rattle.shard_files.specs.Parts.{KnownVolume}
-use Rattle.shard_files.specs.FilesHold.{FilesHold, volume_points}
-use Rattle.shard_files.specs.declared.entries.LogEntry.{LogEntry}
-use Rattle.volume_steps.specs.Known.{HoldsKnown}
+use Rattle.listed_volumes.specs.block_buffer.Held.{InMemory}
+use Rattle.listed_volumes.specs.block_buffer.Joins.{joined}
+use Rattle.listed_volumes.specs.commit_log.LogEnd.{LogEnd, LogEndStands}
+use Rattle.listed_volumes.specs.shard_files.HeldEntries.{points_in}
+use Rattle.listed_volumes.specs.shard_files.Parts.{KnownVolume}
+use Rattle.listed_volumes.specs.shard_files.FilesHold.{FilesHold, volume_points}
+use Rattle.listed_volumes.specs.shard_files.declared.entries.LogEntry.{LogEntry}
+use Rattle.snapshot_steps.specs.volume_steps.Known.{HoldsKnown}
 
 -- What a store is: its disk, whether it is open, and then the points that it has in memory, its content, which is these joined with the points of the volumes
 -- on its disk, and the greatest tenure and the greatest fence or tenure of its files. A closed one has none of them.

@@ -7,22 +7,22 @@ ghost use Rattle.m3_model.specs.declared.point.Pick.{Pick};
 ghost use Rattle.m3_model.specs.declared.point.Point.{Point};
 ghost use Rattle.m3_outside.specs.DiskState.{DiskState};
 ghost use Rattle.m3_outside.specs.DiskCalls.{LeavesFiles};
-ghost use Rattle.block_buffer.specs.Joins.{joined};
-ghost use Rattle.fileset_read.specs.Volumes.{IsUndamaged};
-ghost use Rattle.fileset_read.specs.declared.file_err.FileErr.TheVariants as failures;
-ghost use Rattle.series_merge.specs.Merges.{IsMergeOf};
+ghost use Rattle.listed_volumes.specs.block_buffer.Joins.{joined};
+ghost use Rattle.listed_volumes.specs.fileset_read.Volumes.{IsUndamaged};
+ghost use Rattle.listed_volumes.specs.fileset_read.declared.file_err.FileErr.TheVariants as failures;
+ghost use Rattle.listed_volumes.specs.series_merge.Merges.{IsMergeOf};
 ghost use Rattle.listed_volumes.specs.Listed.{known_in};
 ghost use Rattle.shard_store.specs.StoreParts.{IsCachedIn, IsOpenOn, content_of_opened};
 
 use crate::opened::Opened;
 use crate::volumes::heads;
-use fileset_read::FileErr;
-use held_points::HeldPoints;
+use listed_volumes::fileset_read::FileErr;
+use listed_volumes::held_points::HeldPoints;
+use listed_volumes::volume_bytes::Head;
 use listed_volumes::{ListedVolume, fetch, join};
 use m3_model::{Pick, Seq, Series};
 use m3_outside::Disk;
 use std::alloc::Global;
-use volume_bytes::Head;
 
 // The points in memory that a read asks for.
 pub(crate) fn fetch_held(

@@ -14,3 +14,6 @@ mod volumes;
 
 pub use shard_open::Loaded;
 pub use store::Store;
+
+// Libraries that the rows of crates above need not name.
+pub use listed_volumes::{fileset_read, series_id, shard_files};

@@ -5,20 +5,20 @@ ghost use Rattle.m3_outside.specs.Causes.{CountsFaults};
 ghost use Rattle.m3_outside.specs.DiskState.{DiskState, Told, EachImage, Elapses, StepOf, Becomes};
 ghost use Rattle.m3_outside.specs.Files.{Files};
 ghost use Rattle.m3_outside.specs.declared.disk_err.DiskErr.TheVariants.{Failed as DiskFailed, Memory as WantOfMemory};
-ghost use Rattle.block_buffer.specs.Held.{InMemory};
-ghost use Rattle.commit_log.specs.LogEnd.{LogEnd, NoneFrom, LogEndStands, IsReadyFor};
-ghost use Rattle.commit_log.specs.Contents.{numbers};
-ghost use Rattle.shard_files.specs.Entries.{IsEntry};
-ghost use Rattle.shard_files.specs.Gains.{Gains, MayGain, Brings, nothing};
-ghost use Rattle.shard_files.specs.HeldEntries.{tenure_in, fence_in};
-ghost use Rattle.shard_files.specs.Parts.{KnownVolume, IsNewestNumber};
-ghost use Rattle.volume_steps.specs.Known.{HoldsKnown};
+ghost use Rattle.listed_volumes.specs.block_buffer.Held.{InMemory};
+ghost use Rattle.listed_volumes.specs.commit_log.LogEnd.{LogEnd, NoneFrom, LogEndStands, IsReadyFor};
+ghost use Rattle.listed_volumes.specs.commit_log.Contents.{numbers};
+ghost use Rattle.listed_volumes.specs.shard_files.Entries.{IsEntry};
+ghost use Rattle.listed_volumes.specs.shard_files.Gains.{Gains, MayGain, Brings, nothing};
+ghost use Rattle.listed_volumes.specs.shard_files.HeldEntries.{tenure_in, fence_in};
+ghost use Rattle.listed_volumes.specs.shard_files.Parts.{KnownVolume, IsNewestNumber};
+ghost use Rattle.snapshot_steps.specs.volume_steps.Known.{HoldsKnown};
 ghost use Rattle.snapshot_steps.specs.Counts.{AreCounted, StayCounted};
 ghost use Rattle.shard_store.specs.Stores.{IsKeptOn, memory_with};
-ghost use Rattle.shard_files.specs.declared.entries.LogEntry.{LogEntry as Entry};
-ghost use Rattle.shard_files.specs.LogSteps.{gain_in};
+ghost use Rattle.listed_volumes.specs.shard_files.declared.entries.LogEntry.{LogEntry as Entry};
+ghost use Rattle.listed_volumes.specs.shard_files.LogSteps.{gain_in};
 
-use commit_log::Log;
+use listed_volumes::commit_log::Log;
 use m3_outside::{Disk, DiskErr, Failed};
 
 /// Begins the segment of this number, above all that are there, as the log's end.

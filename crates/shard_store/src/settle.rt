@@ -1,16 +1,16 @@
 //! The points in memory that no volume has.
 ghost use Rattle.std.specs.Prelude.{◌≡◌, map, None, IfOk, OnOk};
 ghost use Rattle.m3_model.specs.Contents.{content_of};
-ghost use Rattle.block_buffer.specs.Taken.{settled_with};
-ghost use Rattle.wire_bytes.specs.Volumes.{points_of_rows};
-ghost use Rattle.shard_files.specs.FilesHold.{volume_points};
+ghost use Rattle.listed_volumes.specs.block_buffer.Taken.{settled_with};
+ghost use Rattle.listed_volumes.specs.wire_bytes.Volumes.{points_of_rows};
+ghost use Rattle.listed_volumes.specs.shard_files.FilesHold.{volume_points};
 ghost use Rattle.shard_open.specs.Loads.{known_of};
 ghost use Rattle.listed_volumes.specs.Listed.{known_in};
 ghost use Rattle.shard_store.specs.Openings.{beside_volumes};
 
 use crate::volumes::listed;
-use held_points::{HeldPoints, hold};
 use listed_volumes::ListedVolume;
+use listed_volumes::held_points::{HeldPoints, hold};
 use m3_model::{Memory, Point, Series};
 use shard_open::{Loaded, OpenVolume};
 use std::alloc::Global;

@@ -3,16 +3,16 @@ ghost use Rattle.std.specs.Prelude.{◌≡◌, true, List, IfOk, IfErr, OnOk, Is
 ghost use Rattle.m3_model.specs.declared.limits.TheConstants.{MOST_NAMESPACES};
 ghost use Rattle.m3_outside.specs.DiskState.{DiskState, EachImage};
 ghost use Rattle.m3_outside.specs.declared.disk_err.DiskErr.TheVariants.{Failed as DiskFailed, Memory as WantOfMemory};
-ghost use Rattle.commit_log.specs.Contents.{next_after, numbers};
-ghost use Rattle.shard_files.specs.Keeps.{Rearranges};
-ghost use Rattle.shard_files.specs.Parts.{KnownVolume, VolumesAre};
-ghost use Rattle.shard_files.specs.Steps.{next_snapshot};
+ghost use Rattle.listed_volumes.specs.commit_log.Contents.{next_after, numbers};
+ghost use Rattle.listed_volumes.specs.shard_files.Keeps.{Rearranges};
+ghost use Rattle.listed_volumes.specs.shard_files.Parts.{KnownVolume, VolumesAre};
+ghost use Rattle.listed_volumes.specs.shard_files.Steps.{next_snapshot};
 ghost use Rattle.snapshot_steps.specs.Saved.{AreSaveable};
 ghost use Rattle.shard_store.specs.OneSnapshot.{AddsSpace, AreBelow, HasOneSnapshot};
 ghost use Rattle.shard_store.specs.StoreParts.{IsOpenOn, content_of_opened, IsCountedIn};
 
 use crate::opened::Opened;
-use held_points::HeldPoints;
+use listed_volumes::held_points::HeldPoints;
 use m3_model::limits::{MOST_NAMESPACES, TIME_END};
 use m3_model::{Memory, Point, Seq};
 use m3_outside::{Disk, DiskErr};

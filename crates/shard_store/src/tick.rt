@@ -4,13 +4,13 @@ ghost use Rattle.std.specs.FinMap as finite;
 ghost use Rattle.m3_model.specs.Contents.{content_of};
 ghost use Rattle.m3_outside.specs.DiskState.{DiskState, Becomes};
 ghost use Rattle.m3_outside.specs.DiskCalls.{LeavesFiles};
-ghost use Rattle.block_buffer.specs.Held.{has_expired, without};
-ghost use Rattle.wire_bytes.specs.Volumes.{count_of};
-ghost use Rattle.shard_files.specs.FilesHold.{volume_points};
-ghost use Rattle.shard_files.specs.Keeps.{Rearranges};
-ghost use Rattle.volume_bytes.specs.Heads.{head_of};
-ghost use Rattle.fileset_read.specs.Volumes.{IsUndamaged};
-ghost use Rattle.fileset_read.specs.declared.file_err.FileErr.TheVariants as unread;
+ghost use Rattle.listed_volumes.specs.block_buffer.Held.{has_expired, without};
+ghost use Rattle.listed_volumes.specs.wire_bytes.Volumes.{count_of};
+ghost use Rattle.listed_volumes.specs.shard_files.FilesHold.{volume_points};
+ghost use Rattle.listed_volumes.specs.shard_files.Keeps.{Rearranges};
+ghost use Rattle.listed_volumes.specs.volume_bytes.Heads.{head_of};
+ghost use Rattle.listed_volumes.specs.fileset_read.Volumes.{IsUndamaged};
+ghost use Rattle.listed_volumes.specs.fileset_read.declared.file_err.FileErr.TheVariants as unread;
 ghost use Rattle.listed_volumes.specs.Listed.{known_in};
 ghost use Rattle.shard_store.specs.StoreParts.{IsOpenOn, content_of_opened, IsCachedIn, IsCountedIn};
 ghost use Rattle.shard_store.specs.Ticks.{expired_in, has_outlived, is_outlived, keys_in, live_volumes, ticked_content};
@@ -18,13 +18,13 @@ ghost use Rattle.shard_store.specs.Ticks.{expired_in, has_outlived, is_outlived,
 use crate::fetch::{fetch_held, heads_of, join_both};
 use crate::moments::is_past;
 use crate::opened::Opened;
-use fileset_read::FileErr;
+use listed_volumes::fileset_read::FileErr;
+use listed_volumes::volume_bytes::Head;
 use listed_volumes::{ListedVolume, read};
 use m3_model::{Pick, Rules, Seq, Series};
 use m3_outside::Disk;
+use snapshot_steps::volume_steps::remove_volumes;
 use std::alloc::Global;
-use volume_bytes::Head;
-use volume_steps::remove_volumes;
 
 // The device calls that the removal of a volume uses up room for.
 const CALLS: u64 = 7;

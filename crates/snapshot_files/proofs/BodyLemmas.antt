@@ -2,15 +2,15 @@
 use Rattle.std.proofs.Common.{◌≡◌, ℕ, ◌+◌, List, ◌++◌, length, drop, refl, sym, ap, ◌∙◌, arith, append-nil}
 use Rattle.std.proofs.Math.ListN.{drop_of_length-le}
 use Rattle.byteorder.specs.Endian.{big_bytes}
-use Rattle.m3_model.specs.declared.point.Point.{Point}
-use Rattle.wire_bytes.specs.Fields.{Stands}
-use Rattle.wire_bytes.specs.Entries.{points_bytes, PointsStand}
-use Rattle.wire_bytes.specs.Snapshots.{Snapshot, snapshot_bytes}
-use Rattle.wire_bytes.proofs.FieldLemmas.{stands_both}
-use Rattle.wire_bytes.proofs.VolumeLemmas.{points_front}
-use Rattle.shard_files.specs.Damage.{IsBody}
-use Rattle.shard_files.specs.Entries.{HavePoints}
-use Rattle.shard_files.proofs.LocationLemmas.{stands_apart, whole_stands}
+use Rattle.fileset_check.specs.m3_model.declared.point.Point.{Point}
+use Rattle.fileset_check.specs.wire_bytes.Fields.{Stands}
+use Rattle.fileset_check.specs.wire_bytes.Entries.{points_bytes, PointsStand}
+use Rattle.fileset_check.specs.wire_bytes.Snapshots.{Snapshot, snapshot_bytes}
+use Rattle.fileset_check.proofs.wire_bytes_proofs.FieldLemmas.{stands_both}
+use Rattle.fileset_check.proofs.wire_bytes_proofs.VolumeLemmas.{points_front}
+use Rattle.fileset_check.specs.shard_files.Damage.{IsBody}
+use Rattle.fileset_check.specs.shard_files.Entries.{HavePoints}
+use Rattle.fileset_check.proofs.shard_files_proofs.LocationLemmas.{stands_apart, whole_stands}
 use Rattle.snapshot_files.specs.Snaps.{head_bytes}
 
 -- where the fields of a snapshot stand

@@ -3,19 +3,19 @@ use Rattle.std.proofs.Common.{◌≡◌, true, ℕ, List, [], ◌∷◌, length,
 use Rattle.std.specs.Prelude.{unwrap_or, is_some}
 use Rattle.std.specs.FinMap.{get}
 use Rattle.sha2.specs.Sha256.{sha256}
-use Rattle.m3_outside.specs.Files.{Files}
-use Rattle.m3_outside.specs.declared.file_name.FileName.{FileName}
-use Rattle.wire_bytes.specs.Fields.{StopsAt}
-use Rattle.wire_bytes.specs.Snapshots.{snapshot_bytes}
-use Rattle.shard_files.specs.Parts.{snapshot_checkpoint, snapshot_data}
-use Rattle.shard_files.specs.Damage.{Damage, OfForm, OfDigest, Differs, SnapshotLook, AtGate, AtKept, AtBody, BreaksForm, BreaksDigest, IsGate, bytes_at}
+use Rattle.fileset_check.specs.m3_outside.Files.{Files}
+use Rattle.fileset_check.specs.m3_outside.declared.file_name.FileName.{FileName}
+use Rattle.fileset_check.specs.wire_bytes.Fields.{StopsAt}
+use Rattle.fileset_check.specs.wire_bytes.Snapshots.{snapshot_bytes}
+use Rattle.fileset_check.specs.shard_files.Parts.{snapshot_checkpoint, snapshot_data}
+use Rattle.fileset_check.specs.shard_files.Damage.{Damage, OfForm, OfDigest, Differs, SnapshotLook, AtGate, AtKept, AtBody, BreaksForm, BreaksDigest, IsGate, bytes_at}
 use Rattle.fileset_check.specs.PartFiles.{Keeps}
 use Rattle.fileset_check.specs.Told.{MayTell}
 use Rattle.fileset_check.specs.declared.check_err.CheckErr.{CheckErr}
 use Rattle.fileset_check.proofs.DigestLemmas.{there, unbroken}
 use Rattle.fileset_check.proofs.FirstLemmas.{first_here, first_there, tells_as}
-use Rattle.fileset_read.specs.declared.row_err.RowErr.{RowErr}
-use Rattle.fileset_read.specs.declared.row_err.RowErr.TheVariants as errors
+use Rattle.fileset_check.specs.fileset_read.declared.row_err.RowErr.{RowErr}
+use Rattle.fileset_check.specs.fileset_read.declared.row_err.RowErr.TheVariants as errors
 use Rattle.snapshot_files.specs.Bodies.{IsReadAs, Refuses}
 use Rattle.snapshot_files.specs.Snaps.{seen}
 use Rattle.snapshot_files.specs.Told.{AreFiles, IsThere, IsUnfit, LookTells, SnapshotTells}

@@ -3,17 +3,17 @@ use Rattle.std.proofs.Common.{◌≡◌, inl, inr, ⊎_elim, ℕ, List, [], ◌�
 use Rattle.std.specs.Prelude.{filter, ◌==◌, ◌&&◌, nat_lt}
 use Rattle.std.specs.FinMap.{keys}
 use Rattle.std.proofs.lemmas.Bool.{eqb-true, and_parts}
-use Rattle.m3_model.specs.Ascends.{Ascends}
-use Rattle.m3_model.specs.Members.{IsIn}
-use Rattle.m3_model.proofs.MemberLemmas.{IsIn-append_cases}
-use Rattle.m3_model.proofs.Lists.{IsIn-filter, IsIn-filter_passes}
-use Rattle.m3_model.proofs.Ascending.{Ascends-filter}
-use Rattle.m3_outside.specs.declared.file_name.FileName.{FileName}
-use Rattle.m3_outside.specs.Files.{Files}
-use Rattle.m3_outside.specs.Removal.{AreRemovable}
-use Rattle.m3_outside.proofs.Removal.{Distinct, removable}
-use Rattle.shard_files.specs.Steps.{is_older, is_snapshot_file, snapshots_below}
-use Rattle.shard_files.proofs.CountedLemmas.{Before, keys_ascend, key_there, not_itself}
+use Rattle.fileset_check.specs.m3_model.Ascends.{Ascends}
+use Rattle.fileset_check.specs.m3_model.Members.{IsIn}
+use Rattle.fileset_check.proofs.m3_model_proofs.MemberLemmas.{IsIn-append_cases}
+use Rattle.fileset_check.proofs.m3_model_proofs.Lists.{IsIn-filter, IsIn-filter_passes}
+use Rattle.fileset_check.proofs.m3_model_proofs.Ascending.{Ascends-filter}
+use Rattle.fileset_check.specs.m3_outside.declared.file_name.FileName.{FileName}
+use Rattle.fileset_check.specs.m3_outside.Files.{Files}
+use Rattle.fileset_check.specs.m3_outside.Removal.{AreRemovable}
+use Rattle.fileset_check.proofs.m3_outside_proofs.Removal.{Distinct, removable}
+use Rattle.fileset_check.specs.shard_files.Steps.{is_older, is_snapshot_file, snapshots_below}
+use Rattle.fileset_check.proofs.shard_files_proofs.CountedLemmas.{Before, keys_ascend, key_there, not_itself}
 
 -- names in strict order are apart
 ascending_apart : (names : List FileName) → Ascends Before names → Distinct names

@@ -3,15 +3,15 @@ use Rattle.std.proofs.Common.{◌≡◌, ℕ, List, [], ◌∷◌, ◌++◌, map
 use Rattle.std.specs.Prelude.{unwrap_or}
 use Rattle.sha2.specs.Sha256.{sha256}
 use Rattle.sha2.proofs.Facts256.{length-sha256}
-use Rattle.m3_model.proofs.MemberLemmas.{IsIn-map}
-use Rattle.m3_outside.specs.Files.{Files}
-use Rattle.m3_outside.specs.declared.file_name.FileName.{FileName}
-use Rattle.commit_log.specs.Contents.{numbers}
-use Rattle.wire_bytes.specs.Snapshots.{Snapshot, snapshot_bytes}
-use Rattle.shard_files.specs.Parts.{SnapshotHolds, counted_volumes, snapshot_checkpoint, snapshot_data}
-use Rattle.shard_files.specs.Damage.{Damage, OfForm, FirstFound, SnapshotLook, AtGate, AtKept, AtBody, SnapshotFinds, bytes_at, last_of, Location, InVolume, InSnapshot, InSegment, LocationFinds}
-use Rattle.shard_files.proofs.FirstDamageLemmas.{whole_volume}
-use Rattle.shard_files.proofs.VolumeSteps.{of_name}
+use Rattle.fileset_check.proofs.m3_model_proofs.MemberLemmas.{IsIn-map}
+use Rattle.fileset_check.specs.m3_outside.Files.{Files}
+use Rattle.fileset_check.specs.m3_outside.declared.file_name.FileName.{FileName}
+use Rattle.fileset_check.specs.commit_log.Contents.{numbers}
+use Rattle.fileset_check.specs.wire_bytes.Snapshots.{Snapshot, snapshot_bytes}
+use Rattle.fileset_check.specs.shard_files.Parts.{SnapshotHolds, counted_volumes, snapshot_checkpoint, snapshot_data}
+use Rattle.fileset_check.specs.shard_files.Damage.{Damage, OfForm, FirstFound, SnapshotLook, AtGate, AtKept, AtBody, SnapshotFinds, bytes_at, last_of, Location, InVolume, InSnapshot, InSegment, LocationFinds}
+use Rattle.fileset_check.proofs.shard_files_proofs.FirstDamageLemmas.{whole_volume}
+use Rattle.fileset_check.proofs.shard_files_proofs.VolumeSteps.{of_name}
 use Rattle.fileset_check.proofs.DigestLemmas.{unbroken}
 use Rattle.snapshot_files.specs.Told.{LookTells, SnapshotTells}
 use Rattle.snapshot_files.specs.Laws.{ToldIsUnsound, ToldIsFirst}

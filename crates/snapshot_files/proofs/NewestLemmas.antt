@@ -5,14 +5,14 @@ use Rattle.std.specs.FinMap.{get, keys, entries}
 use Rattle.std.proofs.lemmas.List.{append-nil}
 use Rattle.std.proofs.lemmas.List.Elements.{filter_more}
 use Rattle.std.proofs.lemmas.Bool.{and_parts}
-use Rattle.m3_model.specs.Members.{IsIn}
-use Rattle.m3_model.proofs.FindLemmas.{IsIn-get}
-use Rattle.m3_outside.specs.declared.file_name.FileName.{FileName}
-use Rattle.m3_outside.specs.Files.{Files, name_cmp}
-use Rattle.m3_outside.proofs.Names.{name_total, name_same}
-use Rattle.shard_files.specs.Parts.{is_open, counts, is_snapshot_checkpoint, counted_snapshots, snapshot_checkpoint, NewestIs}
-use Rattle.shard_files.specs.Damage.{last_of}
-use Rattle.shard_files.proofs.PartLemmas.{snapshot_named}
+use Rattle.fileset_check.specs.m3_model.Members.{IsIn}
+use Rattle.fileset_check.proofs.m3_model_proofs.FindLemmas.{IsIn-get}
+use Rattle.fileset_check.specs.m3_outside.declared.file_name.FileName.{FileName}
+use Rattle.fileset_check.specs.m3_outside.Files.{Files, name_cmp}
+use Rattle.fileset_check.proofs.m3_outside_proofs.Names.{name_total, name_same}
+use Rattle.fileset_check.specs.shard_files.Parts.{is_open, counts, is_snapshot_checkpoint, counted_snapshots, snapshot_checkpoint, NewestIs}
+use Rattle.fileset_check.specs.shard_files.Damage.{last_of}
+use Rattle.fileset_check.proofs.shard_files_proofs.PartLemmas.{snapshot_named}
 use Rattle.snapshot_files.specs.Snaps.{seen}
 use Rattle.snapshot_files.specs.Told.{IsThere, checkpoint_of, is_counted}
 use Rattle.snapshot_files.specs.declared.snap.Snap.{Snap}

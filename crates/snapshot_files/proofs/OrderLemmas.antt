@@ -1,13 +1,13 @@
 -- Lists in strict order, by their neighbours.
 use Rattle.std.proofs.Common.{◌≡◌, ◌⊎◌, inl, inr, ⊎_elim, ℕ, zero, suc, ◌+◌, ◌-◌, ◌<◌, ◌≤◌, List, [], ◌∷◌, ◌++◌, length, take, get_or, refl, sym, ap, subst, ◌∙◌, arith}
 use Rattle.std.proofs.lemmas.List.{take_more, get_or_default}
-use Rattle.m3_model.specs.Ascends.{Ascends}
-use Rattle.m3_model.specs.Contents.{key_of}
-use Rattle.m3_model.specs.Keys.{key_cmp_total}
-use Rattle.m3_model.specs.Members.{IsIn}
-use Rattle.m3_model.specs.declared.point.Point.{Point}
-use Rattle.m3_model.proofs.MemberLemmas.{IsIn-append_cases}
-use Rattle.m3_model.proofs.Lists.{IsIn-get_or}
+use Rattle.fileset_check.specs.m3_model.Ascends.{Ascends}
+use Rattle.fileset_check.specs.m3_model.Contents.{key_of}
+use Rattle.fileset_check.specs.m3_model.Keys.{key_cmp_total}
+use Rattle.fileset_check.specs.m3_model.Members.{IsIn}
+use Rattle.fileset_check.specs.m3_model.declared.point.Point.{Point}
+use Rattle.fileset_check.proofs.m3_model_proofs.MemberLemmas.{IsIn-append_cases}
+use Rattle.fileset_check.proofs.m3_model_proofs.Lists.{IsIn-get_or}
 use Rattle.snapshot_files.specs.Snaps.{IsBefore}
 
 module _ {X : Type 0} (R : X → X → Type 0) where

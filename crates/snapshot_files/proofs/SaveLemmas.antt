@@ -2,15 +2,15 @@
 use Rattle.std.proofs.Common.{◌≡◌, inl, inr, ⊎_elim, ℕ, List, [], ◌∷◌, true, false, refl, sym, ap, ◌∙◌, arith}
 use Rattle.std.specs.FinMap.{get}
 use Rattle.sha2.specs.Sha256.{sha256}
-use Rattle.m3_model.specs.Members.{IsIn}
-use Rattle.m3_outside.specs.declared.file_name.FileName.{FileName}
-use Rattle.m3_outside.specs.Files.{Files, IsAbsent}
-use Rattle.m3_outside.specs.DiskState.{DiskState, StepOf, Elapses, Becomes, IsLawfulDisk}
-use Rattle.m3_outside.proofs.Names.{get_here, get_apart}
-use Rattle.m3_outside.proofs.Moments.{elapses_as, step_as}
-use Rattle.wire_bytes.specs.Snapshots.{Snapshot, IsSnapshot, snapshot_bytes}
-use Rattle.shard_files.specs.Parts.{is_open, snapshot_data, snapshot_checkpoint, SnapshotHolds}
-use Rattle.shard_files.specs.Steps.{IsOfSnapshot, MaySave, Saved, SavedNone}
+use Rattle.fileset_check.specs.m3_model.Members.{IsIn}
+use Rattle.fileset_check.specs.m3_outside.declared.file_name.FileName.{FileName}
+use Rattle.fileset_check.specs.m3_outside.Files.{Files, IsAbsent}
+use Rattle.fileset_check.specs.m3_outside.DiskState.{DiskState, StepOf, Elapses, Becomes, IsLawfulDisk}
+use Rattle.fileset_check.proofs.m3_outside_proofs.Names.{get_here, get_apart}
+use Rattle.fileset_check.proofs.m3_outside_proofs.Moments.{elapses_as, step_as}
+use Rattle.fileset_check.specs.wire_bytes.Snapshots.{Snapshot, IsSnapshot, snapshot_bytes}
+use Rattle.fileset_check.specs.shard_files.Parts.{is_open, snapshot_data, snapshot_checkpoint, SnapshotHolds}
+use Rattle.fileset_check.specs.shard_files.Steps.{IsOfSnapshot, MaySave, Saved, SavedNone}
 use Rattle.fileset_write.specs.declared.new_file.NewFile.{NewFile}
 use Rattle.fileset_write.specs.Putting.{names_of, with_files, with_volume, MayPutAll, PutNone}
 use Rattle.fileset_write.proofs.FilesLemmas.{made_others}

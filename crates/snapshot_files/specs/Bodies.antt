@@ -1,8 +1,8 @@
 -- What is read of the data of a snapshot.
 use Rattle.std.specs.Prelude.{◌≡◌, ⊤, ℕ, List, length}
-use Rattle.wire_bytes.specs.Snapshots.{Snapshot, IsSnapshot, snapshot_bytes}
-use Rattle.fileset_read.specs.declared.row_err.RowErr.{RowErr}
-use Rattle.fileset_read.specs.declared.row_err.RowErr.TheVariants as errors
+use Rattle.fileset_check.specs.wire_bytes.Snapshots.{Snapshot, IsSnapshot, snapshot_bytes}
+use Rattle.fileset_check.specs.fileset_read.declared.row_err.RowErr.{RowErr}
+use Rattle.fileset_check.specs.fileset_read.declared.row_err.RowErr.TheVariants as errors
 use Rattle.snapshot_files.specs.declared.body.Head.{Head}
 use Rattle.snapshot_files.specs.declared.snap.Snap.{Snap}
 use Rattle.snapshot_files.specs.Snaps.{seen}

@@ -1,9 +1,9 @@
 -- What is told of the newest snapshot is damage of the files.
 use Rattle.std.specs.Prelude.{◌≡◌, List, Option}
-use Rattle.m3_outside.specs.Files.{Files}
-use Rattle.wire_bytes.specs.Snapshots.{Snapshot}
-use Rattle.shard_files.specs.Parts.{KnownVolume, VolumesAre, NewestIs}
-use Rattle.shard_files.specs.Damage.{Damage, AtBody, FirstDamage}
+use Rattle.fileset_check.specs.m3_outside.Files.{Files}
+use Rattle.fileset_check.specs.wire_bytes.Snapshots.{Snapshot}
+use Rattle.fileset_check.specs.shard_files.Parts.{KnownVolume, VolumesAre, NewestIs}
+use Rattle.fileset_check.specs.shard_files.Damage.{Damage, AtBody, FirstDamage}
 use Rattle.snapshot_files.specs.Told.{NewestTells}
 
 -- where something is told, the newest snapshot that counts isn't whole, and there is one

@@ -2,13 +2,13 @@
 use Rattle.std.specs.Prelude.{◌≡◌, ℕ, List, ◌++◌}
 use Rattle.std.specs.declared.cmp.Ordering.TheVariants.{Less}
 use Rattle.byteorder.specs.Endian.{big_bytes}
-use Rattle.m3_model.specs.Contents.{key_of}
-use Rattle.m3_model.specs.Keys.{key_cmp}
-use Rattle.m3_model.specs.declared.point.Point.{Point}
-use Rattle.m3_outside.specs.Files.{Files, IsAbsent}
-use Rattle.m3_outside.specs.declared.file_name.FileName.{FileName}
-use Rattle.wire_bytes.specs.Snapshots.{Snapshot}
-use Rattle.shard_files.specs.Steps.{IsOfSnapshot}
+use Rattle.fileset_check.specs.m3_model.Contents.{key_of}
+use Rattle.fileset_check.specs.m3_model.Keys.{key_cmp}
+use Rattle.fileset_check.specs.m3_model.declared.point.Point.{Point}
+use Rattle.fileset_check.specs.m3_outside.Files.{Files, IsAbsent}
+use Rattle.fileset_check.specs.m3_outside.declared.file_name.FileName.{FileName}
+use Rattle.fileset_check.specs.wire_bytes.Snapshots.{Snapshot}
+use Rattle.fileset_check.specs.shard_files.Steps.{IsOfSnapshot}
 use Rattle.snapshot_files.specs.declared.snap.Snap.{Snap}
 
 -- the snapshot as files hold it

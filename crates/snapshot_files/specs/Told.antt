@@ -1,10 +1,10 @@
 -- What is told of a snapshot that isn't whole.
 use Rattle.std.specs.Prelude.{◌≡◌, ℕ, Bool, ◌&&◌, List, [], ◌∷◌, Option, Some, None}
 use Rattle.std.specs.FinMap.{get}
-use Rattle.m3_outside.specs.Files.{Files}
-use Rattle.m3_outside.specs.declared.file_name.FileName.{FileName}
-use Rattle.shard_files.specs.Parts.{is_open, is_snapshot_checkpoint, counted_snapshots, snapshot_checkpoint, snapshot_data, SnapshotHolds}
-use Rattle.shard_files.specs.Damage.{Damage, OfForm, FirstFound, SnapshotLook, AtGate, AtKept, AtBody, SnapshotFinds, IsBody, bytes_at, last_of}
+use Rattle.fileset_check.specs.m3_outside.Files.{Files}
+use Rattle.fileset_check.specs.m3_outside.declared.file_name.FileName.{FileName}
+use Rattle.fileset_check.specs.shard_files.Parts.{is_open, is_snapshot_checkpoint, counted_snapshots, snapshot_checkpoint, snapshot_data, SnapshotHolds}
+use Rattle.fileset_check.specs.shard_files.Damage.{Damage, OfForm, FirstFound, SnapshotLook, AtGate, AtKept, AtBody, SnapshotFinds, IsBody, bytes_at, last_of}
 use Rattle.snapshot_files.specs.Snaps.{seen}
 use Rattle.snapshot_files.specs.declared.snap.Snap.{Snap}
 

@@ -1,20 +1,20 @@
 ghost use Rattle.std.specs.Prelude.{◌≡◌, ◌↔◌, ◌<◌, ◌≤◌, ◌^◌, length, IfOk, IfErr, IsTrue, Ok as Right};
-ghost use Rattle.m3_model.specs.Ascends.{Ascends};
-ghost use Rattle.wire_bytes.specs.Fields.{Stands};
-ghost use Rattle.wire_bytes.specs.Entries.{IsBounded, PointsStand, bytes_of_point};
-ghost use Rattle.shard_files.specs.Damage.{IsBody};
-ghost use Rattle.shard_files.specs.Entries.{HasPoint, HavePoints};
+ghost use Rattle.fileset_check.specs.m3_model.Ascends.{Ascends};
+ghost use Rattle.fileset_check.specs.wire_bytes.Fields.{Stands};
+ghost use Rattle.fileset_check.specs.wire_bytes.Entries.{IsBounded, PointsStand, bytes_of_point};
+ghost use Rattle.fileset_check.specs.shard_files.Damage.{IsBody};
+ghost use Rattle.fileset_check.specs.shard_files.Entries.{HasPoint, HavePoints};
 ghost use Rattle.snapshot_files.specs.Bodies.{IsReadAs, Refuses, head_in};
 ghost use Rattle.snapshot_files.specs.Snaps.{IsBefore, head_bytes};
 
 use crate::bytes::FORMAT;
 use crate::order::is_ascending;
 use crate::snap::Snap;
-use fileset_read::RowErr;
-use m3_model::limits::NUMBER_END;
-use m3_model::{Point, Seq, Text};
+use fileset_check::fileset_read::RowErr;
+use fileset_check::m3_model::limits::NUMBER_END;
+use fileset_check::m3_model::{Point, Seq, Text};
+use fileset_check::wire_bytes::{WireErr, get_between, get_number, get_point};
 use std::alloc::Global;
-use wire_bytes::{WireErr, get_between, get_number, get_point};
 
 // What stands before the points, and how many bytes that has.
 #[derive(Clone, Copy)]

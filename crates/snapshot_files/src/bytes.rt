@@ -1,12 +1,12 @@
 ghost use Rattle.std.specs.Prelude.{◌≡◌, ◌<◌, ◌^◌, ◌++◌, length, IfOk, OnOk};
-ghost use Rattle.wire_bytes.specs.Entries.{AllBounded, points_bytes};
-ghost use Rattle.wire_bytes.specs.Snapshots.{IsSnapshot, snapshot_bytes};
+ghost use Rattle.fileset_check.specs.wire_bytes.Entries.{AllBounded, points_bytes};
+ghost use Rattle.fileset_check.specs.wire_bytes.Snapshots.{IsSnapshot, snapshot_bytes};
 ghost use Rattle.snapshot_files.specs.Snaps.{head_bytes, seen};
 
 use crate::snap::Snap;
-use m3_model::{Memory, Point, Seq};
+use fileset_check::m3_model::{Memory, Point, Seq};
+use fileset_check::wire_bytes::{put_number, put_point};
 use std::alloc::Global;
-use wire_bytes::{put_number, put_point};
 
 /// The first byte of a snapshot's data.
 pub(crate) const FORMAT: u64 = 1;

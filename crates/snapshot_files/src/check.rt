@@ -1,12 +1,12 @@
 ghost use Rattle.std.specs.Prelude.{◌≡◌, ◌≤◌, [], ◌∷◌, true, length, take, drop, unwrap_or, Some, IfOk, IfErr, IfNone, IfSome, IsErrOf, OnOk};
 ghost use Rattle.std.specs.FinMap.{get};
-ghost use Rattle.m3_outside.specs.Files.{Files};
-ghost use Rattle.m3_outside.specs.DiskState.{DiskState};
-ghost use Rattle.m3_outside.specs.DiskCalls.{LeavesFiles};
-ghost use Rattle.m3_outside.specs.declared.disk_err.DiskErr.TheVariants.{Failed as DiskFailed};
-ghost use Rattle.wire_bytes.specs.Fields.{StopsAt};
-ghost use Rattle.shard_files.specs.Damage.{BreaksDigest, BreaksForm, IsGate};
-ghost use Rattle.shard_files.specs.Parts.{snapshot_checkpoint, snapshot_data};
+ghost use Rattle.fileset_check.specs.m3_outside.Files.{Files};
+ghost use Rattle.fileset_check.specs.m3_outside.DiskState.{DiskState};
+ghost use Rattle.fileset_check.specs.m3_outside.DiskCalls.{LeavesFiles};
+ghost use Rattle.fileset_check.specs.m3_outside.declared.disk_err.DiskErr.TheVariants.{Failed as DiskFailed};
+ghost use Rattle.fileset_check.specs.wire_bytes.Fields.{StopsAt};
+ghost use Rattle.fileset_check.specs.shard_files.Damage.{BreaksDigest, BreaksForm, IsGate};
+ghost use Rattle.fileset_check.specs.shard_files.Parts.{snapshot_checkpoint, snapshot_data};
 ghost use Rattle.fileset_check.specs.PartFiles.{Keeps};
 ghost use Rattle.fileset_check.specs.Told.{MayTell};
 ghost use Rattle.fileset_check.specs.declared.check_err.CheckErr.TheVariants as failures;
@@ -17,11 +17,11 @@ use crate::body::read_body;
 use crate::names::{checkpoint_name, data_name};
 use crate::snap::Snap;
 use fileset_check::CheckErr;
-use fileset_read::{RowErr, read_file};
-use m3_model::Seq;
-use m3_outside::{Disk, DiskErr};
+use fileset_check::fileset_read::{RowErr, read_file};
+use fileset_check::m3_model::Seq;
+use fileset_check::m3_outside::{Disk, DiskErr};
+use fileset_check::wire_bytes::digest;
 use std::alloc::Global;
-use wire_bytes::digest;
 
 // An open gate.
 const OPEN: u8 = 1;

@@ -1,16 +1,16 @@
 ghost use Rattle.std.specs.Prelude.{◌≡◌, ◌≤◌, ◌++◌, true, filter, vec_len, IfOk, IsErrOf, OnOk};
-ghost use Rattle.m3_outside.specs.Causes.{CountsFaults};
-ghost use Rattle.m3_outside.specs.DiskState.{DiskState, Elapses, Becomes};
-ghost use Rattle.m3_outside.specs.DiskCalls.{LeavesFiles};
-ghost use Rattle.m3_outside.specs.Removal.{without_files, MayTakeAway, HasTakenAway};
-ghost use Rattle.m3_outside.specs.declared.disk_err.DiskErr.TheVariants.{Failed as DiskFailed, Memory as WantOfMemory};
-ghost use Rattle.shard_files.specs.Steps as steps;
-ghost use Rattle.shard_files.specs.Steps.{snapshots_below};
+ghost use Rattle.fileset_check.specs.m3_outside.Causes.{CountsFaults};
+ghost use Rattle.fileset_check.specs.m3_outside.DiskState.{DiskState, Elapses, Becomes};
+ghost use Rattle.fileset_check.specs.m3_outside.DiskCalls.{LeavesFiles};
+ghost use Rattle.fileset_check.specs.m3_outside.Removal.{without_files, MayTakeAway, HasTakenAway};
+ghost use Rattle.fileset_check.specs.m3_outside.declared.disk_err.DiskErr.TheVariants.{Failed as DiskFailed, Memory as WantOfMemory};
+ghost use Rattle.fileset_check.specs.shard_files.Steps as steps;
+ghost use Rattle.fileset_check.specs.shard_files.Steps.{snapshots_below};
 
 use crate::names::{CHECKPOINT, DATA};
-use m3_model::Memory;
-use m3_outside::take_away::take_away;
-use m3_outside::{Disk, DiskErr, FileName};
+use fileset_check::m3_model::Memory;
+use fileset_check::m3_outside::take_away::take_away;
+use fileset_check::m3_outside::{Disk, DiskErr, FileName};
 use std::alloc::Global;
 
 // Whether it is the name of a file of this kind of a snapshot below this number.

@@ -1,12 +1,12 @@
 ghost use Rattle.std.specs.Prelude.{◌↔◌, IsTrue};
-ghost use Rattle.wire_bytes.specs.Entries.{AllBounded, IsBounded};
-ghost use Rattle.wire_bytes.specs.Snapshots.{IsSnapshot};
+ghost use Rattle.fileset_check.specs.wire_bytes.Entries.{AllBounded, IsBounded};
+ghost use Rattle.fileset_check.specs.wire_bytes.Snapshots.{IsSnapshot};
 ghost use Rattle.snapshot_files.specs.Snaps.{seen};
 
 use crate::order::is_ascending;
 use crate::snap::Snap;
-use m3_model::Point;
-use m3_model::limits::{MOST_ID_BYTES, MOST_NAMESPACES, NUMBER_END, TIME_END};
+use fileset_check::m3_model::Point;
+use fileset_check::m3_model::limits::{MOST_ID_BYTES, MOST_NAMESPACES, NUMBER_END, TIME_END};
 
 // Above all numbers of points that a snapshot may have.
 const COUNT_END: usize = 1 << 32;

@@ -18,3 +18,7 @@ pub use lawful::is_snapshot;
 pub use reading::newest;
 pub use saving::save;
 pub use snap::Snap;
+
+// Libraries that the rows of crates above need not name.
+pub use fileset_check;
+pub use fileset_check::{commit_log, fileset_read, m3_outside, shard_files, volume_bytes};

@@ -1,8 +1,8 @@
 ghost use Rattle.std.specs.Prelude.{◌↔◌, IsTrue};
-ghost use Rattle.m3_model.specs.Ascends.{Ascends};
+ghost use Rattle.fileset_check.specs.m3_model.Ascends.{Ascends};
 ghost use Rattle.snapshot_files.specs.Snaps.{IsBefore};
 
-use m3_model::Point;
+use fileset_check::m3_model::Point;
 use std::cmp::Ordering;
 
 // Whether the key of the one is below that of the other.

@@ -1,12 +1,12 @@
 ghost use Rattle.std.specs.Prelude.{◌≡◌, true, if◌then◌else◌, Some, filter, option_map, IfOk, IfErr, IsErr, IsErrOf};
 ghost use Rattle.std.specs.FinMap.{get};
-ghost use Rattle.m3_outside.specs.Causes.{CountsFaults};
-ghost use Rattle.m3_outside.specs.DiskState.{DiskState};
-ghost use Rattle.m3_outside.specs.DiskCalls.{LeavesFiles};
-ghost use Rattle.m3_outside.specs.declared.disk_err.DiskErr.TheVariants.{Failed as DiskFailed};
-ghost use Rattle.shard_files.specs.Damage.{last_of};
-ghost use Rattle.shard_files.specs.Parts as parts;
-ghost use Rattle.shard_files.specs.Parts.{NewestIs, counted_snapshots};
+ghost use Rattle.fileset_check.specs.m3_outside.Causes.{CountsFaults};
+ghost use Rattle.fileset_check.specs.m3_outside.DiskState.{DiskState};
+ghost use Rattle.fileset_check.specs.m3_outside.DiskCalls.{LeavesFiles};
+ghost use Rattle.fileset_check.specs.m3_outside.declared.disk_err.DiskErr.TheVariants.{Failed as DiskFailed};
+ghost use Rattle.fileset_check.specs.shard_files.Damage.{last_of};
+ghost use Rattle.fileset_check.specs.shard_files.Parts as parts;
+ghost use Rattle.fileset_check.specs.shard_files.Parts.{NewestIs, counted_snapshots};
 ghost use Rattle.fileset_check.specs.Told.{MayTell};
 ghost use Rattle.fileset_check.specs.declared.check_err.CheckErr.TheVariants as failures;
 ghost use Rattle.snapshot_files.specs.Snaps.{seen};
@@ -16,7 +16,7 @@ use crate::check::check_snapshot;
 use crate::names::CHECKPOINT;
 use crate::snap::Snap;
 use fileset_check::CheckErr;
-use m3_outside::{Disk, DiskErr, Failed, FileName};
+use fileset_check::m3_outside::{Disk, DiskErr, Failed, FileName};
 use std::alloc::Global;
 
 // An open gate.

@@ -1,19 +1,19 @@
 ghost use Rattle.std.specs.Prelude.{◌≡◌, true, IsErrOf, OnOk};
-ghost use Rattle.m3_outside.specs.Files.{Files};
-ghost use Rattle.m3_outside.specs.Causes.{CountsFaults};
-ghost use Rattle.m3_outside.specs.DiskState.{DiskState, Told, Elapses, StepOf};
-ghost use Rattle.m3_outside.specs.declared.disk_err.DiskErr.TheVariants.{Failed as DiskFailed, Memory as WantOfMemory};
-ghost use Rattle.wire_bytes.specs.Snapshots.{IsSnapshot};
-ghost use Rattle.shard_files.specs.Steps.{MaySave, Saved, SavedNone};
+ghost use Rattle.fileset_check.specs.m3_outside.Files.{Files};
+ghost use Rattle.fileset_check.specs.m3_outside.Causes.{CountsFaults};
+ghost use Rattle.fileset_check.specs.m3_outside.DiskState.{DiskState, Told, Elapses, StepOf};
+ghost use Rattle.fileset_check.specs.m3_outside.declared.disk_err.DiskErr.TheVariants.{Failed as DiskFailed, Memory as WantOfMemory};
+ghost use Rattle.fileset_check.specs.wire_bytes.Snapshots.{IsSnapshot};
+ghost use Rattle.fileset_check.specs.shard_files.Steps.{MaySave, Saved, SavedNone};
 ghost use Rattle.snapshot_files.specs.Snaps.{IsNew, seen};
 
 use crate::bytes::bytes_of;
 use crate::names::{checkpoint_name, data_name};
 use crate::snap::Snap;
+use fileset_check::m3_outside::{Disk, DiskErr};
+use fileset_check::wire_bytes::digest;
 use fileset_write::{NewFile, put_all};
-use m3_outside::{Disk, DiskErr};
 use std::alloc::Global;
-use wire_bytes::digest;
 
 /// Saves the snapshot under its number, of which no file is there yet.
 ///

@@ -13,28 +13,28 @@ use Rattle.m3_model.specs.Members.{IsIn}
 use Rattle.m3_model.specs.declared.point.Point.{Point}
 use Rattle.m3_model.proofs.MemberLemmas.{IsIn-append_left, IsIn-append_right, IsIn-append_cases, IsIn-push}
 use Rattle.m3_model.proofs.Lists.{IsIn-filter_passes, filter-IsIn}
-use Rattle.m3_outside.specs.declared.file_name.FileName.{FileName}
-use Rattle.m3_outside.specs.Files.{Files, IsAbsent}
-use Rattle.m3_outside.specs.DiskState.{HaveSameNames}
-use Rattle.m3_outside.specs.Removal.{without_files, MayTakeAway}
-use Rattle.m3_outside.proofs.Names.{name_is}
-use Rattle.m3_outside.proofs.Removal.{gone_none, left_same}
-use Rattle.commit_log.specs.LogEnd.{NoneFrom, MayBeginSegment}
-use Rattle.commit_log.specs.Cutting.{segments_below}
-use Rattle.wire_bytes.specs.Snapshots.{Snapshot}
-use Rattle.shard_files.specs.HeldEntries.{points_of, tenure_of, fence_of}
-use Rattle.shard_files.specs.Parts.{is_open, KnownVolume, snapshot_data, snapshot_checkpoint, SnapshotHolds, is_snapshot_checkpoint, counted_snapshots, counted_volumes, IsNewest, NewestIs}
-use Rattle.shard_files.specs.FilesHold.{Counted, FilesHold, volume_points, points_in_newest, tenure_in_newest, fence_in_newest}
-use Rattle.shard_files.specs.Keeps.{HoldsKept, Keeps}
-use Rattle.shard_files.specs.Steps.{IsOfSnapshot, Saved, SavedNone, is_snapshot_file, is_older, snapshots_below}
-use Rattle.shard_files.specs.StepLaws.{MayBeSaved, MayBeCut, MayBeCleared}
-use Rattle.shard_files.specs.FileLaws.{SameKinds}
-use Rattle.shard_files.proofs.CountedLemmas.{Before, same_names, there_key, counted_asked, counted_open, is_counted, counted_ascend, last_is_last}
-use Rattle.shard_files.proofs.FilesHoldLemmas.{files_hold_one, append_brings}
-use Rattle.shard_files.proofs.NextLemmas.{one_keys}
-use Rattle.shard_files.proofs.PartLemmas.{snapshot_named, volumes_as, newest_as, log_as, one_volumes, one_newest, one_snapshot}
-use Rattle.shard_files.proofs.SnapshotSteps.{save_keeps, clear_keeps}
-use Rattle.shard_files.proofs.CutSteps.{cut_keeps, others}
+use Rattle.snapshot_files.specs.m3_outside.declared.file_name.FileName.{FileName}
+use Rattle.snapshot_files.specs.m3_outside.Files.{Files, IsAbsent}
+use Rattle.snapshot_files.specs.m3_outside.DiskState.{HaveSameNames}
+use Rattle.snapshot_files.specs.m3_outside.Removal.{without_files, MayTakeAway}
+use Rattle.snapshot_files.proofs.m3_outside_proofs.Names.{name_is}
+use Rattle.snapshot_files.proofs.m3_outside_proofs.Removal.{gone_none, left_same}
+use Rattle.snapshot_files.specs.commit_log.LogEnd.{NoneFrom, MayBeginSegment}
+use Rattle.snapshot_files.specs.commit_log.Cutting.{segments_below}
+use Rattle.snapshot_files.specs.wire_bytes.Snapshots.{Snapshot}
+use Rattle.snapshot_files.specs.shard_files.HeldEntries.{points_of, tenure_of, fence_of}
+use Rattle.snapshot_files.specs.shard_files.Parts.{is_open, KnownVolume, snapshot_data, snapshot_checkpoint, SnapshotHolds, is_snapshot_checkpoint, counted_snapshots, counted_volumes, IsNewest, NewestIs}
+use Rattle.snapshot_files.specs.shard_files.FilesHold.{Counted, FilesHold, volume_points, points_in_newest, tenure_in_newest, fence_in_newest}
+use Rattle.snapshot_files.specs.shard_files.Keeps.{HoldsKept, Keeps}
+use Rattle.snapshot_files.specs.shard_files.Steps.{IsOfSnapshot, Saved, SavedNone, is_snapshot_file, is_older, snapshots_below}
+use Rattle.snapshot_files.specs.shard_files.StepLaws.{MayBeSaved, MayBeCut, MayBeCleared}
+use Rattle.snapshot_files.specs.shard_files.FileLaws.{SameKinds}
+use Rattle.snapshot_files.proofs.shard_files_proofs.CountedLemmas.{Before, same_names, there_key, counted_asked, counted_open, is_counted, counted_ascend, last_is_last}
+use Rattle.snapshot_files.proofs.shard_files_proofs.FilesHoldLemmas.{files_hold_one, append_brings}
+use Rattle.snapshot_files.proofs.shard_files_proofs.NextLemmas.{one_keys}
+use Rattle.snapshot_files.proofs.shard_files_proofs.PartLemmas.{snapshot_named, volumes_as, newest_as, log_as, one_volumes, one_newest, one_snapshot}
+use Rattle.snapshot_files.proofs.shard_files_proofs.SnapshotSteps.{save_keeps, clear_keeps}
+use Rattle.snapshot_files.proofs.shard_files_proofs.CutSteps.{cut_keeps, others}
 use Rattle.volume_steps.specs.Known.{HoldsKnown, HaveContent}
 use Rattle.volume_steps.proofs.KnownLemmas.{parts_are_one, are_known, is_file_point}
 use Rattle.snapshot_steps.specs.Saved.{AreIn, HoldsSaved}

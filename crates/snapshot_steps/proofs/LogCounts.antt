@@ -8,20 +8,20 @@ use Rattle.m3_model.specs.Contents.{Contents}
 use Rattle.m3_model.specs.Members.{IsIn}
 use Rattle.m3_model.specs.declared.limits.TheConstants.{NUMBER_END}
 use Rattle.m3_model.proofs.MemberLemmas.{IsIn-append_left, IsIn-append_cases, IsIn-push}
-use Rattle.m3_outside.specs.declared.disk_err.DiskErr.{DiskErr}
-use Rattle.m3_outside.specs.declared.disk_err.DiskErr.TheVariants.{Memory, Failed as DiskFailed}
-use Rattle.m3_outside.specs.declared.file_name.FileName.{FileName}
-use Rattle.m3_outside.specs.DiskState.{DiskState}
-use Rattle.m3_outside.specs.Files.{Files, files_with_zeros}
-use Rattle.m3_outside.proofs.Names.{get_here, get_apart, name_is}
-use Rattle.commit_log.specs.Contents.{next_after, numbers}
-use Rattle.commit_log.specs.LogEnd.{LogEnd, NoneFrom, LogEndStands, BeganOrNot}
-use Rattle.commit_log.specs.Segment.{segment}
-use Rattle.commit_log.proofs.Numbers.{in_there, there_in, absent_not_in, ascend, none_from_after, same_members}
-use Rattle.wire_bytes.specs.Snapshots.{Snapshot}
-use Rattle.shard_files.specs.FileLaws.{SameKinds}
-use Rattle.shard_files.specs.Parts.{IsNewestNumber, KnownVolume, NewestIs}
-use Rattle.shard_files.proofs.PartLemmas.{newest_as}
+use Rattle.snapshot_files.specs.m3_outside.declared.disk_err.DiskErr.{DiskErr}
+use Rattle.snapshot_files.specs.m3_outside.declared.disk_err.DiskErr.TheVariants.{Memory, Failed as DiskFailed}
+use Rattle.snapshot_files.specs.m3_outside.declared.file_name.FileName.{FileName}
+use Rattle.snapshot_files.specs.m3_outside.DiskState.{DiskState}
+use Rattle.snapshot_files.specs.m3_outside.Files.{Files, files_with_zeros}
+use Rattle.snapshot_files.proofs.m3_outside_proofs.Names.{get_here, get_apart, name_is}
+use Rattle.snapshot_files.specs.commit_log.Contents.{next_after, numbers}
+use Rattle.snapshot_files.specs.commit_log.LogEnd.{LogEnd, NoneFrom, LogEndStands, BeganOrNot}
+use Rattle.snapshot_files.specs.commit_log.Segment.{segment}
+use Rattle.snapshot_files.proofs.commit_log_proofs.Numbers.{in_there, there_in, absent_not_in, ascend, none_from_after, same_members}
+use Rattle.snapshot_files.specs.wire_bytes.Snapshots.{Snapshot}
+use Rattle.snapshot_files.specs.shard_files.FileLaws.{SameKinds}
+use Rattle.snapshot_files.specs.shard_files.Parts.{IsNewestNumber, KnownVolume, NewestIs}
+use Rattle.snapshot_files.proofs.shard_files_proofs.PartLemmas.{newest_as}
 use Rattle.snapshot_steps.specs.Counts.{AreCounted, StayCounted}
 use Rattle.snapshot_steps.specs.Saved.{HoldsSaved}
 

@@ -6,16 +6,16 @@ use Rattle.std.proofs.lemmas.Bool.{eqb-true}
 use Rattle.m3_model.specs.Members.{IsIn}
 use Rattle.m3_model.proofs.Lists.{IsIn-filter, IsIn-filter_passes, filter-IsIn}
 use Rattle.m3_model.proofs.Ascending.{Ascends-filter}
-use Rattle.m3_outside.specs.declared.file_name.FileName.{FileName}
-use Rattle.m3_outside.specs.DiskState.{DiskState, Becomes}
-use Rattle.m3_outside.specs.Files.{Files, files_with_zeros}
-use Rattle.m3_outside.proofs.Names.{get_apart}
-use Rattle.commit_log.specs.Contents.{next_after}
-use Rattle.commit_log.specs.LogEnd.{BeganOrNot}
-use Rattle.commit_log.specs.Segment.{segment}
-use Rattle.shard_files.specs.Steps.{is_snapshot_file, next_snapshot}
-use Rattle.shard_files.specs.FileLaws.{SameKinds}
-use Rattle.shard_files.proofs.CountedLemmas.{Before, keys_ascend, key_there, there_key, same_names}
+use Rattle.snapshot_files.specs.m3_outside.declared.file_name.FileName.{FileName}
+use Rattle.snapshot_files.specs.m3_outside.DiskState.{DiskState, Becomes}
+use Rattle.snapshot_files.specs.m3_outside.Files.{Files, files_with_zeros}
+use Rattle.snapshot_files.proofs.m3_outside_proofs.Names.{get_apart}
+use Rattle.snapshot_files.specs.commit_log.Contents.{next_after}
+use Rattle.snapshot_files.specs.commit_log.LogEnd.{BeganOrNot}
+use Rattle.snapshot_files.specs.commit_log.Segment.{segment}
+use Rattle.snapshot_files.specs.shard_files.Steps.{is_snapshot_file, next_snapshot}
+use Rattle.snapshot_files.specs.shard_files.FileLaws.{SameKinds}
+use Rattle.snapshot_files.proofs.shard_files_proofs.CountedLemmas.{Before, keys_ascend, key_there, there_key, same_names}
 
 first_true : (a b : Bool) → (a && b) ≡ true → a ≡ true
 first_true true b e = refl

@@ -9,30 +9,30 @@ use Rattle.m3_model.specs.Members.{IsIn}
 use Rattle.m3_model.proofs.MemberLemmas.{map-IsIn, IsIn-map}
 use Rattle.m3_model.proofs.Lists.{IsIn-filter, IsIn-filter_passes, filter-IsIn}
 use Rattle.m3_model.proofs.Ascending.{Ascends-filter}
-use Rattle.m3_outside.specs.declared.disk_err.DiskErr.{DiskErr}
-use Rattle.m3_outside.specs.declared.disk_err.DiskErr.TheVariants.{Memory, Failed as DiskFailed}
-use Rattle.m3_outside.specs.declared.file_name.FileName.{FileName}
-use Rattle.m3_outside.specs.DiskState.{DiskState, Told, EachImage, StepOf, Elapses, Becomes, IsLawfulDisk}
-use Rattle.m3_outside.specs.DiskCalls.{LeavesFiles}
-use Rattle.m3_outside.specs.Files.{Files, IsAbsent, IsPresent}
-use Rattle.m3_outside.specs.Removal.{without_files, MayTakeAway, HasTakenAway}
-use Rattle.m3_outside.proofs.Moments.{step_as, elapses_as, elapses_then}
-use Rattle.m3_outside.proofs.Removal.{none_stays, gone_none, left_same}
-use Rattle.commit_log.specs.Contents.{next_after, numbers}
-use Rattle.commit_log.specs.Cutting.{numbers_below, numbers_from, segments_below}
-use Rattle.commit_log.specs.LogEnd.{LogEnd, NoneFrom, NoneAbove, MayBeginSegment, LogEndStands}
-use Rattle.commit_log.specs.Segment.{segment}
-use Rattle.commit_log.proofs.Numbers.{in_there, there_in, ascend, same_members}
-use Rattle.wire_bytes.specs.Snapshots.{Snapshot}
-use Rattle.shard_files.specs.Parts.{KnownVolume, counted_snapshots, snapshot_checkpoint}
-use Rattle.shard_files.specs.Keeps.{Keeps}
-use Rattle.shard_files.specs.Steps.{OthersStay, IsOfSnapshot, next_snapshot, MaySave, Saved, SavedNone, is_snapshot_file, snapshots_below}
-use Rattle.shard_files.specs.FileLaws.{SameKinds}
-use Rattle.shard_files.proofs.CutSteps.{cut_keeps}
-use Rattle.shard_files.proofs.KeepLemmas.{keeps_then}
-use Rattle.shard_files.proofs.NextLemmas.{next_snapshot_is_new, one_keys, taken_by_names}
-use Rattle.shard_files.proofs.PartLemmas.{same_numbers}
-use Rattle.shard_files.proofs.SnapshotSteps.{save_keeps, clear_keeps}
+use Rattle.snapshot_files.specs.m3_outside.declared.disk_err.DiskErr.{DiskErr}
+use Rattle.snapshot_files.specs.m3_outside.declared.disk_err.DiskErr.TheVariants.{Memory, Failed as DiskFailed}
+use Rattle.snapshot_files.specs.m3_outside.declared.file_name.FileName.{FileName}
+use Rattle.snapshot_files.specs.m3_outside.DiskState.{DiskState, Told, EachImage, StepOf, Elapses, Becomes, IsLawfulDisk}
+use Rattle.snapshot_files.specs.m3_outside.DiskCalls.{LeavesFiles}
+use Rattle.snapshot_files.specs.m3_outside.Files.{Files, IsAbsent, IsPresent}
+use Rattle.snapshot_files.specs.m3_outside.Removal.{without_files, MayTakeAway, HasTakenAway}
+use Rattle.snapshot_files.proofs.m3_outside_proofs.Moments.{step_as, elapses_as, elapses_then}
+use Rattle.snapshot_files.proofs.m3_outside_proofs.Removal.{none_stays, gone_none, left_same}
+use Rattle.snapshot_files.specs.commit_log.Contents.{next_after, numbers}
+use Rattle.snapshot_files.specs.commit_log.Cutting.{numbers_below, numbers_from, segments_below}
+use Rattle.snapshot_files.specs.commit_log.LogEnd.{LogEnd, NoneFrom, NoneAbove, MayBeginSegment, LogEndStands}
+use Rattle.snapshot_files.specs.commit_log.Segment.{segment}
+use Rattle.snapshot_files.proofs.commit_log_proofs.Numbers.{in_there, there_in, ascend, same_members}
+use Rattle.snapshot_files.specs.wire_bytes.Snapshots.{Snapshot}
+use Rattle.snapshot_files.specs.shard_files.Parts.{KnownVolume, counted_snapshots, snapshot_checkpoint}
+use Rattle.snapshot_files.specs.shard_files.Keeps.{Keeps}
+use Rattle.snapshot_files.specs.shard_files.Steps.{OthersStay, IsOfSnapshot, next_snapshot, MaySave, Saved, SavedNone, is_snapshot_file, snapshots_below}
+use Rattle.snapshot_files.specs.shard_files.FileLaws.{SameKinds}
+use Rattle.snapshot_files.proofs.shard_files_proofs.CutSteps.{cut_keeps}
+use Rattle.snapshot_files.proofs.shard_files_proofs.KeepLemmas.{keeps_then}
+use Rattle.snapshot_files.proofs.shard_files_proofs.NextLemmas.{next_snapshot_is_new, one_keys, taken_by_names}
+use Rattle.snapshot_files.proofs.shard_files_proofs.PartLemmas.{same_numbers}
+use Rattle.snapshot_files.proofs.shard_files_proofs.SnapshotSteps.{save_keeps, clear_keeps}
 use Rattle.snapshot_files.specs.Snaps.{IsNew}
 use Rattle.volume_steps.specs.Known.{HoldsKnown, HaveContent}
 use Rattle.volume_steps.proofs.DiskLemmas.{kept_as, stands_through}

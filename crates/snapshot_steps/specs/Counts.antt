@@ -1,10 +1,10 @@
 -- How many segments a log has, and the newest snapshot beside it, by numbers that are kept in memory.
 use Rattle.std.specs.Prelude.{◌≡◌, ℕ, ◌+◌, ◌<◌, length}
 use Rattle.m3_model.specs.declared.limits.TheConstants.{NUMBER_END}
-use Rattle.m3_outside.specs.Files.{Files}
-use Rattle.commit_log.specs.Contents.{numbers, next_after}
-use Rattle.commit_log.specs.LogEnd.{LogEnd}
-use Rattle.shard_files.specs.Parts.{IsNewestNumber}
+use Rattle.snapshot_files.specs.m3_outside.Files.{Files}
+use Rattle.snapshot_files.specs.commit_log.Contents.{numbers, next_after}
+use Rattle.snapshot_files.specs.commit_log.LogEnd.{LogEnd}
+use Rattle.snapshot_files.specs.shard_files.Parts.{IsNewestNumber}
 
 -- The log ends in its last segment. Of the numbers up to its own so many are no segment's, and the newest snapshot that counts has this number, 0 where none
 -- counts.

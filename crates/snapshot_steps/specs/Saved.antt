@@ -7,10 +7,10 @@ use Rattle.m3_model.specs.Contents.{Contents, key_of}
 use Rattle.m3_model.specs.Keys.{key_cmp}
 use Rattle.m3_model.specs.Members.{IsIn}
 use Rattle.m3_model.specs.declared.point.Point.{Point}
-use Rattle.m3_outside.specs.Files.{Files}
-use Rattle.wire_bytes.specs.Entries.{AllBounded}
-use Rattle.wire_bytes.specs.Snapshots.{Snapshot}
-use Rattle.shard_files.specs.Parts.{KnownVolume}
+use Rattle.snapshot_files.specs.m3_outside.Files.{Files}
+use Rattle.snapshot_files.specs.wire_bytes.Entries.{AllBounded}
+use Rattle.snapshot_files.specs.wire_bytes.Snapshots.{Snapshot}
+use Rattle.snapshot_files.specs.shard_files.Parts.{KnownVolume}
 use Rattle.volume_steps.specs.Known.{HoldsKnown}
 
 -- a snapshot may have these points: each within its bounds, by ascending key, no two with one

@@ -1,19 +1,19 @@
 ghost use Rattle.std.specs.Prelude.{◌≡◌, ◌≤◌, ℕ, true, List, IsErrOf, OnOk};
 ghost use Rattle.m3_model.specs.Contents.{Contents};
-ghost use Rattle.m3_outside.specs.Causes.{CountsFaults};
-ghost use Rattle.m3_outside.specs.DiskState.{DiskState, EachImage, Elapses, Becomes};
-ghost use Rattle.m3_outside.specs.declared.disk_err.DiskErr.TheVariants.{Failed as DiskFailed, Memory as WantOfMemory};
-ghost use Rattle.commit_log.specs.Contents.{numbers};
-ghost use Rattle.commit_log.specs.Cutting.{numbers_from};
-ghost use Rattle.commit_log.specs.LogEnd.{LogEnd, LogEndStands};
-ghost use Rattle.wire_bytes.specs.Snapshots.{Snapshot};
-ghost use Rattle.shard_files.specs.Keeps.{Keeps};
-ghost use Rattle.shard_files.specs.Parts.{KnownVolume};
+ghost use Rattle.snapshot_files.specs.m3_outside.Causes.{CountsFaults};
+ghost use Rattle.snapshot_files.specs.m3_outside.DiskState.{DiskState, EachImage, Elapses, Becomes};
+ghost use Rattle.snapshot_files.specs.m3_outside.declared.disk_err.DiskErr.TheVariants.{Failed as DiskFailed, Memory as WantOfMemory};
+ghost use Rattle.snapshot_files.specs.commit_log.Contents.{numbers};
+ghost use Rattle.snapshot_files.specs.commit_log.Cutting.{numbers_from};
+ghost use Rattle.snapshot_files.specs.commit_log.LogEnd.{LogEnd, LogEndStands};
+ghost use Rattle.snapshot_files.specs.wire_bytes.Snapshots.{Snapshot};
+ghost use Rattle.snapshot_files.specs.shard_files.Keeps.{Keeps};
+ghost use Rattle.snapshot_files.specs.shard_files.Parts.{KnownVolume};
 ghost use Rattle.volume_steps.specs.Known.{HaveContent};
 ghost use Rattle.snapshot_steps.specs.Saved.{HoldsSaved};
 
-use commit_log::cut_before;
-use m3_outside::{Disk, DiskErr};
+use snapshot_files::commit_log::cut_before;
+use snapshot_files::m3_outside::{Disk, DiskErr};
 use std::alloc::Global;
 
 /// Takes away all segments of the log below this number, the lowest first. The newest snapshot has all that is in memory, the

@@ -15,3 +15,6 @@ pub use cutting::cut_log;
 pub use saving::save_snapshot;
 pub use segment::begin_segment;
 pub use snapshot::take_snapshot;
+
+// Libraries that the rows of crates above need not name.
+pub use volume_steps;

@@ -1,23 +1,23 @@
 ghost use Rattle.std.specs.Prelude.{◌≡◌, ◌<◌, ℕ, true, List, map, IfOk, IsErrOf};
 ghost use Rattle.m3_model.specs.Contents.{Contents};
 ghost use Rattle.m3_model.specs.declared.limits.TheConstants.{NUMBER_END};
-ghost use Rattle.m3_outside.specs.Causes.{CountsFaults};
-ghost use Rattle.m3_outside.specs.DiskState.{DiskState, EachImage, Elapses};
-ghost use Rattle.m3_outside.specs.DiskCalls.{LeavesFiles};
-ghost use Rattle.m3_outside.specs.declared.disk_err.DiskErr.TheVariants.{Failed as DiskFailed, Memory as WantOfMemory};
-ghost use Rattle.commit_log.specs.Contents as contents;
-ghost use Rattle.commit_log.specs.Contents.{numbers};
-ghost use Rattle.commit_log.specs.LogEnd.{LogEnd, LogEndStands};
-ghost use Rattle.shard_files.specs.Keeps.{Keeps};
-ghost use Rattle.shard_files.specs.Parts.{KnownVolume, IsNewestNumber};
-ghost use Rattle.shard_files.specs.Steps as steps;
-ghost use Rattle.shard_files.specs.Steps.{next_snapshot};
+ghost use Rattle.snapshot_files.specs.m3_outside.Causes.{CountsFaults};
+ghost use Rattle.snapshot_files.specs.m3_outside.DiskState.{DiskState, EachImage, Elapses};
+ghost use Rattle.snapshot_files.specs.m3_outside.DiskCalls.{LeavesFiles};
+ghost use Rattle.snapshot_files.specs.m3_outside.declared.disk_err.DiskErr.TheVariants.{Failed as DiskFailed, Memory as WantOfMemory};
+ghost use Rattle.snapshot_files.specs.commit_log.Contents as contents;
+ghost use Rattle.snapshot_files.specs.commit_log.Contents.{numbers};
+ghost use Rattle.snapshot_files.specs.commit_log.LogEnd.{LogEnd, LogEndStands};
+ghost use Rattle.snapshot_files.specs.shard_files.Keeps.{Keeps};
+ghost use Rattle.snapshot_files.specs.shard_files.Parts.{KnownVolume, IsNewestNumber};
+ghost use Rattle.snapshot_files.specs.shard_files.Steps as steps;
+ghost use Rattle.snapshot_files.specs.shard_files.Steps.{next_snapshot};
 ghost use Rattle.volume_steps.specs.Known.{HoldsKnown, HaveContent};
 ghost use Rattle.snapshot_steps.specs.Saved.{AreIn, AreSaveable, HoldsSaved, snapshot_of};
 
-use commit_log::next_after;
 use m3_model::{Point, Seq};
-use m3_outside::{Disk, DiskErr, FileName};
+use snapshot_files::commit_log::next_after;
+use snapshot_files::m3_outside::{Disk, DiskErr, FileName};
 use snapshot_files::{Snap, save};
 use std::alloc::Global;
 

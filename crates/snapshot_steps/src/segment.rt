@@ -1,20 +1,20 @@
 ghost use Rattle.std.specs.Prelude.{◌≡◌, ◌<◌, ℕ, true, List, IfOk, IsErr, IsErrOf, OnOk};
 ghost use Rattle.m3_model.specs.Contents.{Contents};
 ghost use Rattle.m3_model.specs.declared.limits.TheConstants.{NUMBER_END, SEGMENT_BYTES};
-ghost use Rattle.m3_outside.specs.Causes.{CountsFaults};
-ghost use Rattle.m3_outside.specs.DiskState.{DiskState, EachImage, Elapses, Becomes};
-ghost use Rattle.m3_outside.specs.Files.{IsPresent, files_with_zeros};
-ghost use Rattle.m3_outside.specs.declared.disk_err.DiskErr.TheVariants.{Failed as DiskFailed, Memory as WantOfMemory};
-ghost use Rattle.commit_log.specs.Contents.{next_after, numbers};
-ghost use Rattle.commit_log.specs.LogEnd.{LogEnd, LogEndStands};
-ghost use Rattle.commit_log.specs.Segment.{segment};
-ghost use Rattle.shard_files.specs.Keeps.{Keeps};
-ghost use Rattle.shard_files.specs.Parts.{KnownVolume};
-ghost use Rattle.shard_files.specs.Steps.{next_snapshot};
+ghost use Rattle.snapshot_files.specs.m3_outside.Causes.{CountsFaults};
+ghost use Rattle.snapshot_files.specs.m3_outside.DiskState.{DiskState, EachImage, Elapses, Becomes};
+ghost use Rattle.snapshot_files.specs.m3_outside.Files.{IsPresent, files_with_zeros};
+ghost use Rattle.snapshot_files.specs.m3_outside.declared.disk_err.DiskErr.TheVariants.{Failed as DiskFailed, Memory as WantOfMemory};
+ghost use Rattle.snapshot_files.specs.commit_log.Contents.{next_after, numbers};
+ghost use Rattle.snapshot_files.specs.commit_log.LogEnd.{LogEnd, LogEndStands};
+ghost use Rattle.snapshot_files.specs.commit_log.Segment.{segment};
+ghost use Rattle.snapshot_files.specs.shard_files.Keeps.{Keeps};
+ghost use Rattle.snapshot_files.specs.shard_files.Parts.{KnownVolume};
+ghost use Rattle.snapshot_files.specs.shard_files.Steps.{next_snapshot};
 ghost use Rattle.volume_steps.specs.Known.{HoldsKnown, HaveContent};
 
-use commit_log::{Log, list_segments};
-use m3_outside::{Disk, DiskErr};
+use snapshot_files::commit_log::{Log, list_segments};
+use snapshot_files::m3_outside::{Disk, DiskErr};
 use std::alloc::Global;
 
 /// Begins a fresh segment as the log's end, and gives its number: one above all that are there.

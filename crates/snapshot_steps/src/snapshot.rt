@@ -1,13 +1,13 @@
 ghost use Rattle.std.specs.Prelude.{◌≡◌, ℕ, true, List, [], ◌∷◌, IfOk, IsErrOf, OnOk};
 ghost use Rattle.m3_model.specs.Contents.{Contents};
-ghost use Rattle.m3_outside.specs.Causes.{CountsFaults};
-ghost use Rattle.m3_outside.specs.DiskState.{DiskState, EachImage, Elapses};
-ghost use Rattle.m3_outside.specs.declared.disk_err.DiskErr.TheVariants.{Failed as DiskFailed, Memory as WantOfMemory};
-ghost use Rattle.commit_log.specs.Contents.{next_after, numbers};
-ghost use Rattle.commit_log.specs.LogEnd.{LogEnd, LogEndStands};
-ghost use Rattle.shard_files.specs.Keeps.{Keeps};
-ghost use Rattle.shard_files.specs.Parts.{KnownVolume, counted_snapshots, snapshot_checkpoint};
-ghost use Rattle.shard_files.specs.Steps.{next_snapshot};
+ghost use Rattle.snapshot_files.specs.m3_outside.Causes.{CountsFaults};
+ghost use Rattle.snapshot_files.specs.m3_outside.DiskState.{DiskState, EachImage, Elapses};
+ghost use Rattle.snapshot_files.specs.m3_outside.declared.disk_err.DiskErr.TheVariants.{Failed as DiskFailed, Memory as WantOfMemory};
+ghost use Rattle.snapshot_files.specs.commit_log.Contents.{next_after, numbers};
+ghost use Rattle.snapshot_files.specs.commit_log.LogEnd.{LogEnd, LogEndStands};
+ghost use Rattle.snapshot_files.specs.shard_files.Keeps.{Keeps};
+ghost use Rattle.snapshot_files.specs.shard_files.Parts.{KnownVolume, counted_snapshots, snapshot_checkpoint};
+ghost use Rattle.snapshot_files.specs.shard_files.Steps.{next_snapshot};
 ghost use Rattle.volume_steps.specs.Known.{HoldsKnown, HaveContent};
 ghost use Rattle.snapshot_steps.specs.Counts.{AreCounted};
 ghost use Rattle.snapshot_steps.specs.Saved.{AreIn, AreSaveable, HoldsSaved, snapshot_of};
@@ -17,9 +17,9 @@ use crate::counts::Counts;
 use crate::cutting::cut_log;
 use crate::saving::save_snapshot;
 use crate::segment::begin_segment;
-use commit_log::Log;
 use m3_model::{Point, Seq};
-use m3_outside::{Disk, DiskErr};
+use snapshot_files::commit_log::Log;
+use snapshot_files::m3_outside::{Disk, DiskErr};
 use std::alloc::Global;
 
 /// Takes a snapshot of what is in memory, and gives its number, one above those of all snapshots of which a file is there: begins a

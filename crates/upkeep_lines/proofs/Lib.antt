@@ -1,4 +1,4 @@
 pub mod UpkeepLemmas
 pub mod SweptLemmas
 pub mod StatusLemmas
-pub use Rattle.node_calls.proofs.RunLemmas
+pub use Rattle.act_lines.proofs.node_calls_proofs.RunLemmas

@@ -22,14 +22,14 @@ use Rattle.cluster_core.specs.declared.event.Event.TheVariants as event
 use Rattle.cluster_core.specs.declared.event.StepCall.{StepCall}
 use Rattle.cluster_core.specs.declared.event.StepCall.TheVariants as call
 use Rattle.cluster_core.specs.declared.event.StepReply.TheVariants as reply
-use Rattle.session_net.specs.Runs.{slot_at}
-use Rattle.told_by.specs.Hears.{Happens, HearsStatus, InStretch}
-use Rattle.told_by.specs.Lines.{position_after}
-use Rattle.told_by.specs.Makes.{MayAsk, MayMake}
-use Rattle.told_runs.proofs.MemberLemmas.{listed_member}
-use Rattle.transcripts.specs.Sweeps.{IsStatus}
-use Rattle.call_lines.specs.Laws.{IsCalmCall}
-use Rattle.cluster_members.specs.declared.members.Members.{Members}
+use Rattle.act_lines.specs.session_net.Runs.{slot_at}
+use Rattle.act_lines.specs.told_by.Hears.{Happens, HearsStatus, InStretch}
+use Rattle.act_lines.specs.told_by.Lines.{position_after}
+use Rattle.act_lines.specs.told_by.Makes.{MayAsk, MayMake}
+use Rattle.act_lines.proofs.told_runs_proofs.MemberLemmas.{listed_member}
+use Rattle.act_lines.specs.transcripts.Sweeps.{IsStatus}
+use Rattle.act_lines.specs.call_lines.Laws.{IsCalmCall}
+use Rattle.act_lines.specs.cluster_members.declared.members.Members.{Members}
 use Rattle.cluster_upkeep.specs.Status.{report_of, told_at}
 use Rattle.cluster_upkeep.specs.Upkeep.{HasTold}
 use Rattle.cluster_upkeep.proofs.SweepLemmas.{told_long, told_quiet}

@@ -25,20 +25,20 @@ use Rattle.cluster_core.specs.declared.event.StepCall.{StepCall}
 use Rattle.cluster_core.specs.declared.event.StepCall.TheVariants as call
 use Rattle.cluster_core.specs.declared.event.StepReply.{StepReply}
 use Rattle.cluster_core.specs.declared.event.StepReply.TheVariants as reply
-use Rattle.replica_machine.specs.Steps.{reply_by}
-use Rattle.replica_exchange.specs.declared.slot.Slot.{Slot}
-use Rattle.session_net.specs.Messages.{exchange}
-use Rattle.session_net.specs.Runs.{slot_at}
-use Rattle.told_by.specs.Hears.{Happens, HasStep, HearsReason, HearsSwept, InStretch, IsSweepCall}
-use Rattle.told_by.specs.Lines.{IsPlain, position_after}
-use Rattle.told_by.specs.Makes.{MayAsk, MayMake}
-use Rattle.told_runs.specs.Answers.{IsOfKind}
-use Rattle.transcripts.specs.Reasons.{IsShown}
-use Rattle.transcripts.specs.Rules.{rules_at}
-use Rattle.transcripts.specs.Sweeps.{Entry, IsSweptOver, done_in, failed_in, slot_of}
-use Rattle.transcripts.proofs.SweepLemmas.{done_entry, entry_slot, failed_entry}
-use Rattle.call_lines.specs.Laws.{IsCalmCall}
-use Rattle.cluster_members.specs.declared.members.Members.{Members}
+use Rattle.act_lines.specs.replica_machine.Steps.{reply_by}
+use Rattle.act_lines.specs.replica_exchange.declared.slot.Slot.{Slot}
+use Rattle.act_lines.specs.session_net.Messages.{exchange}
+use Rattle.act_lines.specs.session_net.Runs.{slot_at}
+use Rattle.act_lines.specs.told_by.Hears.{Happens, HasStep, HearsReason, HearsSwept, InStretch, IsSweepCall}
+use Rattle.act_lines.specs.told_by.Lines.{IsPlain, position_after}
+use Rattle.act_lines.specs.told_by.Makes.{MayAsk, MayMake}
+use Rattle.act_lines.specs.told_runs.Answers.{IsOfKind}
+use Rattle.act_lines.specs.transcripts.Reasons.{IsShown}
+use Rattle.act_lines.specs.transcripts.Rules.{rules_at}
+use Rattle.act_lines.specs.transcripts.Sweeps.{Entry, IsSweptOver, done_in, failed_in, slot_of}
+use Rattle.act_lines.proofs.transcripts_proofs.SweepLemmas.{done_entry, entry_slot, failed_entry}
+use Rattle.act_lines.specs.call_lines.Laws.{IsCalmCall}
+use Rattle.act_lines.specs.cluster_members.declared.members.Members.{Members}
 use Rattle.cluster_upkeep.proofs.ListLemmas.{flat_long}
 use Rattle.cluster_upkeep.specs.Sweeps.{asked_at}
 use Rattle.cluster_upkeep.specs.Upkeep.{HasSwept}

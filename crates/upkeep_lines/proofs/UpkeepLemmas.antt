@@ -23,23 +23,23 @@ use Rattle.cluster_core.specs.declared.event.StepCall.{StepCall}
 use Rattle.cluster_core.specs.declared.event.StepCall.TheVariants as call
 use Rattle.cluster_core.specs.declared.event.StepReply.{StepReply}
 use Rattle.cluster_core.proofs.ListLemmas.{at_in, at_within}
-use Rattle.replica_exchange.specs.declared.slot.Slot.{Slot}
-use Rattle.session_net.specs.Ready.{IsReady}
-use Rattle.session_net.specs.Runs.{Ran, slot_at}
-use Rattle.session_net.proofs.ReadyLemmas.{AreQuiet}
-use Rattle.told_by.specs.Hears.{HearsBy, InStretch}
-use Rattle.told_by.specs.Lines.{IsPlain, MayChange, PlainLine, position_after}
-use Rattle.told_by.specs.Makes.{MayAsk, MayMake}
-use Rattle.told_by.proofs.LeaveLemmas.{place_there}
-use Rattle.told_by.proofs.OneLemmas.{among_back}
-use Rattle.told_runs.specs.Answers.{HearsOf, IsOfKind}
-use Rattle.transcripts.specs.Placements.{MayStand}
-use Rattle.transcripts.specs.Record.{TurnPosition, inner_turns, line_of}
-use Rattle.transcripts.specs.Rules.{rules_at}
-use Rattle.call_lines.specs.Laws.{IsCalm, IsCalmCall, LeavesLine}
-use Rattle.call_lines.proofs.KeepLemmas.{left_as_before}
-use Rattle.call_lines.proofs.ServeLemmas.{answered, delivered_so, serves_so}
-use Rattle.cluster_members.specs.declared.members.Members.{Members}
+use Rattle.act_lines.specs.replica_exchange.declared.slot.Slot.{Slot}
+use Rattle.act_lines.specs.session_net.Ready.{IsReady}
+use Rattle.act_lines.specs.session_net.Runs.{Ran, slot_at}
+use Rattle.act_lines.proofs.session_net_proofs.ReadyLemmas.{AreQuiet}
+use Rattle.act_lines.specs.told_by.Hears.{HearsBy, InStretch}
+use Rattle.act_lines.specs.told_by.Lines.{IsPlain, MayChange, PlainLine, position_after}
+use Rattle.act_lines.specs.told_by.Makes.{MayAsk, MayMake}
+use Rattle.act_lines.proofs.told_by_proofs.LeaveLemmas.{place_there}
+use Rattle.act_lines.proofs.told_by_proofs.OneLemmas.{among_back}
+use Rattle.act_lines.specs.told_runs.Answers.{HearsOf, IsOfKind}
+use Rattle.act_lines.specs.transcripts.Placements.{MayStand}
+use Rattle.act_lines.specs.transcripts.Record.{TurnPosition, inner_turns, line_of}
+use Rattle.act_lines.specs.transcripts.Rules.{rules_at}
+use Rattle.act_lines.specs.call_lines.Laws.{IsCalm, IsCalmCall, LeavesLine}
+use Rattle.act_lines.proofs.call_lines_proofs.KeepLemmas.{left_as_before}
+use Rattle.act_lines.proofs.call_lines_proofs.ServeLemmas.{answered, delivered_so, serves_so}
+use Rattle.act_lines.specs.cluster_members.declared.members.Members.{Members}
 use Rattle.cluster_upkeep.specs.Nodes.{KeepsButBoots}
 use Rattle.cluster_upkeep.proofs.RunLemmas.{ready_still}
 use Rattle.act_lines.specs.Due.{IsDueNext}

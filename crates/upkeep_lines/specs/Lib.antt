@@ -1,3 +1,3 @@
 pub mod Upkeep
-pub use Rattle.node_calls.specs.Halts
-pub use Rattle.node_calls.specs.Nodes
+pub use Rattle.act_lines.specs.node_calls.Halts
+pub use Rattle.act_lines.specs.node_calls.Nodes

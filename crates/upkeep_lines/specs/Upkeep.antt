@@ -13,7 +13,7 @@ use Rattle.m3_outside.specs.DiskState.{DiskState}
 use Rattle.m3_outside.specs.declared.disk.Disk.{Ghosts}
 use Rattle.cluster_core.specs.declared.event.StepCall.{StepCall}
 use Rattle.cluster_core.specs.declared.event.StepCall.TheVariants as call
-use Rattle.cluster_members.specs.declared.members.Members.{Members}
+use Rattle.act_lines.specs.cluster_members.declared.members.Members.{Members}
 use Rattle.cluster_upkeep.specs.Upkeep.{HasSwept, HasTold}
 use Rattle.act_lines.specs.Due.{IsDueNext, WhereLeft}
 use Rattle.act_lines.specs.Nodes.{LeavesStanding}

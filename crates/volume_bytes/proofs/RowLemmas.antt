@@ -8,7 +8,7 @@ use Rattle.std.proofs.lemmas.List.Sums.{sum_by-cons}
 use Rattle.std.proofs.lemmas.List.Concat.{flat_map-cons}
 use Rattle.std.specs.Int.{w64, cast_unsigned}
 use Rattle.byteorder.specs.Endian.{big_bytes}
-use Rattle.m3_model.specs.declared.point.Series.{Series}
+use Rattle.wire_bytes.specs.m3_model.declared.point.Series.{Series}
 use Rattle.wire_bytes.specs.Volumes.{id_bytes, pair_bytes, row_bytes, data_bytes, index_entry, index_from, span_bytes, summaries_from, count_of}
 use Rattle.wire_bytes.proofs.NumberLemmas.{length_number}
 

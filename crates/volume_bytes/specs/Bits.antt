@@ -1,6 +1,6 @@
 -- Bits in their order.
 use Rattle.std.specs.Prelude.{◌≡◌, ℕ, zero, suc, ◌+◌, ◌*◌, ◌<◌, Bool, false, if◌then◌else◌, List, length, get_or}
-use Rattle.m3_model.specs.declared.point.Series.{Series}
+use Rattle.wire_bytes.specs.m3_model.declared.point.Series.{Series}
 use Rattle.wire_bytes.specs.Volumes.{is_set}
 
 -- so many of the bits from this one on as a number, the first of them the lowest

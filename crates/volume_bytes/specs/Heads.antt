@@ -1,9 +1,9 @@
 -- Heads of volumes that are written.
 use Rattle.std.specs.Prelude.{ℕ, ◌+◌, ◌*◌, ◌<◌, ◌≤◌, ◌^◌, List, length, All, FitsSigned}
 use Rattle.std.specs.Int.{w64}
-use Rattle.m3_model.specs.Members.{IsIn}
-use Rattle.m3_model.specs.declared.limits.TheConstants.{MOST_ID_BYTES}
-use Rattle.m3_model.specs.declared.point.Series.{Series}
+use Rattle.wire_bytes.specs.m3_model.Members.{IsIn}
+use Rattle.wire_bytes.specs.m3_model.declared.limits.TheConstants.{MOST_ID_BYTES}
+use Rattle.wire_bytes.specs.m3_model.declared.point.Series.{Series}
 use Rattle.wire_bytes.specs.Volumes.{VolumeHead}
 use Rattle.volume_bytes.specs.declared.heads.Head.{Head}
 

@@ -1,6 +1,6 @@
 -- What rows give of a volume that follows them in their order.
 use Rattle.std.specs.Prelude.{◌≡◌, List}
-use Rattle.m3_model.specs.declared.point.Series.{Series}
+use Rattle.wire_bytes.specs.m3_model.declared.point.Series.{Series}
 use Rattle.wire_bytes.specs.Volumes.{count_of, data_bytes, index_bytes, summaries_bytes}
 use Rattle.volume_bytes.specs.declared.tables.Tables.{Tables}
 

@@ -3,8 +3,8 @@ ghost use Rattle.wire_bytes.specs.Volumes.{bits_from, bloom_bytes};
 ghost use Rattle.volume_bytes.specs.Bits.{AreBitsOf};
 
 use crate::bits::{byte_at, set_bits};
-use m3_model::{Memory, Seq, Series};
 use std::alloc::Global;
+use wire_bytes::m3_model::{Memory, Seq, Series};
 use wire_bytes::put_number;
 
 // Sets the bits of all rows' identifiers, none of which is set yet.

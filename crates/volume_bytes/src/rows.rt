@@ -1,9 +1,9 @@
 ghost use Rattle.std.specs.Prelude.{◌≡◌, ◌+◌, ◌*◌, ◌<◌, ◌≤◌, ◌^◌, ◌++◌, flat_map, length, All, OnOk, FitsSigned};
 ghost use Rattle.std.specs.Int.{w64};
-ghost use Rattle.m3_model.specs.declared.limits.TheConstants.{MOST_ID_BYTES};
+ghost use Rattle.wire_bytes.specs.m3_model.declared.limits.TheConstants.{MOST_ID_BYTES};
 ghost use Rattle.wire_bytes.specs.Volumes.{IsRow, id_bytes, pair_bytes, row_bytes};
 
-use m3_model::{Memory, Series};
+use wire_bytes::m3_model::{Memory, Series};
 use wire_bytes::put_number;
 
 // Each of these appends some of its bytes where memory is wanted.

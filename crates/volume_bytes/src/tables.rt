@@ -1,13 +1,13 @@
 ghost use Rattle.std.specs.Prelude.{◌≡◌, ◌+◌, ◌<◌, ◌≤◌, ◌^◌, ◌∷◌, ◌++◌, List, length, IfOk, OnOk};
-ghost use Rattle.m3_model.specs.declared.limits.TheConstants.{MOST_ID_BYTES};
-ghost use Rattle.m3_model.specs.declared.point.Series.{Series as Row};
+ghost use Rattle.wire_bytes.specs.m3_model.declared.limits.TheConstants.{MOST_ID_BYTES};
+ghost use Rattle.wire_bytes.specs.m3_model.declared.point.Series.{Series as Row};
 ghost use Rattle.wire_bytes.specs.Volumes.{count_of, id_bytes, index_entry, row_bytes, summaries_from};
 ghost use Rattle.volume_bytes.specs.Heads.{FitsFields, AllFit};
 ghost use Rattle.volume_bytes.specs.Tables.{AreTables};
 
 use crate::rows::{push_id, push_row};
-use m3_model::{Memory, Seq, Series};
 use std::alloc::Global;
+use wire_bytes::m3_model::{Memory, Seq, Series};
 use wire_bytes::put_number;
 
 /// The bytes of the files that follow rows in their order.

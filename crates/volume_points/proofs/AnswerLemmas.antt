@@ -15,8 +15,8 @@ use Rattle.m3_model.specs.declared.point.Point.{Point}
 use Rattle.m3_model.specs.declared.point.Series.{Series}
 use Rattle.m3_model.proofs.Keyed.{key_cmp-IsAntisymmetric}
 use Rattle.m3_model.proofs.RangeLemmas.{both_true}
-use Rattle.block_buffer.specs.Held.{is_in_block}
-use Rattle.block_buffer.specs.Joins.{joined}
+use Rattle.held_points.specs.block_buffer.Held.{is_in_block}
+use Rattle.held_points.specs.block_buffer.Joins.{joined}
 use Rattle.series_merge.proofs.JoinLemmas.{joined_from, nothing_held}
 use Rattle.series_merge.proofs.OrderLemmas.{content_in, merge_joins, ordered_has}
 use Rattle.volume_points.specs.Laws.{AnswersJoin, BlockIsRange}

@@ -15,19 +15,19 @@ use Rattle.m3_model.specs.declared.point.Point.{Point}
 use Rattle.m3_model.specs.declared.point.Series.{Series}
 use Rattle.m3_model.proofs.MemberLemmas.{IsIn-append_cases, IsIn-append_left}
 use Rattle.m3_model.proofs.RangeLemmas.{both_true}
-use Rattle.m3_outside.specs.Files.{Files}
-use Rattle.series_slots.proofs.AnswerLemmas.{in_points, point_in}
-use Rattle.series_slots.proofs.MoveLemmas.{IsIn-flat, IsIn-filter}
+use Rattle.fileset_check.specs.m3_outside.Files.{Files}
+use Rattle.held_points.proofs.series_slots_proofs.AnswerLemmas.{in_points, point_in}
+use Rattle.held_points.proofs.series_slots_proofs.MoveLemmas.{IsIn-flat, IsIn-filter}
 use Rattle.held_points.proofs.ListLemmas.{some_element}
 use Rattle.series_merge.specs.Merges.{IsMergeOf}
 use Rattle.series_merge.proofs.JoinLemmas.{joined_has}
 use Rattle.series_merge.proofs.OrderLemmas.{content_in, merge_joins, ordered_has}
-use Rattle.wire_bytes.specs.Entries.{IsBounded}
-use Rattle.wire_bytes.specs.Volumes.{IsRow, IsVolume, count_of, data_bytes, points_of_rows, row_bytes}
-use Rattle.volume_bytes.proofs.RowLemmas.{length_row}
-use Rattle.shard_files.specs.Parts.{KnownVolume}
-use Rattle.shard_files.specs.FilesHold.{points_known, volume_points}
-use Rattle.volume_bytes.specs.declared.heads.Head.{Head}
+use Rattle.fileset_check.specs.wire_bytes.Entries.{IsBounded}
+use Rattle.fileset_check.specs.wire_bytes.Volumes.{IsRow, IsVolume, count_of, data_bytes, points_of_rows, row_bytes}
+use Rattle.fileset_check.proofs.volume_bytes_proofs.RowLemmas.{length_row}
+use Rattle.fileset_check.specs.shard_files.Parts.{KnownVolume}
+use Rattle.fileset_check.specs.shard_files.FilesHold.{points_known, volume_points}
+use Rattle.fileset_check.specs.volume_bytes.declared.heads.Head.{Head}
 use Rattle.volume_points.specs.Blocks.{FitsFields, IsTooLarge, block_head}
 use Rattle.volume_points.specs.Known.{AreOf, is_of}
 use Rattle.volume_points.specs.declared.block_err.BlockErr.{BlockErr}

@@ -6,13 +6,13 @@ use Rattle.std.proofs.lemmas.List.{take-append-drop}
 use Rattle.std.proofs.lemmas.List.Concat.{flat_map-append}
 use Rattle.m3_model.specs.Members.{IsIn}
 use Rattle.m3_model.proofs.MemberLemmas.{IsIn-append_left, IsIn-append_right, IsIn-map, map-IsIn}
-use Rattle.m3_outside.specs.Files.{Files}
-use Rattle.m3_outside.specs.declared.file_name.FileName.{FileName}
-use Rattle.wire_bytes.specs.Volumes.{VolumeHead}
-use Rattle.shard_files.specs.Parts.{AreKnown, KnownVolume, VolumeHolds, counted_volumes}
-use Rattle.shard_files.specs.FilesHold.{points_known, volume_points}
-use Rattle.volume_bytes.specs.declared.heads.Head.{Head}
-use Rattle.volume_bytes.specs.Heads.{head_of}
+use Rattle.fileset_check.specs.m3_outside.Files.{Files}
+use Rattle.fileset_check.specs.m3_outside.declared.file_name.FileName.{FileName}
+use Rattle.fileset_check.specs.wire_bytes.Volumes.{VolumeHead}
+use Rattle.fileset_check.specs.shard_files.Parts.{AreKnown, KnownVolume, VolumeHolds, counted_volumes}
+use Rattle.fileset_check.specs.shard_files.FilesHold.{points_known, volume_points}
+use Rattle.fileset_check.specs.volume_bytes.declared.heads.Head.{Head}
+use Rattle.fileset_check.specs.volume_bytes.Heads.{head_of}
 use Rattle.volume_points.specs.Known.{AreOf, AreThere, is_head_of, is_of}
 use Rattle.volume_points.specs.Laws.{KnownAreThere, VolumesAreKnown}
 

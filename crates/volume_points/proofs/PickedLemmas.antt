@@ -14,8 +14,8 @@ use Rattle.m3_model.specs.declared.point.Point.{Point}
 use Rattle.m3_model.specs.declared.point.Series.{Series}
 use Rattle.m3_model.proofs.MemberLemmas.{IsIn-filter_map, filter_map-IsIn}
 use Rattle.m3_model.proofs.RangeLemmas.{both_true}
-use Rattle.series_slots.proofs.AnswerLemmas.{point_in, in_points}
-use Rattle.series_slots.proofs.MoveLemmas.{IsIn-filter, filter-IsIn}
+use Rattle.held_points.proofs.series_slots_proofs.AnswerLemmas.{point_in, in_points}
+use Rattle.held_points.proofs.series_slots_proofs.MoveLemmas.{IsIn-filter, filter-IsIn}
 use Rattle.volume_points.specs.Picked.{AreAscending, IsPicked, IsSelectionOf, cut_series, filled, is_between}
 
 abbrev IsEarlier : ℕ × ℤ → ℕ × ℤ → Type 0

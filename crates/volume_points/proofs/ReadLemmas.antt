@@ -9,14 +9,14 @@ use Rattle.m3_model.specs.Contents.{Contents, content_of, raised}
 use Rattle.m3_model.specs.declared.point.Pick.{Pick}
 use Rattle.m3_model.specs.declared.point.Point.{Point}
 use Rattle.m3_model.specs.declared.point.Series.{Series}
-use Rattle.m3_outside.specs.Files.{Files}
-use Rattle.wire_bytes.specs.Volumes.{VolumeHead, points_of_rows}
-use Rattle.shard_files.specs.Parts.{KnownVolume, VolumeHolds}
-use Rattle.shard_files.specs.FilesHold.{volume_points}
-use Rattle.fileset_read.specs.declared.file_err.FileErr.{FileErr}
-use Rattle.fileset_read.specs.declared.file_err.FileErr.TheVariants as failures
-use Rattle.volume_bytes.specs.declared.heads.Head.{Head}
-use Rattle.volume_bytes.specs.Heads.{head_of}
+use Rattle.fileset_check.specs.m3_outside.Files.{Files}
+use Rattle.fileset_check.specs.wire_bytes.Volumes.{VolumeHead, points_of_rows}
+use Rattle.fileset_check.specs.shard_files.Parts.{KnownVolume, VolumeHolds}
+use Rattle.fileset_check.specs.shard_files.FilesHold.{volume_points}
+use Rattle.fileset_check.specs.fileset_read.declared.file_err.FileErr.{FileErr}
+use Rattle.fileset_check.specs.fileset_read.declared.file_err.FileErr.TheVariants as failures
+use Rattle.fileset_check.specs.volume_bytes.declared.heads.Head.{Head}
+use Rattle.fileset_check.specs.volume_bytes.Heads.{head_of}
 use Rattle.series_merge.specs.Merges.{IsMergeOf}
 use Rattle.volume_points.specs.Known.{AreOf}
 use Rattle.volume_points.proofs.AnswerLemmas.{answers_join, nothing_found}

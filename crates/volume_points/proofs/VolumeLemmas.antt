@@ -18,15 +18,15 @@ use Rattle.m3_model.specs.declared.point.Pick.{Pick}
 use Rattle.m3_model.specs.declared.point.Pick.TheVariants as pick
 use Rattle.m3_model.specs.declared.point.Point.{Point}
 use Rattle.m3_model.specs.declared.point.Series.{Series}
-use Rattle.m3_outside.specs.Files.{Files}
-use Rattle.series_slots.proofs.AnswerLemmas.{point_in, in_points}
+use Rattle.fileset_check.specs.m3_outside.Files.{Files}
+use Rattle.held_points.proofs.series_slots_proofs.AnswerLemmas.{point_in, in_points}
 use Rattle.series_merge.proofs.OrderLemmas.{content_in, ordered_has}
-use Rattle.wire_bytes.specs.Points.{IsPoint}
-use Rattle.wire_bytes.specs.Volumes.{VolumeHead, Checkpoint, IsRow, IsVolume, points_of_rows, row_bytes}
-use Rattle.volume_bytes.proofs.RowLemmas.{length_row}
-use Rattle.shard_files.specs.Parts.{KnownVolume, VolumeHolds, part_of}
-use Rattle.shard_files.proofs.PartLemmas.{one_known}
-use Rattle.fileset_read.specs.Rows.{IsSeriesOf}
+use Rattle.fileset_check.specs.wire_bytes.Points.{IsPoint}
+use Rattle.fileset_check.specs.wire_bytes.Volumes.{VolumeHead, Checkpoint, IsRow, IsVolume, points_of_rows, row_bytes}
+use Rattle.fileset_check.proofs.volume_bytes_proofs.RowLemmas.{length_row}
+use Rattle.fileset_check.specs.shard_files.Parts.{KnownVolume, VolumeHolds, part_of}
+use Rattle.fileset_check.proofs.shard_files_proofs.PartLemmas.{one_known}
+use Rattle.fileset_check.specs.fileset_read.Rows.{IsSeriesOf}
 use Rattle.volume_points.specs.Candidates.{AreCandidates, IsOneOf, MayStand, one_or_none}
 use Rattle.volume_points.specs.Picked.{AreAscending, IsPicked, IsSelectionOf, filled}
 use Rattle.volume_points.proofs.PickedLemmas.{IsPart, filled_is, of_matches, parts_ordered}

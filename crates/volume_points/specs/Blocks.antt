@@ -4,9 +4,9 @@ use Rattle.m3_model.specs.Contents.{Contents, content_of}
 use Rattle.m3_model.specs.Members.{IsIn}
 use Rattle.m3_model.specs.Reads.{IsOrdered}
 use Rattle.m3_model.specs.declared.point.Series.{Series}
-use Rattle.wire_bytes.specs.Volumes.{VolumeHead, points_of_rows}
-use Rattle.fileset_read.specs.declared.file_err.FileErr.{FileErr}
-use Rattle.fileset_read.specs.declared.file_err.FileErr.TheVariants as failures
+use Rattle.fileset_check.specs.wire_bytes.Volumes.{VolumeHead, points_of_rows}
+use Rattle.fileset_check.specs.fileset_read.declared.file_err.FileErr.{FileErr}
+use Rattle.fileset_check.specs.fileset_read.declared.file_err.FileErr.TheVariants as failures
 use Rattle.volume_points.specs.declared.block_err.BlockErr.{BlockErr}
 use Rattle.volume_points.specs.declared.block_err.BlockErr.TheVariants as errors
 

@@ -3,8 +3,8 @@ use Rattle.std.specs.Prelude.{◌≡◌, ℕ, ◌≤◌, List, [], ◌∷◌, le
 use Rattle.m3_model.specs.declared.point.Pick.{Pick}
 use Rattle.m3_model.specs.declared.point.Pick.TheVariants as pick
 use Rattle.m3_model.specs.declared.point.Series.{Series}
-use Rattle.wire_bytes.specs.Volumes.{VolumeHead, IsVolume}
-use Rattle.fileset_read.specs.Rows.{IsSeriesOf}
+use Rattle.fileset_check.specs.wire_bytes.Volumes.{VolumeHead, IsVolume}
+use Rattle.fileset_check.specs.fileset_read.Rows.{IsSeriesOf}
 
 abbrev pub one_or_none : Option Series → List Series
 one_or_none None = []

@@ -1,12 +1,12 @@
 -- Volumes by their heads.
 use Rattle.std.specs.Prelude.{◌≡◌, ℕ, Bool, ◌==◌, ◌&&◌, List, map}
 use Rattle.m3_model.specs.Members.{IsIn}
-use Rattle.m3_outside.specs.Files.{Files}
-use Rattle.wire_bytes.specs.Volumes.{VolumeHead}
-use Rattle.shard_files.specs.Parts.{KnownVolume, VolumeHolds}
-use Rattle.volume_bytes.specs.declared.heads.Head.{Head}
-use Rattle.volume_bytes.specs.Heads.{head_of}
-use Rattle.fileset_read.specs.Volumes.{IsThere}
+use Rattle.fileset_check.specs.m3_outside.Files.{Files}
+use Rattle.fileset_check.specs.wire_bytes.Volumes.{VolumeHead}
+use Rattle.fileset_check.specs.shard_files.Parts.{KnownVolume, VolumeHolds}
+use Rattle.fileset_check.specs.volume_bytes.declared.heads.Head.{Head}
+use Rattle.fileset_check.specs.volume_bytes.Heads.{head_of}
+use Rattle.fileset_check.specs.fileset_read.Volumes.{IsThere}
 
 -- each of these volumes is there whole
 abbrev pub AreThere : List Head → Files → Type 0

@@ -8,15 +8,15 @@ use Rattle.m3_model.specs.declared.point.Pick.{Pick}
 use Rattle.m3_model.specs.declared.point.Pick.TheVariants as pick
 use Rattle.m3_model.specs.declared.point.Point.{Point}
 use Rattle.m3_model.specs.declared.point.Series.{Series}
-use Rattle.m3_outside.specs.Files.{Files}
-use Rattle.block_buffer.specs.Held.{is_in_block}
-use Rattle.block_buffer.specs.Joins.{joined}
-use Rattle.series_slots.specs.Ranges.{IsRangeOf}
+use Rattle.fileset_check.specs.m3_outside.Files.{Files}
+use Rattle.held_points.specs.block_buffer.Held.{is_in_block}
+use Rattle.held_points.specs.block_buffer.Joins.{joined}
+use Rattle.held_points.specs.series_slots.Ranges.{IsRangeOf}
 use Rattle.series_merge.specs.Merges.{IsMergeOf}
-use Rattle.wire_bytes.specs.Volumes.{points_of_rows}
-use Rattle.shard_files.specs.Parts.{KnownVolume, VolumesAre}
-use Rattle.volume_bytes.specs.declared.heads.Head.{Head}
-use Rattle.volume_bytes.specs.Heads.{head_of}
+use Rattle.fileset_check.specs.wire_bytes.Volumes.{points_of_rows}
+use Rattle.fileset_check.specs.shard_files.Parts.{KnownVolume, VolumesAre}
+use Rattle.fileset_check.specs.volume_bytes.declared.heads.Head.{Head}
+use Rattle.fileset_check.specs.volume_bytes.Heads.{head_of}
 use Rattle.volume_points.specs.Known.{AreOf, AreThere}
 
 -- answers to one read, of a content and of some points, are merged to the answer of the content joined with the points

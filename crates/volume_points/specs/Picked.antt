@@ -10,7 +10,7 @@ use Rattle.m3_model.specs.declared.point.Pick.TheVariants as pick
 use Rattle.m3_model.specs.declared.point.Point.{Point}
 use Rattle.m3_model.specs.declared.point.Series.{Series}
 use Rattle.held_points.specs.Matched.{IsMatched}
-use Rattle.volume_bytes.specs.declared.heads.Head.{Head}
+use Rattle.fileset_check.specs.volume_bytes.declared.heads.Head.{Head}
 
 -- the pick asks for this identifier
 abbrev pub IsPicked : Pick → List ℕ → Type 0

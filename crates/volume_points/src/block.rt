@@ -4,15 +4,15 @@ ghost use Rattle.m3_model.specs.Members.{IsIn};
 ghost use Rattle.m3_model.specs.Reads.{InRange, IsOrdered};
 ghost use Rattle.m3_model.specs.declared.limits.TheConstants.{DURATION_END};
 ghost use Rattle.m3_model.specs.declared.point.Point.{Point};
-ghost use Rattle.m3_outside.specs.Causes.{CountsFaults};
-ghost use Rattle.m3_outside.specs.DiskState.{DiskState, Told};
-ghost use Rattle.m3_outside.specs.DiskCalls.{LeavesFiles};
-ghost use Rattle.block_buffer.specs.Joins.{joined};
-ghost use Rattle.wire_bytes.specs.Entries.{IsBounded};
-ghost use Rattle.wire_bytes.specs.Volumes.{IsVolume, points_of_rows};
-ghost use Rattle.shard_files.specs.Parts.{KnownVolume};
-ghost use Rattle.shard_files.specs.FilesHold.{volume_points};
-ghost use Rattle.volume_bytes.specs.Heads.{head_of};
+ghost use Rattle.fileset_check.specs.m3_outside.Causes.{CountsFaults};
+ghost use Rattle.fileset_check.specs.m3_outside.DiskState.{DiskState, Told};
+ghost use Rattle.fileset_check.specs.m3_outside.DiskCalls.{LeavesFiles};
+ghost use Rattle.held_points.specs.block_buffer.Joins.{joined};
+ghost use Rattle.fileset_check.specs.wire_bytes.Entries.{IsBounded};
+ghost use Rattle.fileset_check.specs.wire_bytes.Volumes.{IsVolume, points_of_rows};
+ghost use Rattle.fileset_check.specs.shard_files.Parts.{KnownVolume};
+ghost use Rattle.fileset_check.specs.shard_files.FilesHold.{volume_points};
+ghost use Rattle.fileset_check.specs.volume_bytes.Heads.{head_of};
 ghost use Rattle.series_merge.specs.Merges.{IsMergeOf};
 ghost use Rattle.volume_points.specs.Blocks.{AreRowsOf, IsOfNoDamage, IsTooLarge, block_head};
 ghost use Rattle.volume_points.specs.Known.{AreOf, AreThere, is_head_of, is_of};
@@ -21,11 +21,11 @@ ghost use Rattle.volume_points.specs.declared.block_err.BlockErr.TheVariants as 
 use crate::block_err::BlockErr;
 use crate::candidates::may_stand;
 use crate::reading::read;
+use fileset_check::m3_outside::Disk;
+use fileset_check::volume_bytes::Head;
 use m3_model::{Memory, Pick, Seq, Series};
-use m3_outside::Disk;
 use series_merge::merge;
 use std::alloc::Global;
-use volume_bytes::Head;
 
 // Whether the volume is of this block.
 fn is_of_block(head: &Head, ns: u8, start: u64, size: u64) -> bool

@@ -1,6 +1,6 @@
-use fileset_read::FileErr;
+use fileset_check::fileset_read::FileErr;
+use fileset_check::m3_outside::FileName;
 use m3_model::Memory;
-use m3_outside::FileName;
 use thiserror::Error;
 
 /// Why there are no rows for a new volume of a block.

@@ -1,21 +1,21 @@
 ghost use Rattle.std.specs.Prelude.{◌≡◌, ◌≤◌, ◌↔◌, true, List, length, IfOk, IfErr, IfSome, IsErrOf, IsTrue};
 ghost use Rattle.m3_model.specs.declared.point.Series.{Series as Row};
-ghost use Rattle.m3_outside.specs.DiskState.{DiskState, Told};
-ghost use Rattle.m3_outside.specs.DiskCalls.{LeavesFiles};
-ghost use Rattle.shard_files.specs.Parts.{VolumeHolds};
-ghost use Rattle.volume_bytes.specs.Heads.{head_of};
-ghost use Rattle.fileset_read.specs.Rows.{IsSeriesOf};
-ghost use Rattle.fileset_read.specs.Volumes.{IsThere, IsUndamaged};
-ghost use Rattle.fileset_read.specs.declared.file_err.FileErr.TheVariants as failures;
+ghost use Rattle.fileset_check.specs.m3_outside.DiskState.{DiskState, Told};
+ghost use Rattle.fileset_check.specs.m3_outside.DiskCalls.{LeavesFiles};
+ghost use Rattle.fileset_check.specs.shard_files.Parts.{VolumeHolds};
+ghost use Rattle.fileset_check.specs.volume_bytes.Heads.{head_of};
+ghost use Rattle.fileset_check.specs.fileset_read.Rows.{IsSeriesOf};
+ghost use Rattle.fileset_check.specs.fileset_read.Volumes.{IsThere, IsUndamaged};
+ghost use Rattle.fileset_check.specs.fileset_read.declared.file_err.FileErr.TheVariants as failures;
 ghost use Rattle.volume_rows.specs.Seekers.{IsSeekerOf};
 ghost use Rattle.volume_points.specs.Candidates.{AreCandidates, IsOneOf, MayStand, one_or_none};
 
+use fileset_check::fileset_read::{FileErr, rows};
 use fileset_check::is_volume;
-use fileset_read::{FileErr, rows};
+use fileset_check::m3_outside::Disk;
+use fileset_check::volume_bytes::Head;
 use m3_model::{Memory, Pick, Seq, Series};
-use m3_outside::Disk;
 use std::alloc::Global;
-use volume_bytes::Head;
 use volume_rows::{Seeker, row_of, seeker_of};
 
 // The series as a list.

@@ -4,7 +4,7 @@ ghost use Rattle.m3_model.specs.Contents.{Contents, content_of};
 ghost use Rattle.m3_model.specs.Reads.{IsOrdered};
 ghost use Rattle.m3_model.specs.declared.point.Pick.{Pick};
 ghost use Rattle.m3_model.specs.declared.point.Point.{Point};
-ghost use Rattle.block_buffer.specs.Joins.{joined};
+ghost use Rattle.held_points.specs.block_buffer.Joins.{joined};
 ghost use Rattle.series_merge.specs.Merges.{IsMergeOf};
 
 use m3_model::{Memory, Seq, Series};

@@ -17,3 +17,13 @@ pub use block_err::BlockErr;
 pub use joining::join;
 pub use reading::{read, read_volume};
 pub use whole::{checked_rows, may_meet, select_from};
+
+// Libraries that the rows of crates above need not name.
+pub use fileset_check;
+pub use fileset_check::{
+    commit_log, fileset_read, m3_outside, shard_files, volume_bytes, wire_bytes,
+};
+pub use held_points;
+pub use held_points::series_id;
+pub use series_merge;
+pub use volume_rows;

@@ -4,25 +4,25 @@ ghost use Rattle.m3_model.specs.Answers.{IsAnswer};
 ghost use Rattle.m3_model.specs.Contents.{content_of};
 ghost use Rattle.m3_model.specs.Reads.{IsOrdered, space_picked};
 ghost use Rattle.m3_model.specs.declared.point.Series.{Series as Row};
-ghost use Rattle.m3_outside.specs.Causes.{CountsFaults};
-ghost use Rattle.m3_outside.specs.DiskState.{DiskState, Told};
-ghost use Rattle.m3_outside.specs.DiskCalls.{LeavesFiles};
-ghost use Rattle.wire_bytes.specs.Volumes.{IsVolume, points_of_rows};
-ghost use Rattle.shard_files.specs.Parts.{VolumeHolds};
-ghost use Rattle.volume_bytes.specs.Heads.{head_of};
-ghost use Rattle.fileset_read.specs.Volumes.{IsThere, IsUndamaged};
-ghost use Rattle.fileset_read.specs.declared.file_err.FileErr.TheVariants as failures;
+ghost use Rattle.fileset_check.specs.m3_outside.Causes.{CountsFaults};
+ghost use Rattle.fileset_check.specs.m3_outside.DiskState.{DiskState, Told};
+ghost use Rattle.fileset_check.specs.m3_outside.DiskCalls.{LeavesFiles};
+ghost use Rattle.fileset_check.specs.wire_bytes.Volumes.{IsVolume, points_of_rows};
+ghost use Rattle.fileset_check.specs.shard_files.Parts.{VolumeHolds};
+ghost use Rattle.fileset_check.specs.volume_bytes.Heads.{head_of};
+ghost use Rattle.fileset_check.specs.fileset_read.Volumes.{IsThere, IsUndamaged};
+ghost use Rattle.fileset_check.specs.fileset_read.declared.file_err.FileErr.TheVariants as failures;
 ghost use Rattle.volume_points.specs.Picked.{AreAscending, IsSelectionOf, cut_series, is_between};
 
 use crate::candidates::may_stand;
 use crate::matching::is_picked;
 use crate::ranges::{add, is_inside};
 use crate::reading::{data_of, meets, space_of};
-use fileset_read::{FileErr, rows};
+use fileset_check::fileset_read::{FileErr, rows};
+use fileset_check::m3_outside::Disk;
+use fileset_check::volume_bytes::Head;
 use m3_model::{Duplicate, Memory, Pick, Seq, Series};
-use m3_outside::Disk;
 use std::alloc::Global;
-use volume_bytes::Head;
 
 /// Whether a volume of this head may have a point with `from <= t < to` that the pick asks for, as far as its namespace and its
 /// block tell. Takes no memory.

@@ -2,11 +2,11 @@
 use Rattle.std.proofs.Common.{◌≡◌, ℕ, ◌+◌, ◌≤◌, List, ◌++◌, length, take, drop, Option, Some, sym, ap, subst, ◌∙◌}
 use Rattle.std.specs.Prelude.{option_map}
 use Rattle.std.specs.FinMap.{get}
-use Rattle.m3_model.specs.declared.point.Series.{Series}
-use Rattle.m3_outside.specs.Files.{Files, IsInside}
-use Rattle.m3_outside.specs.declared.file_name.FileName.{FileName}
-use Rattle.wire_bytes.specs.Volumes.{VolumeHead, IsVolume, Part, Data, Index, Bloom, Summaries, part_bytes, bloom_bytes, summaries_bytes, row_bytes, data_bytes, index_bytes, index_from}
-use Rattle.shard_files.specs.Parts.{VolumeHolds, part_of}
+use Rattle.fileset_read.specs.m3_model.declared.point.Series.{Series}
+use Rattle.fileset_read.specs.m3_outside.Files.{Files, IsInside}
+use Rattle.fileset_read.specs.m3_outside.declared.file_name.FileName.{FileName}
+use Rattle.fileset_read.specs.wire_bytes.Volumes.{VolumeHead, IsVolume, Part, Data, Index, Bloom, Summaries, part_bytes, bloom_bytes, summaries_bytes, row_bytes, data_bytes, index_bytes, index_from}
+use Rattle.fileset_read.specs.shard_files.Parts.{VolumeHolds, part_of}
 use Rattle.fileset_lookup.specs.declared.entries.Spot.{Spot}
 use Rattle.volume_rows.specs.Seekers.{IsSeekerOf, Seeks}
 use Rattle.volume_rows.specs.declared.seeker.Seeker.{Seeker}

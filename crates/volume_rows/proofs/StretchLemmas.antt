@@ -3,10 +3,10 @@ use Rattle.std.proofs.Common.{◌≡◌, ◌⊎◌, inl, inr, ℕ, ◌+◌, ◌-
 use Rattle.std.specs.Option.{unwrap_or}
 use Rattle.std.proofs.lemmas.List.{take_at, drop_at}
 use Rattle.std.proofs.lemmas.List.Concat.{flat_map-append}
-use Rattle.m3_model.specs.Members.{IsIn}
-use Rattle.m3_model.specs.declared.point.Series.{Series}
-use Rattle.m3_model.proofs.MemberLemmas.{IsIn-append_right, IsIn-append_cases}
-use Rattle.wire_bytes.specs.Volumes.{row_bytes, data_bytes, index_bytes, index_entry, index_from}
+use Rattle.fileset_read.specs.m3_model.Members.{IsIn}
+use Rattle.fileset_read.specs.m3_model.declared.point.Series.{Series}
+use Rattle.fileset_read.proofs.m3_model_proofs.MemberLemmas.{IsIn-append_right, IsIn-append_cases}
+use Rattle.fileset_read.specs.wire_bytes.Volumes.{row_bytes, data_bytes, index_bytes, index_entry, index_from}
 use Rattle.fileset_lookup.specs.Runs.{AreAbove, IsPiece, offset_of}
 use Rattle.fileset_lookup.specs.Spots.{FindsSpot}
 use Rattle.fileset_lookup.specs.declared.entries.Spot.{Spot}

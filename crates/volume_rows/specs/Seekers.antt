@@ -1,10 +1,10 @@
 -- What a look-up begins with.
 use Rattle.std.specs.Prelude.{◌≡◌, List, length, Some, option_map}
 use Rattle.std.specs.FinMap.{get}
-use Rattle.m3_model.specs.declared.point.Series.{Series}
-use Rattle.m3_outside.specs.Files.{Files}
-use Rattle.wire_bytes.specs.Volumes.{VolumeHead, Bloom, Index, Summaries, bloom_bytes, index_bytes, summaries_bytes}
-use Rattle.shard_files.specs.Parts.{part_of}
+use Rattle.fileset_read.specs.m3_model.declared.point.Series.{Series}
+use Rattle.fileset_read.specs.m3_outside.Files.{Files}
+use Rattle.fileset_read.specs.wire_bytes.Volumes.{VolumeHead, Bloom, Index, Summaries, bloom_bytes, index_bytes, summaries_bytes}
+use Rattle.fileset_read.specs.shard_files.Parts.{part_of}
 use Rattle.volume_rows.specs.declared.seeker.Seeker.{Seeker}
 
 -- the seeker has the bloom filter and the summaries of the volume, as its files have them, and the size of its index

@@ -1,10 +1,10 @@
 -- Where a look-up reads: a piece of the index, and then a piece of the data.
 use Rattle.std.specs.Prelude.{◌≡◌, ℕ, List, ◌∷◌, ◌++◌, length, Option, Some, None}
-use Rattle.m3_model.specs.Members.{IsIn}
-use Rattle.m3_model.specs.declared.point.Series.{Series}
-use Rattle.m3_outside.specs.Files.{Files}
-use Rattle.wire_bytes.specs.Volumes.{VolumeHead, row_bytes, data_bytes, index_bytes}
-use Rattle.shard_files.specs.Parts.{VolumeHolds}
+use Rattle.fileset_read.specs.m3_model.Members.{IsIn}
+use Rattle.fileset_read.specs.m3_model.declared.point.Series.{Series}
+use Rattle.fileset_read.specs.m3_outside.Files.{Files}
+use Rattle.fileset_read.specs.wire_bytes.Volumes.{VolumeHead, row_bytes, data_bytes, index_bytes}
+use Rattle.fileset_read.specs.shard_files.Parts.{VolumeHolds}
 use Rattle.fileset_lookup.specs.declared.entries.Spot.{Spot}
 use Rattle.volume_rows.specs.declared.entries.Stretch.{Stretch}
 

@@ -1,9 +1,9 @@
 ghost use Rattle.std.specs.Prelude.{◌≡◌, true, List, IfOk, IfErr, IsErrOf};
-ghost use Rattle.m3_model.specs.declared.point.Series.{Series as Row};
-ghost use Rattle.m3_outside.specs.DiskState.{DiskState, Told};
-ghost use Rattle.m3_outside.specs.DiskCalls.{LeavesFiles};
-ghost use Rattle.wire_bytes.specs.Volumes.{VolumeHead, IsVolume};
-ghost use Rattle.volume_bytes.specs.Heads.{head_of};
+ghost use Rattle.fileset_read.specs.m3_model.declared.point.Series.{Series as Row};
+ghost use Rattle.fileset_read.specs.m3_outside.DiskState.{DiskState, Told};
+ghost use Rattle.fileset_read.specs.m3_outside.DiskCalls.{LeavesFiles};
+ghost use Rattle.fileset_read.specs.wire_bytes.Volumes.{VolumeHead, IsVolume};
+ghost use Rattle.fileset_read.specs.volume_bytes.Heads.{head_of};
 ghost use Rattle.fileset_read.specs.Volumes.{IsThere, IsUndamaged};
 ghost use Rattle.fileset_read.specs.declared.file_err.FileErr.TheVariants as failures;
 ghost use Rattle.fileset_lookup.specs.Runs.{Gives};
@@ -14,10 +14,10 @@ use crate::parts::{INDEX, part_name, read_stretch};
 use crate::seeker::Seeker;
 use fileset_lookup::{Spot, find, may_hold, span};
 use fileset_read::FileErr;
-use m3_outside::Disk;
+use fileset_read::m3_outside::Disk;
+use fileset_read::volume_bytes::Head;
+use fileset_read::wire_bytes::WireErr;
 use std::alloc::Global;
-use volume_bytes::Head;
-use wire_bytes::WireErr;
 
 /// A piece of a file: its offset, and how many bytes it has.
 #[derive(Clone, Copy)]

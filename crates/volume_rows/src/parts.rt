@@ -1,20 +1,20 @@
 ghost use Rattle.std.specs.Prelude.{◌≡◌, true, ℕ, List, length, take, drop, Some, IfOk, IfErr, IsErrOf, option_map};
 ghost use Rattle.std.specs.FinMap.{get};
-ghost use Rattle.m3_outside.specs.DiskState.{DiskState, Told};
-ghost use Rattle.m3_outside.specs.DiskCalls.{LeavesFiles};
-ghost use Rattle.m3_outside.specs.Files.{IsInside};
-ghost use Rattle.m3_outside.specs.declared.disk_err.DiskErr.TheVariants.{Failed as DiskFailed};
-ghost use Rattle.wire_bytes.specs.Volumes.{Part};
-ghost use Rattle.shard_files.specs.Parts.{kind_of, part_of};
-ghost use Rattle.volume_bytes.specs.Heads.{head_of};
+ghost use Rattle.fileset_read.specs.m3_outside.DiskState.{DiskState, Told};
+ghost use Rattle.fileset_read.specs.m3_outside.DiskCalls.{LeavesFiles};
+ghost use Rattle.fileset_read.specs.m3_outside.Files.{IsInside};
+ghost use Rattle.fileset_read.specs.m3_outside.declared.disk_err.DiskErr.TheVariants.{Failed as DiskFailed};
+ghost use Rattle.fileset_read.specs.wire_bytes.Volumes.{Part};
+ghost use Rattle.fileset_read.specs.shard_files.Parts.{kind_of, part_of};
+ghost use Rattle.fileset_read.specs.volume_bytes.Heads.{head_of};
 ghost use Rattle.fileset_read.specs.Volumes.{IsUndamaged};
 ghost use Rattle.fileset_read.specs.declared.file_err.FileErr.TheVariants as failures;
 
+use fileset_read::m3_model::Seq;
+use fileset_read::m3_outside::{Disk, DiskErr, FileName};
+use fileset_read::volume_bytes::Head;
 use fileset_read::{FileErr, read_file};
-use m3_model::Seq;
-use m3_outside::{Disk, DiskErr, FileName};
 use std::alloc::Global;
-use volume_bytes::Head;
 
 // The kinds of the files of a volume that are read here.
 pub(crate) const SUMMARIES: u8 = 2;

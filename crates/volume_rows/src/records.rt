@@ -1,10 +1,10 @@
 ghost use Rattle.std.specs.Prelude.{◌≡◌, true, IfOk, IfErr, IsErrOf};
-ghost use Rattle.m3_model.specs.Members.{IsIn};
-ghost use Rattle.m3_model.specs.declared.point.Series.{Series as Row};
-ghost use Rattle.m3_outside.specs.DiskState.{DiskState, Told};
-ghost use Rattle.m3_outside.specs.DiskCalls.{LeavesFiles};
-ghost use Rattle.wire_bytes.specs.Volumes.{row_bytes};
-ghost use Rattle.volume_bytes.specs.Heads.{head_of};
+ghost use Rattle.fileset_read.specs.m3_model.Members.{IsIn};
+ghost use Rattle.fileset_read.specs.m3_model.declared.point.Series.{Series as Row};
+ghost use Rattle.fileset_read.specs.m3_outside.DiskState.{DiskState, Told};
+ghost use Rattle.fileset_read.specs.m3_outside.DiskCalls.{LeavesFiles};
+ghost use Rattle.fileset_read.specs.wire_bytes.Volumes.{row_bytes};
+ghost use Rattle.fileset_read.specs.volume_bytes.Heads.{head_of};
 ghost use Rattle.fileset_read.specs.Rows.{Gives, IsSpelled};
 ghost use Rattle.fileset_read.specs.Volumes.{IsThere, IsUndamaged, in_file};
 ghost use Rattle.fileset_read.specs.declared.file_err.FileErr.TheVariants as failures;
@@ -12,11 +12,11 @@ ghost use Rattle.volume_rows.specs.Stretches.{HasRecord, OfVolume};
 
 use crate::parts::{DATA, part_name, read_stretch};
 use fileset_lookup::Spot;
+use fileset_read::m3_model::Series;
+use fileset_read::m3_outside::{Disk, FileName};
+use fileset_read::volume_bytes::Head;
 use fileset_read::{FileErr, RowErr, rows_in};
-use m3_model::Series;
-use m3_outside::{Disk, FileName};
 use std::alloc::Global;
-use volume_bytes::Head;
 
 // The series of the identifier, whose record the bytes are.
 fn row_in(alloc: Global, bytes: &[u8], id: &str) -> Result<Series, RowErr>

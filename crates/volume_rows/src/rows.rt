@@ -1,10 +1,10 @@
 ghost use Rattle.std.specs.Prelude.{◌≡◌, true, List, IfOk, IfErr, IfSome, IsErrOf};
-ghost use Rattle.m3_model.specs.declared.point.Series.{Series as Row};
-ghost use Rattle.m3_outside.specs.Causes.{CountsFaults};
-ghost use Rattle.m3_outside.specs.DiskState.{DiskState, Told};
-ghost use Rattle.m3_outside.specs.DiskCalls.{LeavesFiles};
-ghost use Rattle.shard_files.specs.Parts.{VolumeHolds};
-ghost use Rattle.volume_bytes.specs.Heads.{head_of};
+ghost use Rattle.fileset_read.specs.m3_model.declared.point.Series.{Series as Row};
+ghost use Rattle.fileset_read.specs.m3_outside.Causes.{CountsFaults};
+ghost use Rattle.fileset_read.specs.m3_outside.DiskState.{DiskState, Told};
+ghost use Rattle.fileset_read.specs.m3_outside.DiskCalls.{LeavesFiles};
+ghost use Rattle.fileset_read.specs.shard_files.Parts.{VolumeHolds};
+ghost use Rattle.fileset_read.specs.volume_bytes.Heads.{head_of};
 ghost use Rattle.fileset_read.specs.Rows.{IsSeriesOf};
 ghost use Rattle.fileset_read.specs.Volumes.{IsThere, IsUndamaged};
 ghost use Rattle.fileset_read.specs.declared.file_err.FileErr.TheVariants as failures;
@@ -15,10 +15,10 @@ use crate::parts::{SUMMARIES, part_name};
 use crate::records::read_row;
 use crate::seeker::Seeker;
 use fileset_read::FileErr;
-use m3_model::Series;
-use m3_outside::Disk;
+use fileset_read::m3_model::Series;
+use fileset_read::m3_outside::Disk;
+use fileset_read::volume_bytes::Head;
 use std::alloc::Global;
-use volume_bytes::Head;
 
 /// The series of an identifier in a volume that counts, and none where the volume has none. Where the volume's bloom filter and
 /// summaries exclude the identifier, nothing is read; else a piece of the index of 16 entries at most, and the record of the series

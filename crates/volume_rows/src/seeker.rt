@@ -1,18 +1,18 @@
 ghost use Rattle.std.specs.Prelude.{◌≡◌, true, IfOk, IfErr, IsErrOf};
-ghost use Rattle.m3_outside.specs.Causes.{CountsFaults};
-ghost use Rattle.m3_outside.specs.DiskState.{DiskState, Told};
-ghost use Rattle.m3_outside.specs.DiskCalls.{LeavesFiles};
-ghost use Rattle.volume_bytes.specs.Heads.{head_of};
+ghost use Rattle.fileset_read.specs.m3_outside.Causes.{CountsFaults};
+ghost use Rattle.fileset_read.specs.m3_outside.DiskState.{DiskState, Told};
+ghost use Rattle.fileset_read.specs.m3_outside.DiskCalls.{LeavesFiles};
+ghost use Rattle.fileset_read.specs.volume_bytes.Heads.{head_of};
 ghost use Rattle.fileset_read.specs.Volumes.{IsThere, IsUndamaged};
 ghost use Rattle.fileset_read.specs.declared.file_err.FileErr.TheVariants as failures;
 ghost use Rattle.volume_rows.specs.Seekers.{IsSeekerOf};
 
 use crate::parts::{BLOOM, INDEX, SUMMARIES, part_len, part_name, read_part};
 use fileset_read::FileErr;
-use m3_model::Seq;
-use m3_outside::Disk;
+use fileset_read::m3_model::Seq;
+use fileset_read::m3_outside::Disk;
+use fileset_read::volume_bytes::Head;
 use std::alloc::Global;
-use volume_bytes::Head;
 
 /// What a caller keeps of a volume to look identifiers up in it, as long as the volume stays. It has two bytes for each series and
 /// a summary for every sixteenth.

@@ -8,17 +8,17 @@ use Rattle.m3_model.specs.Members.{IsIn}
 use Rattle.m3_model.specs.declared.point.Series.{Series}
 use Rattle.m3_model.proofs.MemberLemmas.{IsIn-map, IsIn-append_left}
 use Rattle.m3_model.proofs.Lists.{IsIn-filter, filter-IsIn}
-use Rattle.m3_outside.specs.declared.disk_err.DiskErr.{DiskErr}
-use Rattle.m3_outside.specs.declared.file_name.FileName.{FileName}
-use Rattle.m3_outside.specs.DiskState.{DiskState, EachImage, StepOf, Elapses, Becomes, IsLawfulDisk, HaveSameNames}
-use Rattle.m3_outside.specs.Files.{Files, IsAbsent}
-use Rattle.m3_outside.specs.Removal.{without_files, MayTakeAway, HasTakenAway}
-use Rattle.m3_outside.proofs.Moments.{step_as, elapses_as}
-use Rattle.m3_outside.proofs.Removal.{none_stays, gone_none, left_same}
-use Rattle.commit_log.specs.Contents.{numbers}
-use Rattle.commit_log.specs.LogEnd.{LogEnd, LogEndStands}
-use Rattle.commit_log.specs.Segment.{segment}
-use Rattle.wire_bytes.specs.Volumes.{VolumeHead, Part, Info, Summaries, Index, Data, Bloom, Digests, Checkpoint}
+use Rattle.shard_files.specs.m3_outside.declared.disk_err.DiskErr.{DiskErr}
+use Rattle.shard_files.specs.m3_outside.declared.file_name.FileName.{FileName}
+use Rattle.shard_files.specs.m3_outside.DiskState.{DiskState, EachImage, StepOf, Elapses, Becomes, IsLawfulDisk, HaveSameNames}
+use Rattle.shard_files.specs.m3_outside.Files.{Files, IsAbsent}
+use Rattle.shard_files.specs.m3_outside.Removal.{without_files, MayTakeAway, HasTakenAway}
+use Rattle.shard_files.proofs.m3_outside_proofs.Moments.{step_as, elapses_as}
+use Rattle.shard_files.proofs.m3_outside_proofs.Removal.{none_stays, gone_none, left_same}
+use Rattle.shard_files.specs.commit_log.Contents.{numbers}
+use Rattle.shard_files.specs.commit_log.LogEnd.{LogEnd, LogEndStands}
+use Rattle.shard_files.specs.commit_log.Segment.{segment}
+use Rattle.shard_files.specs.wire_bytes.Volumes.{VolumeHead, Part, Info, Summaries, Index, Data, Bloom, Digests, Checkpoint}
 use Rattle.shard_files.specs.Parts.{KnownVolume, kind_of, part_name, part_of}
 use Rattle.shard_files.specs.Keeps.{Keeps}
 use Rattle.shard_files.specs.Steps.{OthersStay, is_part, IsPartOf, next_volume, volume_after, MayWrite, Wrote, WroteNone, files_of_volume, parts_there}

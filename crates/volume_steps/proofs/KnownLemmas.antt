@@ -9,10 +9,10 @@ use Rattle.m3_model.specs.declared.point.Series.{Series}
 use Rattle.m3_model.proofs.MemberLemmas.{IsIn-append_left, IsIn-append_right, IsIn-append_cases}
 use Rattle.m3_model.proofs.Lists.{IsIn-filter, IsIn-filter_passes, filter-IsIn}
 use Rattle.m3_model.proofs.Ascending.{Ascends-filter}
-use Rattle.m3_outside.specs.declared.file_name.FileName.{FileName}
-use Rattle.m3_outside.specs.Files.{Files, IsAbsent}
-use Rattle.m3_outside.proofs.Names.{name_is}
-use Rattle.wire_bytes.specs.Volumes.{VolumeHead, Part, Checkpoint}
+use Rattle.shard_files.specs.m3_outside.declared.file_name.FileName.{FileName}
+use Rattle.shard_files.specs.m3_outside.Files.{Files, IsAbsent}
+use Rattle.shard_files.proofs.m3_outside_proofs.Names.{name_is}
+use Rattle.shard_files.specs.wire_bytes.Volumes.{VolumeHead, Part, Checkpoint}
 use Rattle.shard_files.specs.Parts.{is_open, part_name, part_of, KnownVolume, IsKnown, AreKnown, VolumesAre, is_volume_checkpoint, counted_volumes}
 use Rattle.shard_files.specs.FilesHold.{Counted, HoldParts, file_points, points_known, volume_points}
 use Rattle.shard_files.specs.Keeps.{IsFilePoint}

@@ -10,10 +10,10 @@ use Rattle.std.proofs.lemmas.Cmp.{nat_cmp_total}
 use Rattle.m3_model.specs.Ascends.{Ascends}
 use Rattle.m3_model.specs.Members.{IsIn}
 use Rattle.m3_model.proofs.Orders.{less_from}
-use Rattle.m3_outside.specs.declared.file_name.FileName.{FileName}
-use Rattle.m3_outside.specs.Files.{Files, name_cmp}
-use Rattle.m3_outside.proofs.Names.{name_total, name_same}
-use Rattle.wire_bytes.specs.Volumes.{Checkpoint}
+use Rattle.shard_files.specs.m3_outside.declared.file_name.FileName.{FileName}
+use Rattle.shard_files.specs.m3_outside.Files.{Files, name_cmp}
+use Rattle.shard_files.proofs.m3_outside_proofs.Names.{name_total, name_same}
+use Rattle.shard_files.specs.wire_bytes.Volumes.{Checkpoint}
 use Rattle.shard_files.specs.Parts.{part_name, part_of, KnownVolume, IsKnown, AreKnown}
 use Rattle.shard_files.proofs.CountedLemmas.{Before}
 use Rattle.volume_steps.specs.KnownLists.{head_cmp, with_volume, is_volume_at, without_volume}

@@ -7,11 +7,11 @@ use Rattle.m3_model.specs.Contents.{Contents, key_of, raised}
 use Rattle.m3_model.specs.Members.{IsIn}
 use Rattle.m3_model.specs.declared.point.Point.{Point}
 use Rattle.m3_model.proofs.MemberLemmas.{IsIn-append_left, IsIn-append_right, IsIn-append_cases}
-use Rattle.m3_outside.specs.declared.file_name.FileName.{FileName}
-use Rattle.m3_outside.specs.Files.{Files}
-use Rattle.m3_outside.proofs.Names.{get_apart}
-use Rattle.commit_log.specs.Segment.{segment, Adds}
-use Rattle.commit_log.specs.LogEnd.{NoneAbove, NoneFrom, MayBeginSegment}
+use Rattle.shard_files.specs.m3_outside.declared.file_name.FileName.{FileName}
+use Rattle.shard_files.specs.m3_outside.Files.{Files}
+use Rattle.shard_files.proofs.m3_outside_proofs.Names.{get_apart}
+use Rattle.shard_files.specs.commit_log.Segment.{segment, Adds}
+use Rattle.shard_files.specs.commit_log.LogEnd.{NoneAbove, NoneFrom, MayBeginSegment}
 use Rattle.volume_steps.proofs.LawLemmas.{raised_from}
 use Rattle.shard_files.specs.declared.entries.LogEntry.{LogEntry}
 use Rattle.shard_files.specs.Entries.{IsEntry}

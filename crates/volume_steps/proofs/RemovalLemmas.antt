@@ -10,16 +10,16 @@ use Rattle.m3_model.specs.Members.{IsIn}
 use Rattle.m3_model.proofs.MemberLemmas.{IsIn-append_cases}
 use Rattle.m3_model.proofs.Lists.{IsIn-get_or, IsIn-filter, IsIn-filter_passes, filter-IsIn}
 use Rattle.m3_model.specs.declared.point.Point.{Point}
-use Rattle.m3_outside.specs.Causes.{CountsFaults}
-use Rattle.m3_outside.specs.DiskState.{DiskState, EachImage, Elapses}
-use Rattle.m3_outside.specs.DiskCalls.{LeavesFiles}
-use Rattle.m3_outside.specs.Files.{Files, IsAbsent}
-use Rattle.m3_outside.specs.declared.file_name.FileName.{FileName}
-use Rattle.m3_outside.proofs.Moments.{elapses_as, elapses_then}
-use Rattle.commit_log.specs.Contents.{numbers}
-use Rattle.commit_log.specs.LogEnd.{LogEnd, LogEndStands}
-use Rattle.commit_log.proofs.Begin.{stands_stays}
-use Rattle.wire_bytes.specs.Volumes.{Part}
+use Rattle.shard_files.specs.m3_outside.Causes.{CountsFaults}
+use Rattle.shard_files.specs.m3_outside.DiskState.{DiskState, EachImage, Elapses}
+use Rattle.shard_files.specs.m3_outside.DiskCalls.{LeavesFiles}
+use Rattle.shard_files.specs.m3_outside.Files.{Files, IsAbsent}
+use Rattle.shard_files.specs.m3_outside.declared.file_name.FileName.{FileName}
+use Rattle.shard_files.proofs.m3_outside_proofs.Moments.{elapses_as, elapses_then}
+use Rattle.shard_files.specs.commit_log.Contents.{numbers}
+use Rattle.shard_files.specs.commit_log.LogEnd.{LogEnd, LogEndStands}
+use Rattle.shard_files.proofs.commit_log_proofs.Begin.{stands_stays}
+use Rattle.shard_files.specs.wire_bytes.Volumes.{Part}
 use Rattle.shard_files.specs.Parts.{kind_of, part_name, KnownVolume}
 use Rattle.shard_files.specs.Steps.{OthersStay, is_part}
 use Rattle.shard_files.specs.FilesHold.{volume_points}

@@ -5,8 +5,8 @@ use Rattle.m3_model.specs.Contents.{Contents}
 use Rattle.m3_model.specs.Members.{IsIn}
 use Rattle.m3_model.specs.declared.point.Point.{Point}
 use Rattle.m3_model.specs.declared.point.Series.{Series}
-use Rattle.m3_outside.specs.Files.{Files}
-use Rattle.wire_bytes.specs.Volumes.{points_of_rows}
+use Rattle.shard_files.specs.m3_outside.Files.{Files}
+use Rattle.shard_files.specs.wire_bytes.Volumes.{points_of_rows}
 use Rattle.shard_files.specs.HeldEntries.{points_of}
 use Rattle.shard_files.specs.Parts.{KnownVolume}
 use Rattle.shard_files.specs.FilesHold.{Counted, FilesHold, points_in_newest, volume_points}

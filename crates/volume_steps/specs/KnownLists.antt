@@ -5,8 +5,8 @@ use Rattle.std.specs.Ordering.{nat_cmp, on, then_cmp, is_lt}
 use Rattle.std.specs.declared.cmp.Ordering.{Ordering}
 use Rattle.m3_model.specs.Members.{IsIn}
 use Rattle.m3_model.specs.declared.point.Series.{Series}
-use Rattle.m3_outside.specs.declared.file_name.FileName.{FileName}
-use Rattle.wire_bytes.specs.Volumes.{VolumeHead}
+use Rattle.shard_files.specs.m3_outside.declared.file_name.FileName.{FileName}
+use Rattle.shard_files.specs.wire_bytes.Volumes.{VolumeHead}
 use Rattle.shard_files.specs.Parts.{KnownVolume}
 use Rattle.shard_files.specs.Steps.{is_part}
 use Rattle.volume_bytes.specs.declared.heads.Head.{Head}

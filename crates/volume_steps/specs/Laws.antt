@@ -4,10 +4,10 @@ use Rattle.m3_model.specs.Answers.{HasPoint}
 use Rattle.m3_model.specs.Contents.{Contents, raised, content_of}
 use Rattle.m3_model.specs.Members.{IsIn}
 use Rattle.m3_model.specs.declared.point.Point.{Point}
-use Rattle.m3_outside.specs.Files.{Files}
-use Rattle.m3_outside.specs.DiskState.{DiskState, Told, EachImage}
-use Rattle.commit_log.specs.LogEnd.{NoneAbove, NoneFrom, MayBeginSegment}
-use Rattle.commit_log.specs.Segment.{segment, Adds}
+use Rattle.shard_files.specs.m3_outside.Files.{Files}
+use Rattle.shard_files.specs.m3_outside.DiskState.{DiskState, Told, EachImage}
+use Rattle.shard_files.specs.commit_log.LogEnd.{NoneAbove, NoneFrom, MayBeginSegment}
+use Rattle.shard_files.specs.commit_log.Segment.{segment, Adds}
 use Rattle.shard_files.specs.declared.entries.LogEntry.{LogEntry}
 use Rattle.shard_files.specs.Entries.{IsEntry}
 use Rattle.shard_files.specs.HeldEntries.{points_in, tenure_in, fence_in}

@@ -1,13 +1,13 @@
 ghost use Rattle.std.specs.Prelude.{◌≡◌, ◌+◌, ◌*◌, ◌≤◌, ℕ, true, length, List, IsErrOf, OnOk};
 ghost use Rattle.m3_model.specs.Contents.{Contents};
 ghost use Rattle.m3_model.specs.Members.{IsIn};
-ghost use Rattle.m3_outside.specs.Causes.{CountsFaults};
-ghost use Rattle.m3_outside.specs.DiskState.{DiskState, EachImage, Elapses, Becomes};
-ghost use Rattle.m3_outside.specs.Files.{IsAbsent};
-ghost use Rattle.m3_outside.specs.declared.disk_err.DiskErr.TheVariants.{Failed as DiskFailed, Memory as WantOfMemory};
-ghost use Rattle.commit_log.specs.Contents.{numbers};
-ghost use Rattle.commit_log.specs.LogEnd.{LogEnd, LogEndStands};
-ghost use Rattle.wire_bytes.specs.Volumes.{Part};
+ghost use Rattle.shard_files.specs.m3_outside.Causes.{CountsFaults};
+ghost use Rattle.shard_files.specs.m3_outside.DiskState.{DiskState, EachImage, Elapses, Becomes};
+ghost use Rattle.shard_files.specs.m3_outside.Files.{IsAbsent};
+ghost use Rattle.shard_files.specs.m3_outside.declared.disk_err.DiskErr.TheVariants.{Failed as DiskFailed, Memory as WantOfMemory};
+ghost use Rattle.shard_files.specs.commit_log.Contents.{numbers};
+ghost use Rattle.shard_files.specs.commit_log.LogEnd.{LogEnd, LogEndStands};
+ghost use Rattle.shard_files.specs.wire_bytes.Volumes.{Part};
 ghost use Rattle.shard_files.specs.Keeps.{Keeps};
 ghost use Rattle.shard_files.specs.Parts.{KnownVolume, part_name};
 ghost use Rattle.shard_files.specs.Steps.{OthersStay, is_part};
@@ -16,7 +16,7 @@ ghost use Rattle.volume_steps.specs.Known.{HoldsKnown, HaveContent};
 ghost use Rattle.volume_steps.specs.KnownLists.{IsOfOne, without_volume, without_volumes};
 
 use fileset_write::remove;
-use m3_outside::{Disk, DiskErr};
+use shard_files::m3_outside::{Disk, DiskErr};
 use volume_bytes::Head;
 
 /// Takes away the volume of this namespace, start and number, complete or not, its checkpoint first. What is to be kept is in

@@ -1,12 +1,12 @@
 ghost use Rattle.std.specs.Prelude.{◌≡◌, ◌<◌, ◌≤◌, ℕ, true, List, IfOk, IsErr, IsErrOf};
 ghost use Rattle.m3_model.specs.Contents.{Contents};
 ghost use Rattle.m3_model.specs.declared.limits.TheConstants.{NUMBER_END};
-ghost use Rattle.m3_outside.specs.Causes.{CountsFaults};
-ghost use Rattle.m3_outside.specs.DiskState.{DiskState, EachImage, Elapses};
-ghost use Rattle.m3_outside.specs.declared.disk_err.DiskErr.TheVariants.{Failed as DiskFailed, Memory as WantOfMemory};
-ghost use Rattle.commit_log.specs.Contents.{numbers};
-ghost use Rattle.commit_log.specs.LogEnd.{LogEnd, LogEndStands};
-ghost use Rattle.wire_bytes.specs.Volumes.{IsVolume};
+ghost use Rattle.shard_files.specs.m3_outside.Causes.{CountsFaults};
+ghost use Rattle.shard_files.specs.m3_outside.DiskState.{DiskState, EachImage, Elapses};
+ghost use Rattle.shard_files.specs.m3_outside.declared.disk_err.DiskErr.TheVariants.{Failed as DiskFailed, Memory as WantOfMemory};
+ghost use Rattle.shard_files.specs.commit_log.Contents.{numbers};
+ghost use Rattle.shard_files.specs.commit_log.LogEnd.{LogEnd, LogEndStands};
+ghost use Rattle.shard_files.specs.wire_bytes.Volumes.{IsVolume};
 ghost use Rattle.shard_files.specs.Keeps.{Keeps};
 ghost use Rattle.shard_files.specs.Parts.{KnownVolume};
 ghost use Rattle.shard_files.specs.Steps.{OthersStay, is_part, next_volume};
@@ -15,7 +15,7 @@ ghost use Rattle.volume_steps.specs.KnownLists.{volume_of, with_volume};
 
 use fileset_write::write;
 use m3_model::{Seq, Series};
-use m3_outside::{Disk, DiskErr};
+use shard_files::m3_outside::{Disk, DiskErr};
 use std::alloc::Global;
 
 /// Writes a volume of format 1 with these rows for the block of this namespace, start and size, and gives its number: one

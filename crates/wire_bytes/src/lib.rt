@@ -17,3 +17,6 @@ pub use entry_read::{EntryAt, get_entry};
 pub use numbers::{get_between, get_number, put_number};
 pub use points::{PointAt, get_point, put_point};
 pub use wire_err::WireErr;
+
+// Libraries that the rows of crates above need not name.
+pub use m3_model;

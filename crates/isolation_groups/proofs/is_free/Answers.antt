@@ -1,6 +1,6 @@
 use Rattle.std.proofs.Common.{◌≢◌}
-use Rattle.m3_model.specs.declared.placement.Assignment.{Assignment}
-use Rattle.m3_model.proofs.Lists.{All-from_each}
+use Rattle.placement_core.specs.m3_model.declared.placement.Assignment.{Assignment}
+use Rattle.placement_core.proofs.m3_model_proofs.Lists.{All-from_each}
 use Rattle.placement_core.proofs.ListLemmas.{each-from_All}
 use Rattle.isolation_groups.specs.Groups.{group_of}
 use Rattle.isolation_groups.proofs.is_free.Goals as goal

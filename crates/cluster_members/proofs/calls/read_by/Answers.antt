@@ -1,6 +1,6 @@
 use Rattle.std.proofs.Common.{sym, subst}
 use Rattle.m3_model.specs.declared.answer.Answer.{Answer}
-use Rattle.session_net.specs.Ready.{IsReady, IsCallable}
+use Rattle.session_writes.specs.session_net.Ready.{IsReady, IsCallable}
 use Rattle.cluster_members.specs.Calls.{IsReadAnswer, wish}
 use Rattle.cluster_members.proofs.ExchangeLemmas.{made_by, keeps, state_same, fates_same, past_same, at_back, bag_same, read_refused}
 use Rattle.cluster_members.proofs.calls.read_by.Goals as goal

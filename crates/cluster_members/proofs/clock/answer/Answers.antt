@@ -1,5 +1,5 @@
 use Rattle.std.proofs.Common.{sym, subst}
-use Rattle.cluster_core.specs.Legal.{Lawful}
+use Rattle.session_writes.specs.cluster_core.Legal.{Lawful}
 use Rattle.cluster_members.proofs.clock.answer.Goals as goal
 
 pub add-requires-clause-lawful : goal.add-requires-clause-lawful

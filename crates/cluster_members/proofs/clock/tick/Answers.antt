@@ -1,7 +1,7 @@
 use Rattle.std.proofs.Common.{[], ◌∷◌, false}
-use Rattle.cluster_core.specs.declared.event.Asked.TheVariants as asked
-use Rattle.cluster_core.specs.declared.event.Event.TheVariants as event
-use Rattle.session_net.proofs.RunLemmas.{ran_then}
+use Rattle.session_writes.specs.cluster_core.declared.event.Asked.TheVariants as asked
+use Rattle.session_writes.specs.cluster_core.declared.event.Event.TheVariants as event
+use Rattle.session_writes.proofs.session_net_proofs.RunLemmas.{ran_then}
 use Rattle.cluster_members.proofs.ClockLemmas.{clock_lawful}
 use Rattle.cluster_members.proofs.clock.tick.Goals as goal
 

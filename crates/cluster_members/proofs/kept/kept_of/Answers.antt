@@ -1,5 +1,5 @@
 use Rattle.std.proofs.Common.{sym, subst, inr}
-use Rattle.cluster_core.proofs.ListLemmas.{at_in}
+use Rattle.session_writes.proofs.cluster_core_proofs.ListLemmas.{at_in}
 use Rattle.cluster_members.specs.Kept.{Uses}
 use Rattle.cluster_members.proofs.kept.kept_of.Goals as goal
 

@@ -2,9 +2,9 @@ use Rattle.std.proofs.Common.{[], ◌∷◌, ◌++◌, ap, refl, subst, ◌∙�
 use Rattle.std.specs.List.{flat_map}
 use Rattle.m3_model.specs.declared.placement.Placement.{Placement}
 use Rattle.m3_model.specs.declared.rules.MetaState.{MetaState}
-use Rattle.session_net.specs.Runs.{Ran}
-use Rattle.session_net.proofs.ReadyLemmas.{there_after}
-use Rattle.session_net.proofs.RunLemmas.{ran_then}
+use Rattle.node_calls.specs.session_net.Runs.{Ran}
+use Rattle.node_calls.proofs.session_net_proofs.ReadyLemmas.{there_after}
+use Rattle.node_calls.proofs.session_net_proofs.RunLemmas.{ran_then}
 use Rattle.cluster_placements.specs.Steps.{end_at, place_events, step_events}
 use Rattle.cluster_placements.proofs.ChangeLemmas.{left_there, room_first}
 use Rattle.cluster_placements.proofs.PlacedLemmas.{next_place, ready_placed, serves_placed}

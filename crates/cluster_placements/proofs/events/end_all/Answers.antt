@@ -1,9 +1,9 @@
 use Rattle.std.proofs.Common.{◌*◌, length, refl, subst, sym, take, ap, ◌∙◌, arith}
 use Rattle.std.specs.List.{flat_map}
 use Rattle.placement_core.proofs.ListLemmas.{IsIn-from_index}
-use Rattle.session_net.specs.Runs.{Ran}
-use Rattle.session_net.proofs.ReadyLemmas.{room_after, there_after}
-use Rattle.session_net.proofs.RunLemmas.{ran_nothing, ran_then}
+use Rattle.node_calls.specs.session_net.Runs.{Ran}
+use Rattle.node_calls.proofs.session_net_proofs.ReadyLemmas.{room_after, there_after}
+use Rattle.node_calls.proofs.session_net_proofs.RunLemmas.{ran_nothing, ran_then}
 use Rattle.node_calls.proofs.ListLemmas.{flat_long, flat_push}
 use Rattle.first_cluster.proofs.ListLemmas.{take_at, take_short, take_whole}
 use Rattle.cluster_placements.specs.Steps.{end_at}

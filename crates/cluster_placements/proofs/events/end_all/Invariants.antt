@@ -1,6 +1,6 @@
 use Rattle.std.proofs.Common.{take}
 use Rattle.std.specs.List.{flat_map}
-use Rattle.session_net.specs.Runs.{Ran}
+use Rattle.node_calls.specs.session_net.Runs.{Ran}
 use Rattle.cluster_placements.specs.Steps.{end_at}
 use Rattle.cluster_placements.proofs.events.end_all.Given as goal
 

@@ -1,7 +1,7 @@
 use Rattle.std.proofs.Common.{[], ◌∷◌, false}
 use Rattle.cluster_core.specs.declared.event.Asked.TheVariants as asked
 use Rattle.cluster_core.specs.declared.event.Event.TheVariants as event
-use Rattle.session_net.proofs.RunLemmas.{ran_then}
+use Rattle.node_calls.proofs.session_net_proofs.RunLemmas.{ran_then}
 use Rattle.cluster_placements.proofs.PlaceLemmas.{place_lawful}
 use Rattle.cluster_placements.proofs.events.place.Goals as goal
 

@@ -1,6 +1,6 @@
 use Rattle.std.proofs.Common.{◌≡◌, take}
 use Rattle.std.specs.Prelude.{Some, filter, not}
-use Rattle.transcripts.specs.Placements.{has_replica}
+use Rattle.node_calls.specs.transcripts.Placements.{has_replica}
 use Rattle.cluster_placements.proofs.slots.left_out.Given as goal
 
 abbrev pub invariant-loop-slot : goal.invariant-loop-slot

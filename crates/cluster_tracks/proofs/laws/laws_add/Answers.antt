@@ -1,4 +1,4 @@
-use Rattle.told_by.specs.Lines.{ClockLine, InitLine, PlainLine, ReadLine, WriteLine}
+use Rattle.placement_tracks.specs.told_by.Lines.{ClockLine, InitLine, PlainLine, ReadLine, WriteLine}
 use Rattle.cluster_tracks.proofs.AddLemmas.{anew_adds, begun_adds, call_adds, served_adds, steps_are_of_slots}
 use Rattle.cluster_tracks.proofs.laws.laws_add.Goals as goal
 

@@ -3,9 +3,9 @@ use Rattle.std.specs.List.{flat_map}
 use Rattle.std.proofs.lemmas.List.{take_all}
 use Rattle.m3_model.specs.declared.answer.StatusLine.{StatusLine}
 use Rattle.m3_model.proofs.Lists.{IsIn-get_or}
-use Rattle.session_net.proofs.ReadyLemmas.{there_after}
-use Rattle.session_net.specs.Runs.{Ran}
-use Rattle.session_net.proofs.RunLemmas.{ran_nothing}
+use Rattle.node_calls.proofs.session_net_proofs.ReadyLemmas.{there_after}
+use Rattle.node_calls.specs.session_net.Runs.{Ran}
+use Rattle.node_calls.proofs.session_net_proofs.RunLemmas.{ran_nothing}
 use Rattle.cluster_upkeep.specs.Status.{line_of, row_of, told_at}
 use Rattle.cluster_upkeep.specs.declared.rows.Row.{Row}
 use Rattle.cluster_upkeep.proofs.SweepLemmas.{ran_report, room_left, rows_more}

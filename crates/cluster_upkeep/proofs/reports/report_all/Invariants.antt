@@ -1,7 +1,7 @@
 use Rattle.std.proofs.Common.{◌≡◌, ◌+◌, ◌≤◌, length, map, take, vec_len}
 use Rattle.std.specs.List.{flat_map}
 use Rattle.std.specs.Vec.{vec_capacity}
-use Rattle.session_net.specs.Runs.{Ran}
+use Rattle.node_calls.specs.session_net.Runs.{Ran}
 use Rattle.cluster_upkeep.specs.Status.{row_of, told_at}
 use Rattle.cluster_upkeep.proofs.reports.report_all.Given as goal
 

@@ -3,7 +3,7 @@ use Rattle.std.specs.List.{flat_map}
 use Rattle.std.proofs.lemmas.List.{length-map}
 use Rattle.m3_model.specs.Members.{IsIn}
 use Rattle.node_calls.proofs.RunLemmas.{has_room, no_room, ready_still, same_slots}
-use Rattle.cluster_members.proofs.SameMembers.{same_state}
+use Rattle.node_calls.proofs.cluster_members_proofs.SameMembers.{same_state}
 use Rattle.cluster_upkeep.specs.Rows.{AreRowsBelow, slot_in}
 use Rattle.cluster_upkeep.specs.Status.{told_at}
 use Rattle.cluster_upkeep.proofs.RowLemmas.{all_members, rows_few}

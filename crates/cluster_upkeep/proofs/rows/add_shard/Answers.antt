@@ -1,6 +1,6 @@
 use Rattle.std.proofs.Common.{◌≡◌, ◌++◌, map, take, sym, ap, subst, ◌∙◌}
 use Rattle.std.proofs.lemmas.List.{append-nil, take_all}
-use Rattle.session_net.specs.Writes.{AreMembers}
+use Rattle.node_calls.specs.session_net.Writes.{AreMembers}
 use Rattle.cluster_upkeep.specs.Rows.{row_at}
 use Rattle.cluster_upkeep.proofs.RowLemmas.{shard_pushed}
 use Rattle.cluster_upkeep.proofs.rows.add_shard.Goals as goal

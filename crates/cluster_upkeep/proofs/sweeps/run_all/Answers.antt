@@ -3,8 +3,8 @@ use Rattle.std.specs.List.{flat_map}
 use Rattle.std.proofs.lemmas.List.{take_all}
 use Rattle.m3_model.proofs.Lists.{IsIn-get_or}
 use Rattle.cluster_core.specs.Earlier.{IsClock}
-use Rattle.session_net.proofs.ReadyLemmas.{any_after, there_after}
-use Rattle.session_net.proofs.RunLemmas.{ran_nothing}
+use Rattle.node_calls.proofs.session_net_proofs.ReadyLemmas.{any_after, there_after}
+use Rattle.node_calls.proofs.session_net_proofs.RunLemmas.{ran_nothing}
 use Rattle.cluster_upkeep.specs.Findings.{entry_at}
 use Rattle.cluster_upkeep.specs.Rows.{slot_in}
 use Rattle.cluster_upkeep.specs.Sweeps.{asked_at, call_by}

@@ -1,7 +1,7 @@
 use Rattle.std.proofs.Common.{◌≡◌, ◌+◌, ◌≤◌, ℕ, List, length, map, take}
 use Rattle.std.specs.List.{flat_map}
-use Rattle.session_net.specs.Runs.{Ran}
-use Rattle.transcripts.specs.Sweeps.{Entry, done_in, failed_in, slot_of}
+use Rattle.node_calls.specs.session_net.Runs.{Ran}
+use Rattle.node_calls.specs.transcripts.Sweeps.{Entry, done_in, failed_in, slot_of}
 use Rattle.cluster_upkeep.specs.Findings.{HasRoomFor}
 use Rattle.cluster_upkeep.specs.Rows.{slot_in}
 use Rattle.cluster_upkeep.specs.Sweeps.{AreOfFiles, asked_at, call_by}

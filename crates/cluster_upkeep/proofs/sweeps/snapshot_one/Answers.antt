@@ -1,7 +1,7 @@
 use Rattle.std.proofs.Common.{◌∙◌, ap}
 use Rattle.std.specs.Prelude.{Ok, Err}
 use Rattle.cluster_core.specs.declared.event.StepCall.TheVariants as call
-use Rattle.replica_exchange.specs.Promises.{Saves}
+use Rattle.node_calls.specs.replica_exchange.Promises.{Saves}
 use Rattle.cluster_upkeep.proofs.CallLemmas.{has_said, saves_form}
 use Rattle.cluster_upkeep.proofs.sweeps.snapshot_one.Goals as goal
 

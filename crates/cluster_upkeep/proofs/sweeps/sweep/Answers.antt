@@ -3,8 +3,8 @@ use Rattle.std.specs.List.{flat_map}
 use Rattle.std.proofs.lemmas.List.{length-map}
 use Rattle.m3_model.specs.Members.{IsIn}
 use Rattle.node_calls.proofs.RunLemmas.{has_room, no_room, ready_still, same_slots}
-use Rattle.cluster_members.proofs.SameMembers.{same_state}
-use Rattle.session_net.proofs.ReadyLemmas.{clock_there}
+use Rattle.node_calls.proofs.cluster_members_proofs.SameMembers.{same_state}
+use Rattle.node_calls.proofs.session_net_proofs.ReadyLemmas.{clock_there}
 use Rattle.cluster_upkeep.specs.Rows.{AreRowsBelow, slot_in}
 use Rattle.cluster_upkeep.specs.Sweeps.{asked_at, call_by}
 use Rattle.cluster_upkeep.proofs.RowLemmas.{all_members, rows_few}

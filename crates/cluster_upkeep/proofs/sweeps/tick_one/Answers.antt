@@ -1,7 +1,7 @@
 use Rattle.std.proofs.Common.{◌∙◌, ap}
 use Rattle.std.specs.Prelude.{Ok, Err}
 use Rattle.cluster_core.specs.declared.event.StepCall.TheVariants as call
-use Rattle.replica_exchange.specs.Promises.{Ticks}
+use Rattle.node_calls.specs.replica_exchange.Promises.{Ticks}
 use Rattle.cluster_upkeep.proofs.CallLemmas.{has_said}
 use Rattle.cluster_upkeep.proofs.sweeps.tick_one.Goals as goal
 

@@ -2,7 +2,7 @@ use Rattle.std.proofs.Common.{◌≡◌, ◌∙◌, sym, ap, subst, refl, length
 use Rattle.std.specs.FinMap.{get}
 use Rattle.commit_log.specs.Segment.{OthersStay}
 use Rattle.commit_log.proofs.Append.{torn_others, others_then, same_others, inside0, moment1, inside1, moment2, present2, moment3, inside3, moment4, present4, moment5, acknowledged, kept}
-use Rattle.m3_outside.specs.declared.file_name.FileName.{FileName}
+use Rattle.log_chunks.specs.m3_outside.declared.file_name.FileName.{FileName}
 use Rattle.commit_log.proofs.chunk.put_chunk.Goals as goal
 
 pub write_at-requires-clause-inside : goal.write_at-requires-clause-inside

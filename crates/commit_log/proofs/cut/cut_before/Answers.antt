@@ -1,9 +1,9 @@
 use Rattle.std.proofs.Common.{sym, subst, ◌∙◌, List}
-use Rattle.m3_outside.specs.declared.file_name.FileName.{FileName}
-use Rattle.m3_outside.specs.DiskState.{Elapses, Becomes}
-use Rattle.m3_outside.specs.Removal.{without_files, MayTakeAway, HasTakenAway, AreRemovable}
-use Rattle.m3_outside.proofs.Moments.{becomes_stays}
-use Rattle.m3_outside.proofs.Removal.{left_elapses, left_all, then_elapses, then_becomes, then_taken}
+use Rattle.log_chunks.specs.m3_outside.declared.file_name.FileName.{FileName}
+use Rattle.log_chunks.specs.m3_outside.DiskState.{Elapses, Becomes}
+use Rattle.log_chunks.specs.m3_outside.Removal.{without_files, MayTakeAway, HasTakenAway, AreRemovable}
+use Rattle.log_chunks.proofs.m3_outside_proofs.Moments.{becomes_stays}
+use Rattle.log_chunks.proofs.m3_outside_proofs.Removal.{left_elapses, left_all, then_elapses, then_becomes, then_taken}
 use Rattle.commit_log.specs.Cutting.{segments_below}
 use Rattle.commit_log.proofs.Begin.{stands_stays}
 use Rattle.commit_log.proofs.CutLaws.{stands_cut}

@@ -1,7 +1,7 @@
 use Rattle.std.proofs.Common.{ap, sym, ◌∙◌, take}
 use Rattle.std.specs.FinMap.{get}
-use Rattle.m3_outside.specs.Files.{Files}
-use Rattle.m3_outside.specs.declared.disk_err.DiskErr.TheVariants.{Failed as DiskFailed}
+use Rattle.log_chunks.specs.m3_outside.Files.{Files}
+use Rattle.log_chunks.specs.m3_outside.declared.disk_err.DiskErr.TheVariants.{Failed as DiskFailed}
 use Rattle.commit_log.proofs.Leaves.{leaves_as, leaves_then}
 use Rattle.commit_log.proofs.FileFronts.{front_is, sized_is_there}
 use Rattle.commit_log.proofs.ReadLemmas.{passed_err}

@@ -1,5 +1,5 @@
 use Rattle.std.proofs.Common.{◌≡◌, ◌<◌, ◌≤◌, max, drop}
-use Rattle.m3_model.specs.declared.limits.TheConstants.{NUMBER_END}
+use Rattle.log_chunks.specs.m3_model.declared.limits.TheConstants.{NUMBER_END}
 use Rattle.commit_log.specs.Contents as contents
 use Rattle.commit_log.proofs.read.next_after.Given as goal
 

@@ -1,5 +1,5 @@
 use Rattle.std.proofs.Common.{get_or, refl, subst, ◌∙◌, arith}
-use Rattle.m3_outside.specs.Files.{Files}
+use Rattle.log_chunks.specs.m3_outside.Files.{Files}
 use Rattle.commit_log.specs.Contents.{segment_bytes}
 use Rattle.commit_log.specs.Reading.{IsFront, MayBeFirstDamage}
 use Rattle.commit_log.specs.declared.log_err.LogErr.TheVariants as errors

@@ -1,5 +1,5 @@
 use Rattle.std.proofs.Common.{◌≡◌, true, take}
-use Rattle.m3_outside.specs.DiskCalls.{LeavesFiles}
+use Rattle.log_chunks.specs.m3_outside.DiskCalls.{LeavesFiles}
 use Rattle.commit_log.specs.Reading.{FindsAll}
 use Rattle.commit_log.proofs.read.read_segments.Given as goal
 

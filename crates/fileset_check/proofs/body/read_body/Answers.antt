@@ -1,7 +1,7 @@
 use Rattle.std.proofs.Common.{◌≡◌, ◌<◌, ◌^◌, List, ℕ, sym, ap, subst, ◌∙◌, rules}
-use Rattle.m3_model.specs.declared.point.Series.{Series}
-use Rattle.wire_bytes.specs.Volumes.{IsVolume, count_of, data_bytes}
-use Rattle.volume_bytes.specs.Heads.{AllFit, head_of}
+use Rattle.fileset_read.specs.m3_model.declared.point.Series.{Series}
+use Rattle.fileset_read.specs.wire_bytes.Volumes.{IsVolume, count_of, data_bytes}
+use Rattle.fileset_read.specs.volume_bytes.Heads.{AllFit, head_of}
 use Rattle.fileset_read.proofs.FileLemmas.{rows_spelled}
 use Rattle.fileset_check.proofs.BodyLemmas.{all_fit, no_data}
 use Rattle.fileset_check.proofs.body.read_body.Goals as goal

@@ -1,7 +1,7 @@
 use Rattle.std.proofs.Common.{◌≡◌, ℕ, List, length, take, drop, sym, ap, subst, ◌∙◌, arith}
 use Rattle.std.proofs.lemmas.Result.{on_ok_weaker}
-use Rattle.shard_files.specs.Damage.{BreaksDigest}
-use Rattle.shard_files.proofs.SegmentStops.{passed_on}
+use Rattle.fileset_read.specs.shard_files.Damage.{BreaksDigest}
+use Rattle.fileset_read.proofs.shard_files_proofs.SegmentStops.{passed_on}
 use Rattle.fileset_check.specs.PartFiles.{Keeps, AreSealed, part_in, file_of}
 use Rattle.fileset_check.specs.Told.{LookTells, FirstTells, Says, at_gates, at_five, at_digests}
 use Rattle.fileset_check.proofs.FirstLemmas.{first_front, says_as, err_as}

@@ -1,8 +1,8 @@
 use Rattle.std.proofs.Common.{◌≡◌, ℕ, List, [], ◌∷◌, length, sym, ap, subst, ◌∙◌, arith, rules, refl}
 use Rattle.sha2.specs.Sha256.{sha256}
-use Rattle.wire_bytes.specs.Volumes.{Digests, Checkpoint}
-use Rattle.shard_files.specs.Damage.{AtForm, AtDigest, IsGate, BreaksForm, BreaksDigest}
-use Rattle.shard_files.proofs.SegmentStops.{passed_on}
+use Rattle.fileset_read.specs.wire_bytes.Volumes.{Digests, Checkpoint}
+use Rattle.fileset_read.specs.shard_files.Damage.{AtForm, AtDigest, IsGate, BreaksForm, BreaksDigest}
+use Rattle.fileset_read.proofs.shard_files_proofs.SegmentStops.{passed_on}
 use Rattle.fileset_check.specs.PartFiles.{part_in, bytes_in, file_of}
 use Rattle.fileset_check.specs.Told.{LookTells, FirstTells, Says, at_gates}
 use Rattle.fileset_check.proofs.FirstLemmas.{first_here, first_there, says_as}

@@ -1,5 +1,5 @@
 use Rattle.std.proofs.Common.{◌≡◌, ℕ, List, sym, ap, subst, ◌∙◌, arith}
-use Rattle.shard_files.specs.Damage.{IsGate}
+use Rattle.fileset_read.specs.shard_files.Damage.{IsGate}
 use Rattle.fileset_check.specs.PartFiles.{part_in}
 use Rattle.fileset_check.proofs.DigestLemmas.{gate_there, gate_bytes, breaks_form}
 use Rattle.fileset_check.proofs.digests.read_gate.Goals as goal

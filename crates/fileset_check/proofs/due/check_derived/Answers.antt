@@ -1,9 +1,9 @@
 use Rattle.std.proofs.Common.{◌≡◌, List, ℕ, [], ◌∷◌, sym, ap, subst, ◌∙◌}
 use Rattle.std.proofs.lemmas.Result.{on_ok_weaker}
-use Rattle.wire_bytes.specs.Volumes.{Info, Summaries, Index, Bloom, part_bytes}
-use Rattle.shard_files.specs.Damage.{Damage, AtForm, BreaksForm}
-use Rattle.shard_files.proofs.SegmentStops.{passed_on}
-use Rattle.volume_bytes.specs.Heads.{head_of}
+use Rattle.fileset_read.specs.wire_bytes.Volumes.{Info, Summaries, Index, Bloom, part_bytes}
+use Rattle.fileset_read.specs.shard_files.Damage.{Damage, AtForm, BreaksForm}
+use Rattle.fileset_read.proofs.shard_files_proofs.SegmentStops.{passed_on}
+use Rattle.fileset_read.specs.volume_bytes.Heads.{head_of}
 use Rattle.fileset_check.specs.PartFiles.{Spells, AreDerived, bytes_in, file_of}
 use Rattle.fileset_check.specs.Told.{LookTells, FirstTells, Says, at_derived}
 use Rattle.fileset_check.proofs.FirstLemmas.{first_here, first_there, says_as, err_as}

@@ -1,7 +1,7 @@
 use Rattle.std.proofs.Common.{◌≡◌, List, ℕ, subst, ◌∙◌}
-use Rattle.wire_bytes.specs.Volumes.{Info, info_of, part_bytes}
-use Rattle.shard_files.specs.Damage.{BreaksForm}
-use Rattle.volume_bytes.specs.Heads.{head_of}
+use Rattle.fileset_read.specs.wire_bytes.Volumes.{Info, info_of, part_bytes}
+use Rattle.fileset_read.specs.shard_files.Damage.{BreaksForm}
+use Rattle.fileset_read.specs.volume_bytes.Heads.{head_of}
 use Rattle.fileset_check.specs.PartFiles.{Spells, file_of}
 use Rattle.fileset_check.proofs.FirstLemmas.{err_as}
 use Rattle.fileset_check.proofs.due.check_info.Goals as goal

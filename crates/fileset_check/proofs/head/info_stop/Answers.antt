@@ -1,7 +1,7 @@
 use Rattle.std.proofs.Common.{◌≡◌, List, ℕ, sym, subst}
 use Rattle.std.proofs.lemmas.Option.{IfSome_then}
-use Rattle.wire_bytes.specs.Fields.{StopsAt}
-use Rattle.shard_files.specs.Damage.{IsSomeInfo}
+use Rattle.fileset_read.specs.wire_bytes.Fields.{StopsAt}
+use Rattle.fileset_read.specs.shard_files.Damage.{IsSomeInfo}
 use Rattle.fileset_check.specs.Numbers.{AreFields, AreNumbers, info_fields}
 use Rattle.fileset_check.specs.declared.numbers.Field.{Field}
 use Rattle.fileset_check.proofs.HeadLemmas.{info_fit, info_from, info_stops}

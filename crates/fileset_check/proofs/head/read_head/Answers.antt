@@ -1,6 +1,6 @@
 use Rattle.std.proofs.Common.{◌≡◌, inl, inr, List, ℕ, refl, sym, subst, arith, rules}
-use Rattle.wire_bytes.specs.Volumes.{VolumeHead}
-use Rattle.shard_files.specs.Damage.{IsInfo}
+use Rattle.fileset_read.specs.wire_bytes.Volumes.{VolumeHead}
+use Rattle.fileset_read.specs.shard_files.Damage.{IsInfo}
 use Rattle.fileset_check.proofs.HeadLemmas.{size_stands, same_head}
 use Rattle.fileset_check.proofs.head.read_head.Goals as goal
 

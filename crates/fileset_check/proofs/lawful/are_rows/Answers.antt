@@ -1,7 +1,7 @@
 use Rattle.std.proofs.Common.{◌≡◌, ◌+◌, ◌↔◌, [], drop, get_or, refl, sym, ap, subst, ◌∙◌, rules}
 use Rattle.std.proofs.lemmas.Str.{IsUtf8-nil}
-use Rattle.m3_model.specs.Tags.{IsBelow}
-use Rattle.m3_model.specs.declared.point.Series.{Series}
+use Rattle.fileset_read.specs.m3_model.Tags.{IsBelow}
+use Rattle.fileset_read.specs.m3_model.declared.point.Series.{Series}
 use Rattle.fileset_check.specs.Lawful.{AreRows, IsRowIn}
 use Rattle.fileset_check.proofs.LawfulLemmas.{row_more, rows_end}
 use Rattle.fileset_check.proofs.lawful.are_rows.Goals as goal

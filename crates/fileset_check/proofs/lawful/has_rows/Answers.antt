@@ -1,5 +1,5 @@
 use Rattle.std.proofs.Common.{◌<◌, ◌^◌, length, refl, arith, rules}
-use Rattle.volume_bytes.specs.Heads.{head_of}
+use Rattle.fileset_read.specs.volume_bytes.Heads.{head_of}
 use Rattle.fileset_check.proofs.LawfulLemmas.{IsEnd, to_volume, of_volume}
 use Rattle.fileset_check.proofs.lawful.has_rows.Goals as goal
 

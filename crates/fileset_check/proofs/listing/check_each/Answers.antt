@@ -1,10 +1,10 @@
 use Rattle.std.proofs.Common.{◌≡◌, sym, ap, subst, ◌∙◌, get_or, List, []}
-use Rattle.m3_outside.specs.Files.{Files}
-use Rattle.m3_outside.specs.declared.file_name.FileName.{FileName}
-use Rattle.commit_log.proofs.Leaves.{leaves_none, leaves_as, leaves_then}
-use Rattle.commit_log.proofs.ReadLemmas.{passed_err}
-use Rattle.shard_files.specs.Parts.{part_of}
-use Rattle.shard_files.proofs.SegmentStops.{passed_on}
+use Rattle.fileset_read.specs.m3_outside.Files.{Files}
+use Rattle.fileset_read.specs.m3_outside.declared.file_name.FileName.{FileName}
+use Rattle.fileset_read.proofs.commit_log_proofs.Leaves.{leaves_none, leaves_as, leaves_then}
+use Rattle.fileset_read.proofs.commit_log_proofs.ReadLemmas.{passed_err}
+use Rattle.fileset_read.specs.shard_files.Parts.{part_of}
+use Rattle.fileset_read.proofs.shard_files_proofs.SegmentStops.{passed_on}
 use Rattle.fileset_check.specs.PartFiles.{file_of}
 use Rattle.fileset_check.specs.Told.{MayTell, VolumesTell, VolumeTells}
 use Rattle.fileset_check.specs.Whole.{AreListed, IsListed}

@@ -1,5 +1,5 @@
 use Rattle.std.proofs.Common.{◌≡◌, take, true}
-use Rattle.m3_outside.specs.DiskCalls.{LeavesFiles}
+use Rattle.fileset_read.specs.m3_outside.DiskCalls.{LeavesFiles}
 use Rattle.fileset_check.specs.Whole.{AreListed}
 use Rattle.fileset_check.proofs.listing.check_each.Given as goal
 

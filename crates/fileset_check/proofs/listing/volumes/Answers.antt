@@ -1,9 +1,9 @@
 use Rattle.std.proofs.Common.{◌≡◌, List, sym, ap, subst, ◌∙◌}
-use Rattle.m3_outside.specs.Files.{Files}
-use Rattle.commit_log.proofs.Leaves.{leaves_as, leaves_then}
-use Rattle.commit_log.proofs.ReadLemmas.{passed_err}
-use Rattle.shard_files.proofs.SegmentStops.{passed_on}
-use Rattle.shard_files.specs.Parts.{counted_volumes}
+use Rattle.fileset_read.specs.m3_outside.Files.{Files}
+use Rattle.fileset_read.proofs.commit_log_proofs.Leaves.{leaves_as, leaves_then}
+use Rattle.fileset_read.proofs.commit_log_proofs.ReadLemmas.{passed_err}
+use Rattle.fileset_read.proofs.shard_files_proofs.SegmentStops.{passed_on}
+use Rattle.fileset_read.specs.shard_files.Parts.{counted_volumes}
 use Rattle.fileset_check.specs.Told.{MayTell, VolumesTell}
 use Rattle.fileset_check.specs.Whole.{AreVolumes}
 use Rattle.fileset_check.specs.declared.volume.Volume.{Volume}

@@ -1,6 +1,6 @@
 use Rattle.fileset_check.specs.declared.numbers.Field.{Field}
 use Rattle.std.proofs.Common.{◌+◌, drop, get_or, sym, subst}
-use Rattle.wire_bytes.specs.Fields.{StopsAt}
+use Rattle.fileset_read.specs.wire_bytes.Fields.{StopsAt}
 use Rattle.fileset_check.specs.Numbers.{AreNumbers}
 use Rattle.fileset_check.proofs.NumberLemmas.{carries_none, carries_more, carries_err, carries_long, carries_end, carries_at, carries_all}
 use Rattle.fileset_check.proofs.numbers.number_stop.Goals as goal

@@ -1,9 +1,9 @@
 use Rattle.std.proofs.Common.{ap, ◌∙◌, arith, rules, length, add-one}
 use Rattle.std.specs.FinMap.{get}
-use Rattle.m3_outside.specs.Files.{Files}
-use Rattle.m3_outside.specs.declared.disk_err.DiskErr.TheVariants.{Failed as DiskFailed}
-use Rattle.commit_log.proofs.Leaves.{leaves_none, leaves_as, leaves_then, leaves_memory}
-use Rattle.commit_log.proofs.ReadLemmas.{passed_err}
+use Rattle.fileset_read.specs.m3_outside.Files.{Files}
+use Rattle.fileset_read.specs.m3_outside.declared.disk_err.DiskErr.TheVariants.{Failed as DiskFailed}
+use Rattle.fileset_read.proofs.commit_log_proofs.Leaves.{leaves_none, leaves_as, leaves_then, leaves_memory}
+use Rattle.fileset_read.proofs.commit_log_proofs.ReadLemmas.{passed_err}
 use Rattle.fileset_check.proofs.PartLemmas.{parts_none, parts_more, parts_all}
 use Rattle.fileset_check.proofs.parts.read_parts.Goals as goal
 

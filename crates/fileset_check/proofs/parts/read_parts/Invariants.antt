@@ -1,5 +1,5 @@
 use Rattle.std.proofs.Common.{◌≡◌, ℕ, ◌+◌, length, true}
-use Rattle.m3_outside.specs.DiskCalls.{LeavesFiles}
+use Rattle.fileset_read.specs.m3_outside.DiskCalls.{LeavesFiles}
 use Rattle.fileset_check.proofs.PartLemmas.{ArePartsBelow}
 use Rattle.fileset_check.proofs.parts.read_parts.Given as goal
 

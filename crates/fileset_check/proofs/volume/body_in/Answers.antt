@@ -1,7 +1,7 @@
 use Rattle.std.proofs.Common.{◌≡◌, List, ℕ, ap, subst, sym, ◌∙◌}
-use Rattle.m3_outside.specs.declared.file_name.FileName.{FileName}
-use Rattle.shard_files.specs.Damage.{OfForm}
-use Rattle.volume_bytes.specs.Heads.{head_of}
+use Rattle.fileset_read.specs.m3_outside.declared.file_name.FileName.{FileName}
+use Rattle.fileset_read.specs.shard_files.Damage.{OfForm}
+use Rattle.fileset_read.specs.volume_bytes.Heads.{head_of}
 use Rattle.fileset_check.specs.PartFiles.{IsBody}
 use Rattle.fileset_check.proofs.DerivedLemmas.{unfit}
 use Rattle.fileset_check.proofs.volume.body_in.Goals as goal

@@ -1,8 +1,8 @@
 use Rattle.std.proofs.Common.{◌≡◌, ℕ, List, ◌∷◌, length, sym, ap, subst, ◌∙◌, refl, arith, rules}
-use Rattle.shard_files.specs.Damage.{Damage, AtForm, AtHead, BreaksForm}
-use Rattle.shard_files.proofs.SegmentStops.{passed_on}
-use Rattle.wire_bytes.specs.Volumes.{Data}
-use Rattle.volume_bytes.specs.Heads.{head_of}
+use Rattle.fileset_read.specs.shard_files.Damage.{Damage, AtForm, AtHead, BreaksForm}
+use Rattle.fileset_read.proofs.shard_files_proofs.SegmentStops.{passed_on}
+use Rattle.fileset_read.specs.wire_bytes.Volumes.{Data}
+use Rattle.fileset_read.specs.volume_bytes.Heads.{head_of}
 use Rattle.fileset_check.specs.PartFiles.{bytes_in}
 use Rattle.fileset_check.specs.Told.{LookTells, Says, VolumeTells, FirstTells, BreaksHead, IsUnfit, at_digests, at_derived}
 use Rattle.fileset_check.proofs.FirstLemmas.{first_here, first_there, first_front, first_behind, says_as}

@@ -1,7 +1,7 @@
 use Rattle.std.proofs.Common.{◌≡◌, List, sym, ap, subst, ◌∙◌, rules}
-use Rattle.m3_outside.specs.Files.{Files}
-use Rattle.commit_log.proofs.Leaves.{leaves_as}
-use Rattle.shard_files.proofs.SegmentStops.{passed_on}
+use Rattle.fileset_read.specs.m3_outside.Files.{Files}
+use Rattle.fileset_read.proofs.commit_log_proofs.Leaves.{leaves_as}
+use Rattle.fileset_read.proofs.shard_files_proofs.SegmentStops.{passed_on}
 use Rattle.fileset_check.specs.PartFiles.{AreParts}
 use Rattle.fileset_check.specs.Told.{MayTell, VolumeTells, of_part}
 use Rattle.fileset_check.proofs.FirstLemmas.{says_tells, no_fault}

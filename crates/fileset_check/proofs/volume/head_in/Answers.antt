@@ -1,6 +1,6 @@
 use Rattle.std.proofs.Common.{◌≡◌, List, ℕ, ap, subst}
-use Rattle.m3_outside.specs.declared.file_name.FileName.{FileName}
-use Rattle.shard_files.specs.Damage.{OfForm}
+use Rattle.fileset_read.specs.m3_outside.declared.file_name.FileName.{FileName}
+use Rattle.fileset_read.specs.shard_files.Damage.{OfForm}
 use Rattle.fileset_check.specs.PartFiles.{HasHead}
 use Rattle.fileset_check.specs.Told.{HeadStops}
 use Rattle.fileset_check.proofs.DerivedLemmas.{head_breaks}

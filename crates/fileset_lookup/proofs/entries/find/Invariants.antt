@@ -1,5 +1,5 @@
 use Rattle.std.proofs.Common.{◌≡◌, List, ◌++◌, length, drop}
-use Rattle.m3_model.specs.declared.point.Series.{Series}
+use Rattle.wire_bytes.specs.m3_model.declared.point.Series.{Series}
 use Rattle.wire_bytes.specs.Volumes.{VolumeHead, IsVolume, data_bytes, index_from}
 use Rattle.fileset_lookup.proofs.SpotLemmas.{EntriesLeft}
 use Rattle.fileset_lookup.proofs.entries.find.Given as goal

@@ -1,7 +1,7 @@
 use Rattle.std.proofs.Common.{◌≡◌, ◌<◌, length, sym, ap, subst, ◌∙◌}
 use Rattle.std.specs.Cmp.Lexicographic.{slice_cmp}
 use Rattle.std.specs.Ordering.{nat_cmp}
-use Rattle.m3_model.specs.Tags.{IsBelow}
+use Rattle.wire_bytes.specs.m3_model.Tags.{IsBelow}
 use Rattle.fileset_lookup.specs.Runs.{FindsPiece}
 use Rattle.fileset_lookup.proofs.HeadLemmas.{filled, unfilled}
 use Rattle.fileset_lookup.proofs.OrderLemmas.{is_less, isnt_less}

@@ -1,5 +1,5 @@
 use Rattle.std.proofs.Common.{◌≡◌, List, length}
-use Rattle.m3_model.specs.declared.point.Series.{Series}
+use Rattle.wire_bytes.specs.m3_model.declared.point.Series.{Series}
 use Rattle.wire_bytes.specs.Volumes.{VolumeHead, IsVolume, summaries_bytes}
 use Rattle.fileset_lookup.proofs.RunLemmas.{Passed}
 use Rattle.fileset_lookup.proofs.summaries.span.Given as goal

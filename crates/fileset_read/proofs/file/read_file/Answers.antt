@@ -1,7 +1,7 @@
 use Rattle.std.proofs.Common.{ap, sym, ◌∙◌}
 use Rattle.std.specs.FinMap.{get}
-use Rattle.m3_outside.specs.Files.{Files}
-use Rattle.m3_outside.specs.declared.disk_err.DiskErr.TheVariants.{Failed as DiskFailed}
+use Rattle.shard_files.specs.m3_outside.Files.{Files}
+use Rattle.shard_files.specs.m3_outside.declared.disk_err.DiskErr.TheVariants.{Failed as DiskFailed}
 use Rattle.shard_files.proofs.Leaves.{leaves_as, leaves_then}
 use Rattle.shard_files.proofs.ReadLemmas.{passed_err}
 use Rattle.fileset_read.proofs.FileLemmas.{read_whole}

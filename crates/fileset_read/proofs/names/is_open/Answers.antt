@@ -1,6 +1,6 @@
 use Rattle.std.proofs.Common.{◌≡◌, length, sym, ap, ◌∙◌, arith}
 use Rattle.std.specs.FinMap.{get}
-use Rattle.m3_outside.specs.Files.{Files}
+use Rattle.shard_files.specs.m3_outside.Files.{Files}
 use Rattle.shard_files.proofs.Leaves.{leaves_as, leaves_then}
 use Rattle.fileset_read.proofs.NameLemmas.{err_is, gate_read}
 use Rattle.fileset_read.proofs.names.is_open.Goals as goal

@@ -1,6 +1,6 @@
 use Rattle.std.proofs.Common.{refl, ap, ◌∙◌, get_or}
-use Rattle.m3_outside.specs.declared.file_name.FileName.{FileName}
-use Rattle.m3_outside.specs.Files.{Files}
+use Rattle.shard_files.specs.m3_outside.declared.file_name.FileName.{FileName}
+use Rattle.shard_files.specs.m3_outside.Files.{Files}
 use Rattle.shard_files.proofs.Leaves.{leaves_none, leaves_as, leaves_then, leaves_memory}
 use Rattle.fileset_read.specs.Volumes.{is_counted}
 use Rattle.fileset_read.proofs.NameLemmas.{name_more, err_is}

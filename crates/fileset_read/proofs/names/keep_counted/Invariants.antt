@@ -1,6 +1,6 @@
 use Rattle.std.proofs.Common.{◌≡◌, true, take}
 use Rattle.std.specs.Prelude.{filter}
-use Rattle.m3_outside.specs.DiskCalls.{LeavesFiles}
+use Rattle.shard_files.specs.m3_outside.DiskCalls.{LeavesFiles}
 use Rattle.fileset_read.specs.Volumes.{is_counted}
 use Rattle.fileset_read.proofs.names.keep_counted.Given as goal
 

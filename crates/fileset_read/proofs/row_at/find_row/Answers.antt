@@ -1,6 +1,6 @@
 use Rattle.std.proofs.Common.{◌≡◌, ◌+◌, ℕ, length, sym, subst, arith}
 use Rattle.byteorder.specs.Endian.{big_bytes}
-use Rattle.wire_bytes.specs.Fields.{Stands}
+use Rattle.shard_files.specs.wire_bytes.Fields.{Stands}
 use Rattle.fileset_read.proofs.RowLemmas.{row_parts, row_found}
 use Rattle.fileset_read.proofs.row_at.find_row.Goals as goal
 

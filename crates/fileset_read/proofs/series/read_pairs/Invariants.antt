@@ -1,5 +1,5 @@
 use Rattle.std.proofs.Common.{◌≡◌, ℕ, ℤ, ◌+◌, ◌*◌, List, ◌++◌, length, drop, flat_map}
-use Rattle.wire_bytes.specs.Volumes.{pair_bytes}
+use Rattle.shard_files.specs.wire_bytes.Volumes.{pair_bytes}
 use Rattle.fileset_read.specs.Rows.{ArePairs}
 use Rattle.fileset_read.proofs.LeftLemmas.{PairsLeft}
 use Rattle.fileset_read.proofs.series.read_pairs.Given as goal

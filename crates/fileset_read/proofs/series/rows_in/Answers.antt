@@ -1,6 +1,6 @@
 use Rattle.std.proofs.Common.{List, sym, subst, ◌∙◌, arith}
-use Rattle.m3_model.specs.declared.point.Series.{Series}
-use Rattle.wire_bytes.specs.Volumes.{data_bytes}
+use Rattle.shard_files.specs.m3_model.declared.point.Series.{Series}
+use Rattle.shard_files.specs.wire_bytes.Volumes.{data_bytes}
 use Rattle.fileset_read.proofs.LeftLemmas.{RowsLeft, next_row, row_passed, rows_end, passed}
 use Rattle.fileset_read.proofs.series.rows_in.Goals as goal
 

@@ -1,7 +1,7 @@
 use Rattle.std.proofs.Common.{sym, subst, ap, ◌∙◌, arith}
-use Rattle.m3_model.specs.declared.point.Series.{Series}
-use Rattle.m3_model.specs.Members.{IsIn}
-use Rattle.wire_bytes.specs.Volumes.{data_bytes}
+use Rattle.shard_files.specs.m3_model.declared.point.Series.{Series}
+use Rattle.shard_files.specs.m3_model.Members.{IsIn}
+use Rattle.shard_files.specs.wire_bytes.Volumes.{data_bytes}
 use Rattle.fileset_read.proofs.LeftLemmas.{next_row, row_skipped, skipped_end, next_is_in, same_id, passed}
 use Rattle.fileset_read.proofs.series.series_in.Goals as goal
 

@@ -1,5 +1,5 @@
 use Rattle.std.proofs.Common.{◌≡◌, List, sym, subst, ◌∙◌}
-use Rattle.m3_model.specs.declared.point.Series.{Series}
+use Rattle.shard_files.specs.m3_model.declared.point.Series.{Series}
 use Rattle.shard_files.specs.Parts.{VolumeHolds}
 use Rattle.shard_files.proofs.SegmentStops.{passed_on}
 use Rattle.volume_bytes.specs.Heads.{head_of}

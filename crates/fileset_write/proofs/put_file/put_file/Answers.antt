@@ -1,8 +1,8 @@
 use Rattle.std.proofs.Common.{◌≡◌, sym, ◌∙◌, Result, Ok, rules}
 use Rattle.std.specs.Prelude.{⊤, IsOk}
-use Rattle.m3_outside.specs.declared.disk_err.DiskErr.{DiskErr}
-use Rattle.m3_outside.specs.declared.disk_err.DiskErr.TheVariants.{Memory as WantOfMemory}
-use Rattle.commit_log.proofs.ReadLemmas.{passed_err}
+use Rattle.shard_files.specs.m3_outside.declared.disk_err.DiskErr.{DiskErr}
+use Rattle.shard_files.specs.m3_outside.declared.disk_err.DiskErr.TheVariants.{Memory as WantOfMemory}
+use Rattle.shard_files.proofs.commit_log_proofs.ReadLemmas.{passed_err}
 use Rattle.fileset_write.proofs.PutLemmas.{moment1, files1, kept, moment2, kept2, files2, inside, moment3, files3, present, moment4, files4, is_put, made_files}
 use Rattle.fileset_write.proofs.put_file.put_file.Goals as goal
 

@@ -1,8 +1,8 @@
 use Rattle.std.proofs.Common.{◌≡◌, sym, ◌∙◌, Result, Ok}
 use Rattle.std.specs.Prelude.{⊤, IsErrOf}
-use Rattle.m3_outside.specs.declared.disk_err.DiskErr.{DiskErr}
-use Rattle.m3_outside.specs.declared.disk_err.DiskErr.TheVariants.{Failed as DiskFailed}
-use Rattle.m3_outside.proofs.Moments.{counts_none}
+use Rattle.shard_files.specs.m3_outside.declared.disk_err.DiskErr.{DiskErr}
+use Rattle.shard_files.specs.m3_outside.declared.disk_err.DiskErr.TheVariants.{Failed as DiskFailed}
+use Rattle.shard_files.proofs.m3_outside_proofs.Moments.{counts_none}
 use Rattle.fileset_write.proofs.FilesLemmas.{put_none, absent_here, put_elapses, put_others, put_more}
 use Rattle.fileset_write.proofs.put_file.put_files.Goals as goal
 

@@ -2,10 +2,10 @@ use Rattle.std.proofs.Common.{◌≡◌, ℕ, refl, sym, ap, ◌∙◌, arith, r
 use Rattle.std.specs.Prelude.{IsErr, is_some, option_map}
 use Rattle.std.specs.FinMap.{get}
 use Rattle.std.proofs.lemmas.Grind.{drop_more_same}
-use Rattle.m3_outside.specs.declared.failed.Failed.{Failed}
-use Rattle.m3_outside.specs.declared.file_name.FileName.{FileName}
-use Rattle.m3_outside.specs.Files.{Files}
-use Rattle.commit_log.proofs.Leaves.{leaves_none, leaves_as, leaves_then}
+use Rattle.shard_files.specs.m3_outside.declared.failed.Failed.{Failed}
+use Rattle.shard_files.specs.m3_outside.declared.file_name.FileName.{FileName}
+use Rattle.shard_files.specs.m3_outside.Files.{Files}
+use Rattle.shard_files.proofs.commit_log_proofs.Leaves.{leaves_none, leaves_as, leaves_then}
 use Rattle.fileset_write.proofs.FindLemmas.{sized, kept_more, rest_more}
 use Rattle.fileset_write.proofs.removal.find_there.Goals as goal
 

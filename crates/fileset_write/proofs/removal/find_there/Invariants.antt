@@ -1,5 +1,5 @@
 use Rattle.std.proofs.Common.{◌≡◌, ◌≤◌, true, length, take, drop}
-use Rattle.m3_outside.specs.DiskCalls.{LeavesFiles}
+use Rattle.shard_files.specs.m3_outside.DiskCalls.{LeavesFiles}
 use Rattle.shard_files.specs.Steps.{those_there}
 use Rattle.fileset_write.proofs.removal.find_there.Given as goal
 

@@ -1,11 +1,11 @@
 use Rattle.std.proofs.Common.{sym, subst, ap, ◌∙◌, List}
-use Rattle.m3_outside.specs.declared.file_name.FileName.{FileName}
-use Rattle.m3_outside.specs.DiskState.{Elapses, Becomes}
-use Rattle.m3_outside.specs.Removal.{without_files, MayTakeAway, HasTakenAway, AreRemovable}
-use Rattle.m3_outside.proofs.Moments.{becomes_stays}
-use Rattle.m3_outside.proofs.Removal.{left_elapses, left_all, then_elapses, then_becomes, then_taken}
+use Rattle.shard_files.specs.m3_outside.declared.file_name.FileName.{FileName}
+use Rattle.shard_files.specs.m3_outside.DiskState.{Elapses, Becomes}
+use Rattle.shard_files.specs.m3_outside.Removal.{without_files, MayTakeAway, HasTakenAway, AreRemovable}
+use Rattle.shard_files.proofs.m3_outside_proofs.Moments.{becomes_stays}
+use Rattle.shard_files.proofs.m3_outside_proofs.Removal.{left_elapses, left_all, then_elapses, then_becomes, then_taken}
 use Rattle.shard_files.specs.Steps.{parts_there, those_there}
-use Rattle.commit_log.proofs.Leaves.{leaves_then}
+use Rattle.shard_files.proofs.commit_log_proofs.Leaves.{leaves_then}
 use Rattle.fileset_write.proofs.FindLemmas.{parts_removable}
 use Rattle.fileset_write.proofs.removal.remove.Goals as goal
 

@@ -1,6 +1,6 @@
 use Rattle.std.proofs.Common.{◌≡◌, [], ◌∷◌, length, ap, ◌∙◌}
 use Rattle.sha2.specs.Sha256.{sha256}
-use Rattle.wire_bytes.specs.Volumes.{Info, Summaries, Index, Data, Bloom, Digests, info_of}
+use Rattle.shard_files.specs.wire_bytes.Volumes.{Info, Summaries, Index, Data, Bloom, Digests, info_of}
 use Rattle.shard_files.specs.Parts.{part_of}
 use Rattle.volume_bytes.specs.Heads.{head_of}
 use Rattle.fileset_write.specs.NewVolumes.{new_file}

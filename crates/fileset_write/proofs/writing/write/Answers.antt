@@ -1,14 +1,14 @@
 use Rattle.std.proofs.Common.{refl, sym, subst, ◌∙◌, List, ℕ, ◌∷◌}
 use Rattle.sha2.specs.Sha256.{sha256}
-use Rattle.m3_model.specs.declared.point.Series.{Series}
-use Rattle.m3_outside.specs.declared.file_name.FileName.{FileName}
-use Rattle.m3_outside.specs.Files.{Files, IsAbsent}
-use Rattle.m3_outside.specs.DiskState.{StepOf, Elapses, Becomes}
-use Rattle.wire_bytes.specs.Volumes.{Checkpoint, digests_bytes}
+use Rattle.shard_files.specs.m3_model.declared.point.Series.{Series}
+use Rattle.shard_files.specs.m3_outside.declared.file_name.FileName.{FileName}
+use Rattle.shard_files.specs.m3_outside.Files.{Files, IsAbsent}
+use Rattle.shard_files.specs.m3_outside.DiskState.{StepOf, Elapses, Becomes}
+use Rattle.shard_files.specs.wire_bytes.Volumes.{Checkpoint, digests_bytes}
 use Rattle.shard_files.specs.Parts.{part_of}
 use Rattle.shard_files.specs.Steps.{next_volume}
-use Rattle.m3_outside.specs.declared.disk_err.DiskErr.TheVariants.{Memory as WantOfMemory}
-use Rattle.commit_log.proofs.ReadLemmas.{passed_err}
+use Rattle.shard_files.specs.m3_outside.declared.disk_err.DiskErr.TheVariants.{Memory as WantOfMemory}
+use Rattle.shard_files.proofs.commit_log_proofs.ReadLemmas.{passed_err}
 use Rattle.fileset_write.specs.declared.new_file.NewFile.{NewFile}
 use Rattle.fileset_write.specs.Putting.{AreApart, AreAbsent, names_of, with_volume, MayPutAll, PutNone}
 use Rattle.fileset_write.specs.NewVolumes.{new_files, IsNewVolume}

@@ -1,6 +1,6 @@
 use Rattle.std.proofs.Common.{sym, subst}
-use Rattle.cluster_core.specs.Earlier.{HasTenure}
-use Rattle.replica_exchange.specs.MachineCalls.{HasRoom}
+use Rattle.cluster_members.specs.cluster_core.Earlier.{HasTenure}
+use Rattle.cluster_members.specs.replica_exchange.MachineCalls.{HasRoom}
 use Rattle.first_cluster.specs.Depots.{depot_by}
 use Rattle.first_cluster.specs.Slots.{AreApart}
 use Rattle.first_cluster.proofs.FirstLemmas.{opened_by, taken_begun, taken_there}

@@ -1,8 +1,8 @@
 use Rattle.std.proofs.Common.{◌≤◌, [], ◌∷◌, length, ap, sym, subst, ◌∙◌}
 use Rattle.m3_model.specs.Members.{IsIn}
-use Rattle.cluster_core.specs.Earlier.{HasTenure}
-use Rattle.cluster_core.specs.Replicas.{replica}
-use Rattle.cluster_core.specs.declared.event.Event.TheVariants as event
+use Rattle.cluster_members.specs.cluster_core.Earlier.{HasTenure}
+use Rattle.cluster_members.specs.cluster_core.Replicas.{replica}
+use Rattle.cluster_members.specs.cluster_core.declared.event.Event.TheVariants as event
 use Rattle.first_cluster.specs.Depots.{depot_by}
 use Rattle.first_cluster.specs.Lending.{AreOpened, IsUnopened}
 use Rattle.first_cluster.specs.Slots.{AreApart, slots_in}

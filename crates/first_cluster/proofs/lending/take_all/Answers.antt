@@ -1,5 +1,5 @@
 use Rattle.std.proofs.Common.{ap, refl, subst, ◌∙◌}
-use Rattle.cluster_core.specs.Replicas.{replica}
+use Rattle.cluster_members.specs.cluster_core.Replicas.{replica}
 use Rattle.first_cluster.specs.Depots.{depot_by}
 use Rattle.first_cluster.specs.Lending.{HasTaken, MayHaveTaken}
 use Rattle.first_cluster.proofs.ListLemmas.{take_whole}

@@ -4,12 +4,12 @@ use Rattle.m3_model.specs.Answers.{IsAnswer}
 use Rattle.m3_model.specs.Contents.{content_of}
 use Rattle.m3_model.specs.Members.{IsIn}
 use Rattle.m3_model.specs.declared.point.Series.{Series}
-use Rattle.m3_outside.specs.Files.{Files}
-use Rattle.commit_log.proofs.Leaves.{leaves_none, leaves_as, leaves_then}
-use Rattle.commit_log.proofs.ReadLemmas.{passed_err}
-use Rattle.shard_files.specs.FilesHold.{volume_points}
-use Rattle.fileset_read.specs.declared.file_err.FileErr.TheVariants as failures
-use Rattle.series_merge.specs.Merges.{IsMergeOf}
+use Rattle.volume_points.specs.m3_outside.Files.{Files}
+use Rattle.volume_points.proofs.commit_log_proofs.Leaves.{leaves_none, leaves_as, leaves_then}
+use Rattle.volume_points.proofs.commit_log_proofs.ReadLemmas.{passed_err}
+use Rattle.volume_points.specs.shard_files.FilesHold.{volume_points}
+use Rattle.volume_points.specs.fileset_read.declared.file_err.FileErr.TheVariants as failures
+use Rattle.volume_points.specs.series_merge.Merges.{IsMergeOf}
 use Rattle.volume_points.proofs.ReadLemmas.{not_fault}
 use Rattle.listed_volumes.specs.declared.volume.ListedVolume.{ListedVolume}
 use Rattle.listed_volumes.specs.Cached.{AreRight}

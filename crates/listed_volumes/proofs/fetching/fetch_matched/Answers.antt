@@ -2,8 +2,8 @@ use Rattle.std.proofs.Common.{List, [], ◌∷◌, Option, subst}
 use Rattle.std.specs.Prelude.{IfSome}
 use Rattle.m3_model.specs.Reads.{IsOrdered}
 use Rattle.m3_model.specs.declared.point.Series.{Series}
-use Rattle.commit_log.proofs.Leaves.{leaves_none}
-use Rattle.volume_bytes.specs.Heads.{head_of}
+use Rattle.volume_points.proofs.commit_log_proofs.Leaves.{leaves_none}
+use Rattle.volume_points.specs.volume_bytes.Heads.{head_of}
 use Rattle.volume_points.proofs.VolumeLemmas.{answer_of_one}
 use Rattle.listed_volumes.specs.Cached.{IsFoundInRows, cache_key}
 use Rattle.listed_volumes.specs.Listed.{known_as}

@@ -1,5 +1,5 @@
-use Rattle.volume_bytes.specs.Heads.{head_of}
-use Rattle.volume_rows.specs.Seekers.{IsSeekerOf}
+use Rattle.volume_points.specs.volume_bytes.Heads.{head_of}
+use Rattle.volume_points.specs.volume_rows.Seekers.{IsSeekerOf}
 use Rattle.listed_volumes.proofs.KeptLemmas.{borrowed, kept_there}
 use Rattle.listed_volumes.proofs.fetching.fetch_one.Goals as goal
 

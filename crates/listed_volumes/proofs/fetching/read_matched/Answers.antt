@@ -1,5 +1,5 @@
 use Rattle.std.proofs.Common.{◌∙◌, sym, subst}
-use Rattle.volume_bytes.specs.Heads.{head_of}
+use Rattle.volume_points.specs.volume_bytes.Heads.{head_of}
 use Rattle.volume_points.specs.Picked.{AreAscending}
 use Rattle.volume_points.proofs.VolumeLemmas.{answer_of_one, same_rows}
 use Rattle.listed_volumes.specs.Listed.{known_as}

@@ -1,9 +1,9 @@
 use Rattle.std.proofs.Common.{◌*◌, ◌++◌, arith, length, refl, ap, subst, ◌∙◌, true, false}
 use Rattle.m3_model.specs.Members.{IsIn}
 use Rattle.std.specs.List.{flat_map}
-use Rattle.session_net.specs.Runs.{Ran}
-use Rattle.session_net.proofs.ReadyLemmas.{quiet_both, there_after}
-use Rattle.session_net.proofs.RunLemmas.{ran_then}
+use Rattle.cluster_members.specs.session_net.Runs.{Ran}
+use Rattle.cluster_members.proofs.session_net_proofs.ReadyLemmas.{quiet_both, there_after}
+use Rattle.cluster_members.proofs.session_net_proofs.RunLemmas.{ran_then}
 use Rattle.node_calls.specs.Halts.{IsUnrestarted, restart_at, slots_of_node, stop_at}
 use Rattle.node_calls.proofs.NodeActs.{node_is, unstarted_answer}
 use Rattle.node_calls.proofs.RunLemmas.{has_room, no_room, ready_still, restarts_quiet, room_again, same_slots, stops_quiet, unrestarted_quiet}

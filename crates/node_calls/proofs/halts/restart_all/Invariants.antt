@@ -1,6 +1,6 @@
 use Rattle.std.proofs.Common.{take}
 use Rattle.std.specs.List.{flat_map}
-use Rattle.session_net.specs.Runs.{Ran}
+use Rattle.cluster_members.specs.session_net.Runs.{Ran}
 use Rattle.node_calls.specs.Halts.{slots_of_node, restart_at}
 use Rattle.node_calls.proofs.halts.restart_all.Given as goal
 

@@ -2,7 +2,7 @@ use Rattle.std.proofs.Common.{ap, arith, length, ◌∙◌}
 use Rattle.std.specs.Prelude.{nat_eq}
 use Rattle.std.proofs.lemmas.Bool.{eq-eqb, ne_eqb}
 use Rattle.std.proofs.lemmas.List.{take_all}
-use Rattle.replica_exchange.specs.declared.slot.Slot.{Slot}
+use Rattle.cluster_members.specs.replica_exchange.declared.slot.Slot.{Slot}
 use Rattle.node_calls.specs.Halts.{slots_of_node}
 use Rattle.node_calls.proofs.ListLemmas.{count_no, count_yes}
 use Rattle.node_calls.proofs.halts.slots_of.Goals as goal

@@ -4,10 +4,10 @@ use Rattle.std.specs.Prelude.{nat_eq}
 use Rattle.std.proofs.lemmas.Bool.{eq-eqb, ne_eqb}
 use Rattle.std.proofs.lemmas.List.{take_all}
 use Rattle.m3_model.proofs.Lists.{IsIn-get_or}
-use Rattle.replica_exchange.specs.declared.slot.Slot.{Slot}
-use Rattle.session_net.specs.Runs.{Ran}
-use Rattle.session_net.proofs.ReadyLemmas.{there_after}
-use Rattle.session_net.proofs.RunLemmas.{ran_nothing}
+use Rattle.cluster_members.specs.replica_exchange.declared.slot.Slot.{Slot}
+use Rattle.cluster_members.specs.session_net.Runs.{Ran}
+use Rattle.cluster_members.proofs.session_net_proofs.ReadyLemmas.{there_after}
+use Rattle.cluster_members.proofs.session_net_proofs.RunLemmas.{ran_nothing}
 use Rattle.node_calls.specs.Halts.{slots_of_node, stop_at}
 use Rattle.node_calls.proofs.ListLemmas.{filter_no}
 use Rattle.node_calls.proofs.RunLemmas.{ran_more, room_here}

@@ -1,6 +1,6 @@
 use Rattle.std.proofs.Common.{◌*◌, arith, length, refl, ap, subst, ◌∙◌, true, false}
 use Rattle.std.specs.List.{flat_map}
-use Rattle.session_net.specs.Runs.{Ran}
+use Rattle.cluster_members.specs.session_net.Runs.{Ran}
 use Rattle.node_calls.specs.Halts.{slots_of_node, stop_at}
 use Rattle.node_calls.proofs.NodeActs.{node_is}
 use Rattle.node_calls.proofs.RunLemmas.{no_room, ready_still, stops_quiet}

@@ -1,5 +1,5 @@
 use Rattle.std.proofs.Common.{◌↔◌, IsTrue, List, subst}
-use Rattle.m3_model.proofs.Lists.{All-from_each}
+use Rattle.placement_core.proofs.m3_model_proofs.Lists.{All-from_each}
 use Rattle.placement_core.specs.Shards.{Shard}
 use Rattle.placement_core.proofs.ListLemmas.{each-from_All}
 use Rattle.placement_plan.specs.Plans.{IsJoiningPair, AreJoining}

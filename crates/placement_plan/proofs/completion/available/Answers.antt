@@ -1,5 +1,5 @@
 use Rattle.std.proofs.Common.{refl, subst}
-use Rattle.m3_model.specs.declared.placement.Placement.{Placement}
+use Rattle.placement_core.specs.m3_model.declared.placement.Placement.{Placement}
 use Rattle.placement_plan.specs.Plans.{MakesAll, EndsAsNamed, IsAvailable}
 use Rattle.placement_plan.proofs.PlanLemmas.{available_lawful, available_step}
 use Rattle.placement_plan.proofs.completion.available.Goals as goal

@@ -1,5 +1,5 @@
 use Rattle.std.proofs.Common.{refl, subst}
-use Rattle.m3_model.specs.declared.placement.Placement.{Placement}
+use Rattle.placement_core.specs.m3_model.declared.placement.Placement.{Placement}
 use Rattle.placement_plan.specs.Nodes.{ListsNode}
 use Rattle.placement_plan.specs.Plans.{MakesAll, CancelsJoining, IsCancel, IsFreed, GivesTo}
 use Rattle.placement_plan.proofs.PlanLemmas.{cancel_lawful, cancel_step}

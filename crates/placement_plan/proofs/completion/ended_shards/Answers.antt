@@ -1,6 +1,6 @@
 use Rattle.std.proofs.Common.{◌≡◌, ap, sym, ◌∙◌, ℕ, List, [], ◌∷◌, Option, Some, None, IfSome, MatchOption, nat_eq, cond, Bool, true, false, inl, inr, slice_get, refl, subst}
 use Rattle.std.proofs.lemmas.Bool.{eqb-true}
-use Rattle.m3_model.specs.Members.{IsIn}
+use Rattle.placement_core.specs.m3_model.Members.{IsIn}
 use Rattle.placement_core.specs.Shards.{Shard}
 use Rattle.placement_core.specs.Steps.{Ends, done_at}
 use Rattle.placement_core.proofs.ListLemmas.{at_index, same_at}

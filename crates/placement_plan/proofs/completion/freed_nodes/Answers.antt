@@ -1,5 +1,5 @@
 use Rattle.std.proofs.Common.{◌≡◌, cond, ℕ, true, false, Bool, inl, inr, ◌↔◌, IsTrue, refl}
-use Rattle.m3_model.specs.declared.placement.Instance.{Instance}
+use Rattle.placement_core.specs.m3_model.declared.placement.Instance.{Instance}
 use Rattle.placement_core.proofs.StepLemmas.{no_true}
 use Rattle.placement_plan.specs.Plans.{GivesTo, IsFreed}
 use Rattle.placement_plan.proofs.PlaceLemmas.{made_push}

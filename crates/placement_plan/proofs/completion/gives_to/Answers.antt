@@ -3,8 +3,8 @@ use Rattle.placement_core.specs.Shards.{Shard}
 use Rattle.placement_core.proofs.ListLemmas.{at_index, IsIn-from_Any, Any-from_IsIn}
 use Rattle.placement_core.proofs.OrderLemmas.{at_in}
 use Rattle.placement_core.proofs.StepLemmas.{no_true}
-use Rattle.m3_model.specs.declared.placement.Assignment.{Assignment}
-use Rattle.m3_model.specs.declared.placement.ShardState.TheVariants.{Initializing}
+use Rattle.placement_core.specs.m3_model.declared.placement.Assignment.{Assignment}
+use Rattle.placement_core.specs.m3_model.declared.placement.ShardState.TheVariants.{Initializing}
 use Rattle.placement_plan.specs.Plans.{JoinsFrom}
 use Rattle.placement_plan.proofs.PlaceLemmas.{none_all, none_more}
 use Rattle.placement_plan.proofs.completion.gives_to.Goals as goal

@@ -1,4 +1,4 @@
-use Rattle.m3_model.specs.declared.placement.Instance.{Instance}
+use Rattle.placement_core.specs.m3_model.declared.placement.Instance.{Instance}
 use Rattle.std.proofs.Common.{◌≡◌, arith}
 use Rattle.placement_plan.proofs.PlaceLemmas.{none_all}
 use Rattle.placement_plan.proofs.nodes.named_node.Goals as goal

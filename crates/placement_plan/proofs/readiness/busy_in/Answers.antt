@@ -1,7 +1,7 @@
 use Rattle.std.proofs.Common.{◌≡◌, ◌≢◌, ℕ, Option, Some, None, IfSome, IfNone, false, true, sym, subst, ◌∙◌}
-use Rattle.m3_model.specs.Members.{IsIn}
-use Rattle.m3_model.specs.declared.placement.Assignment.{Assignment}
-use Rattle.m3_model.specs.declared.placement.ShardState.TheVariants.{Initializing}
+use Rattle.placement_core.specs.m3_model.Members.{IsIn}
+use Rattle.placement_core.specs.m3_model.declared.placement.Assignment.{Assignment}
+use Rattle.placement_core.specs.m3_model.declared.placement.ShardState.TheVariants.{Initializing}
 use Rattle.placement_core.specs.Shards.{Shard, is_steady}
 use Rattle.placement_core.specs.Lawful.{IsShard}
 use Rattle.placement_plan.specs.Nodes.{Has}

@@ -1,9 +1,9 @@
 use Rattle.std.proofs.Common.{◌≡◌, get_or, refl, sym, ◌∙◌, arith, inl, inr, ◌⊎◌}
 use Rattle.std.proofs.lemmas.Option.{slice_get-get_or}
-use Rattle.m3_model.specs.declared.placement.Assignment.{Assignment}
-use Rattle.m3_model.specs.declared.placement.ShardState.{ShardState}
-use Rattle.m3_model.specs.declared.placement.ShardState.TheVariants.{Initializing, Available, Leaving}
-use Rattle.m3_model.proofs.Lists.{IsIn-get_or}
+use Rattle.placement_core.specs.m3_model.declared.placement.Assignment.{Assignment}
+use Rattle.placement_core.specs.m3_model.declared.placement.ShardState.{ShardState}
+use Rattle.placement_core.specs.m3_model.declared.placement.ShardState.TheVariants.{Initializing, Available, Leaving}
+use Rattle.placement_core.proofs.m3_model_proofs.Lists.{IsIn-get_or}
 use Rattle.placement_plan.proofs.PlaceLemmas.{none_all, none_more, blank}
 use Rattle.placement_plan.proofs.readiness.joining_node.Goals as goal
 

@@ -1,5 +1,5 @@
-use Rattle.m3_model.specs.declared.placement.Assignment.{Assignment}
-use Rattle.m3_model.specs.declared.placement.ShardState.TheVariants.{Initializing}
+use Rattle.placement_core.specs.m3_model.declared.placement.Assignment.{Assignment}
+use Rattle.placement_core.specs.m3_model.declared.placement.ShardState.TheVariants.{Initializing}
 use Rattle.std.proofs.Common.{◌≡◌}
 use Rattle.placement_plan.proofs.PlaceLemmas.{NoneBelow}
 use Rattle.placement_plan.proofs.readiness.joining_node.Given as goal

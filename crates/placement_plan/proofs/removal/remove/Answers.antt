@@ -1,6 +1,6 @@
 use Rattle.std.proofs.Common.{refl, subst}
-use Rattle.m3_model.specs.declared.placement.Placement.{Placement}
-use Rattle.m3_model.specs.Members.{IsIn}
+use Rattle.placement_core.specs.m3_model.declared.placement.Placement.{Placement}
+use Rattle.placement_core.specs.m3_model.Members.{IsIn}
 use Rattle.placement_core.specs.Shards.{Shard}
 use Rattle.placement_plan.specs.Nodes.{ListsNode, Has}
 use Rattle.placement_plan.specs.Plans.{IsRemoval}

@@ -1,7 +1,7 @@
 use Rattle.std.proofs.Common.{◌≡◌, ℕ, get_or, arith}
 use Rattle.std.proofs.lemmas.Option.{slice_get-get_or}
-use Rattle.m3_model.specs.declared.placement.Assignment.{Assignment}
-use Rattle.m3_model.proofs.Lists.{IsIn-get_or}
+use Rattle.placement_core.specs.m3_model.declared.placement.Assignment.{Assignment}
+use Rattle.placement_core.proofs.m3_model_proofs.Lists.{IsIn-get_or}
 use Rattle.placement_core.specs.Lawful.{IsJoiningFrom}
 use Rattle.placement_plan.proofs.PlaceLemmas.{none_all, none_more, blank}
 use Rattle.placement_plan.proofs.shards.source_of.Goals as goal

@@ -1,5 +1,5 @@
 use Rattle.std.proofs.Common.{◌≡◌, ◌<◌, ℕ, slice_get, Some}
-use Rattle.m3_model.specs.declared.placement.Assignment.{Assignment}
+use Rattle.placement_core.specs.m3_model.declared.placement.Assignment.{Assignment}
 use Rattle.placement_core.specs.Lawful.{IsJoiningFrom}
 use Rattle.placement_plan.proofs.shards.source_of.Given as goal
 

@@ -1,5 +1,5 @@
 use Rattle.std.proofs.Common.{length, sym, subst}
-use Rattle.cluster_core.proofs.OwnLemmas.{lawful_later}
+use Rattle.replica_machine.proofs.cluster_core_proofs.OwnLemmas.{lawful_later}
 use Rattle.event_trail.specs.Trails.{IsLawfulOver}
 use Rattle.replica_exchange.specs.Exchanges.{ask_of}
 use Rattle.replica_exchange.proofs.exchange.ask.Goals as goal

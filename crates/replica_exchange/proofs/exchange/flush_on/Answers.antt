@@ -1,6 +1,6 @@
 use Rattle.std.proofs.Common.{refl, inr}
-use Rattle.cluster_core.specs.declared.event.StepCall.TheVariants as call
-use Rattle.cluster_core.specs.declared.event.StepReply.TheVariants as reply
+use Rattle.replica_machine.specs.cluster_core.declared.event.StepCall.TheVariants as call
+use Rattle.replica_machine.specs.cluster_core.declared.event.StepReply.TheVariants as reply
 use Rattle.replica_machine.specs.Steps.{reply_by}
 use Rattle.replica_exchange.specs.MachineCalls.{AddsBoth}
 use Rattle.replica_exchange.proofs.ExchangeLemmas.{Went, opened_after, is_answer, went}

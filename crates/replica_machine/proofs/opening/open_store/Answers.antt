@@ -1,7 +1,7 @@
 use Rattle.std.proofs.Common.{sym, subst, Result, Ok, Err}
 use Rattle.std.specs.Prelude.{⊤}
 use Rattle.m3_outside.specs.declared.disk_err.DiskErr.{DiskErr}
-use Rattle.shard_files.specs.Gains.{Brings, nothing, a_tenure}
+use Rattle.shard_store.specs.shard_files.Gains.{Brings, nothing, a_tenure}
 use Rattle.shard_store.proofs.LogStepLemmas.{err_is}
 use Rattle.replica_machine.proofs.DiskLemmas.{brings_then, brings_refused}
 use Rattle.replica_machine.proofs.opening.open_store.Goals as goal

@@ -1,5 +1,5 @@
 use Rattle.std.proofs.Common.{length}
-use Rattle.cluster_core.proofs.OwnLemmas.{lawful_later}
+use Rattle.replica_calls.proofs.cluster_core_proofs.OwnLemmas.{lawful_later}
 use Rattle.session_net.proofs.RunLemmas.{ran_added}
 use Rattle.session_net.proofs.adding.add.Goals as goal
 

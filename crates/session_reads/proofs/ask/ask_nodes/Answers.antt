@@ -5,8 +5,8 @@ use Rattle.std.proofs.lemmas.List.{map-append}
 use Rattle.m3_model.specs.Reads.{space_picked}
 use Rattle.m3_model.specs.declared.point.Series.{Series}
 use Rattle.m3_model.specs.declared.reason.Reason.{Reason}
-use Rattle.cluster_core.specs.Earlier.{IsClock}
-use Rattle.placement_core.proofs.ListLemmas.{IsIn-from_index}
+use Rattle.session_net.specs.cluster_core.Earlier.{IsClock}
+use Rattle.session_net.proofs.placement_core_proofs.ListLemmas.{IsIn-from_index}
 use Rattle.session_net.specs.Outcomes.{told_of, answering, refusing}
 use Rattle.session_net.specs.Reads.{read_of}
 use Rattle.session_net.specs.Runs.{slot_at}

@@ -1,4 +1,4 @@
-use Rattle.cluster_core.specs.declared.event.StepReply.TheVariants as reply
+use Rattle.session_net.specs.cluster_core.declared.event.StepReply.TheVariants as reply
 use Rattle.session_net.specs.Reads.{read_of}
 use Rattle.session_net.proofs.DeliveryLemmas.{brought_cut, brought_twice}
 use Rattle.session_reads.specs.Gathering.{wish_of}

@@ -1,6 +1,6 @@
 use Rattle.std.proofs.Common.{◌∙◌, ap, Ok, Err}
-use Rattle.cluster_core.specs.declared.event.StepReply.TheVariants as reply
-use Rattle.replica_exchange.specs.Promises.{Reads}
+use Rattle.session_net.specs.cluster_core.declared.event.StepReply.TheVariants as reply
+use Rattle.session_net.specs.replica_exchange.Promises.{Reads}
 use Rattle.session_net.specs.Reads.{read_of}
 use Rattle.session_net.proofs.DeliveryLemmas.{delivered}
 use Rattle.session_reads.specs.Gathering.{wish_of}

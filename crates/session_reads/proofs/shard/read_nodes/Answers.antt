@@ -1,5 +1,5 @@
 use Rattle.std.proofs.Common.{inr}
-use Rattle.cluster_core.specs.Earlier.{IsClock}
+use Rattle.session_net.specs.cluster_core.Earlier.{IsClock}
 use Rattle.session_net.specs.Runs.{slot_at}
 use Rattle.session_net.specs.declared.session_err.SessionErr.TheVariants as err
 use Rattle.session_net.proofs.ReadyLemmas.{any_after, there_after, clock_there}

@@ -2,7 +2,7 @@ use Rattle.std.proofs.Common.{◌<◌, ◌≤◌, length, [], ◌∷◌, ◌++�
 use Rattle.std.proofs.lemmas.Bool.{lt-ltb}
 use Rattle.std.proofs.lemmas.List.{take_all}
 use Rattle.m3_model.specs.Members.{IsIn}
-use Rattle.cluster_core.specs.Earlier.{IsClock, IsSend}
+use Rattle.session_net.specs.cluster_core.Earlier.{IsClock, IsSend}
 use Rattle.net_plan.specs.declared.late_write.LateWrite.{LateWrite}
 use Rattle.placement_core.proofs.ListLemmas.{IsIn-from_index}
 use Rattle.session_net.specs.Deliveries.{known, AreDelivered}

@@ -2,7 +2,7 @@ use Rattle.std.proofs.Common.{◌≡◌, ◌+◌, ◌*◌, ◌≤◌, List, leng
 use Rattle.std.specs.Prelude.{⊤, Result}
 use Rattle.std.specs.Vec.{vec_capacity}
 use Rattle.m3_model.specs.declared.reason.Reason.{Reason}
-use Rattle.cluster_core.specs.declared.event.Event.{Event}
+use Rattle.session_net.specs.cluster_core.declared.event.Event.{Event}
 use Rattle.net_plan.specs.declared.late_write.LateWrite.{LateWrite}
 use Rattle.session_net.specs.Deliveries.{known, outcome_of, AreDelivered}
 use Rattle.session_net.specs.Runs.{Ran}

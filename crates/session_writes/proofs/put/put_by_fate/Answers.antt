@@ -1,5 +1,5 @@
 use Rattle.std.specs.Prelude.{⊤}
-use Rattle.cluster_core.specs.declared.event.StepReply.TheVariants as reply
+use Rattle.session_net.specs.cluster_core.declared.event.StepReply.TheVariants as reply
 use Rattle.session_net.specs.Writes.{put_of}
 use Rattle.session_net.proofs.DeliveryLemmas.{brought_cut, brought_twice}
 use Rattle.session_writes.proofs.put.put_by_fate.Goals as goal

@@ -1,7 +1,7 @@
 use Rattle.std.proofs.Common.{◌∙◌, ap, Ok, Err}
 use Rattle.std.specs.Prelude.{⊤}
-use Rattle.cluster_core.specs.declared.event.StepReply.TheVariants as reply
-use Rattle.replica_exchange.specs.Promises.{Puts}
+use Rattle.session_net.specs.cluster_core.declared.event.StepReply.TheVariants as reply
+use Rattle.session_net.specs.replica_exchange.Promises.{Puts}
 use Rattle.session_net.specs.Writes.{put_of}
 use Rattle.session_net.proofs.DeliveryLemmas.{delivered}
 use Rattle.session_writes.proofs.put.put_once.Goals as goal

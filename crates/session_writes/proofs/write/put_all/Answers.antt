@@ -2,8 +2,8 @@ use Rattle.std.proofs.Common.{◌≡◌, suc, ◌+◌, ◌<◌, [], ◌∷◌, �
 use Rattle.std.specs.Prelude.{⊤}
 use Rattle.std.proofs.lemmas.List.{length-map, map-append, take_more}
 use Rattle.m3_model.specs.declared.placement.Assignment.{Assignment}
-use Rattle.cluster_core.specs.Earlier.{IsSend}
-use Rattle.cluster_core.specs.declared.event.StepReply.TheVariants as reply
+use Rattle.session_net.specs.cluster_core.Earlier.{IsSend}
+use Rattle.session_net.specs.cluster_core.declared.event.StepReply.TheVariants as reply
 use Rattle.placement_core.specs.Shards.{nodes_of}
 use Rattle.placement_core.proofs.ListLemmas.{IsIn-from_index}
 use Rattle.session_net.specs.Messages.{IsHeard, AreHeard}

@@ -1,7 +1,7 @@
 use Rattle.std.proofs.Common.{◌≡◌, ◌+◌, ◌*◌, ◌≤◌, ℕ, List, map, length, take}
 use Rattle.std.specs.Prelude.{⊤}
-use Rattle.cluster_core.specs.declared.event.Event.{Event}
-use Rattle.cluster_core.specs.declared.event.StepReply.TheVariants as reply
+use Rattle.session_net.specs.cluster_core.declared.event.Event.{Event}
+use Rattle.session_net.specs.cluster_core.declared.event.StepReply.TheVariants as reply
 use Rattle.placement_core.specs.Shards.{nodes_of}
 use Rattle.session_net.specs.Messages.{Heard, AreHeard}
 use Rattle.session_net.specs.Outcomes.{told_of, answering, refusing}

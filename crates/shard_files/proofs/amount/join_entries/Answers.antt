@@ -1,5 +1,5 @@
 use Rattle.std.proofs.Common.{◌≡◌, List, ◌++◌, ap, ◌∙◌, max, arith}
-use Rattle.m3_model.specs.declared.point.Point.{Point}
+use Rattle.commit_log.specs.m3_model.declared.point.Point.{Point}
 use Rattle.shard_files.specs.HeldEntries.{tenure_in, fence_in}
 use Rattle.shard_files.proofs.AmountLemmas.{amount_more, order_of}
 use Rattle.shard_files.proofs.amount.join_entries.Goals as goal

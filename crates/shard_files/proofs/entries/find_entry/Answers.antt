@@ -1,7 +1,7 @@
 use Rattle.std.proofs.Common.{◌<◌, ℕ, sym, subst, length}
-use Rattle.wire_bytes.specs.Fields.{IsFault, StopsAt}
-use Rattle.wire_bytes.specs.Entries.{AnEntry}
-use Rattle.wire_bytes.specs.declared.wire_err.WireErr.{WireErr}
+use Rattle.commit_log.specs.wire_bytes.Fields.{IsFault, StopsAt}
+use Rattle.commit_log.specs.wire_bytes.Entries.{AnEntry}
+use Rattle.commit_log.specs.wire_bytes.declared.wire_err.WireErr.{WireErr}
 use Rattle.shard_files.proofs.LocationLemmas.{breaks_behind, breaks_short, breaks_bad}
 use Rattle.shard_files.proofs.entries.find_entry.Goals as goal
 

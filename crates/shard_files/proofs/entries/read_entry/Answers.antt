@@ -1,6 +1,6 @@
 use Rattle.std.proofs.Common.{◌≡◌, length, subst}
-use Rattle.wire_bytes.specs.Entries.{EntryStands}
-use Rattle.wire_bytes.specs.declared.entry_read.EntryAt.{EntryAt}
+use Rattle.commit_log.specs.wire_bytes.Entries.{EntryStands}
+use Rattle.commit_log.specs.wire_bytes.declared.entry_read.EntryAt.{EntryAt}
 use Rattle.shard_files.specs.Entries.{end_of}
 use Rattle.shard_files.proofs.LocationLemmas.{points_whole}
 use Rattle.shard_files.proofs.entries.read_entry.Goals as goal

@@ -1,10 +1,10 @@
 use Rattle.std.proofs.Common.{refl, sym, subst, ◌∙◌, Result, IfOk, to_z, of_z, w64}
 use Rattle.std.specs.Result.{IsOk}
 use Rattle.std.proofs.lemmas.Int.{to_z-of_z}
-use Rattle.m3_model.specs.declared.point.Point.{Point}
-use Rattle.wire_bytes.specs.Points.{PointStands}
-use Rattle.wire_bytes.specs.declared.points.PointAt.{PointAt}
-use Rattle.wire_bytes.specs.declared.wire_err.WireErr.{WireErr}
+use Rattle.commit_log.specs.m3_model.declared.point.Point.{Point}
+use Rattle.commit_log.specs.wire_bytes.Points.{PointStands}
+use Rattle.commit_log.specs.wire_bytes.declared.points.PointAt.{PointAt}
+use Rattle.commit_log.specs.wire_bytes.declared.wire_err.WireErr.{WireErr}
 use Rattle.shard_files.proofs.LocationLemmas.{point_read}
 use Rattle.shard_files.proofs.entries.read_point.Goals as goal
 

@@ -1,7 +1,7 @@
 use Rattle.std.proofs.Common.{◌≡◌, ℕ, suc, ◌+◌, ◌-◌, List, [], ◌∷◌, ◌++◌, length, sym, subst, ap, ◌∙◌, arith}
 use Rattle.std.proofs.lemmas.List.{length_push}
-use Rattle.m3_model.specs.declared.point.Point.{Point}
-use Rattle.wire_bytes.specs.Entries.{PointsStand}
+use Rattle.commit_log.specs.m3_model.declared.point.Point.{Point}
+use Rattle.commit_log.specs.wire_bytes.Entries.{PointsStand}
 use Rattle.shard_files.specs.Entries.{HavePoints}
 use Rattle.shard_files.proofs.LocationLemmas.{first_of, others_of, read_none, read_more}
 use Rattle.shard_files.proofs.entries.read_points.Goals as goal

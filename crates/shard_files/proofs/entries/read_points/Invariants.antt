@@ -1,5 +1,5 @@
 use Rattle.std.proofs.Common.{◌≡◌, ◌-◌, length}
-use Rattle.wire_bytes.specs.Entries.{PointsStand}
+use Rattle.commit_log.specs.wire_bytes.Entries.{PointsStand}
 use Rattle.shard_files.specs.Entries.{HavePoints}
 use Rattle.shard_files.proofs.entries.read_points.Given as goal
 

@@ -1,6 +1,6 @@
 use Rattle.std.proofs.Common.{◌-◌, subst, take, drop, arith}
-use Rattle.wire_bytes.specs.Fields.{StopsAt}
-use Rattle.wire_bytes.specs.Entries.{AnEntry}
+use Rattle.commit_log.specs.wire_bytes.Fields.{StopsAt}
+use Rattle.commit_log.specs.wire_bytes.Entries.{AnEntry}
 use Rattle.shard_files.specs.Entries.{MayBreak}
 use Rattle.shard_files.proofs.segment_entries.read_between.Goals as goal
 

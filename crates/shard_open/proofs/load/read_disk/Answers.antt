@@ -1,13 +1,13 @@
 use Rattle.std.proofs.Common.{◌≡◌, List, map, ◌++◌, ap, subst, ◌∙◌}
 use Rattle.m3_model.specs.declared.point.Point.{Point}
-use Rattle.m3_outside.specs.Files.{Files}
-use Rattle.commit_log.proofs.Leaves.{leaves_as, leaves_then}
-use Rattle.commit_log.proofs.ReadLemmas.{passed_err}
-use Rattle.shard_files.specs.HeldEntries.{HoldsEntries}
-use Rattle.shard_files.specs.FilesHold.{volume_points}
-use Rattle.shard_files.specs.Loading.{LogTells, Tells}
-use Rattle.shard_files.specs.declared.load_err.LoadErr.TheVariants as failures
-use Rattle.shard_files.proofs.SegmentStops.{passed_on}
+use Rattle.snapshot_files.specs.m3_outside.Files.{Files}
+use Rattle.snapshot_files.proofs.commit_log_proofs.Leaves.{leaves_as, leaves_then}
+use Rattle.snapshot_files.proofs.commit_log_proofs.ReadLemmas.{passed_err}
+use Rattle.snapshot_files.specs.shard_files.HeldEntries.{HoldsEntries}
+use Rattle.snapshot_files.specs.shard_files.FilesHold.{volume_points}
+use Rattle.snapshot_files.specs.shard_files.Loading.{LogTells, Tells}
+use Rattle.snapshot_files.specs.shard_files.declared.load_err.LoadErr.TheVariants as failures
+use Rattle.snapshot_files.proofs.shard_files_proofs.SegmentStops.{passed_on}
 use Rattle.snapshot_files.specs.Told.{NewestTells}
 use Rattle.shard_open.specs.Loads.{IsNewest, known_of}
 use Rattle.shard_open.specs.Told.{FilesTell, OfSnapshot, OfLog, MayBeUnsound}

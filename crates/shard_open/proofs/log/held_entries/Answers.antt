@@ -1,6 +1,6 @@
-use Rattle.shard_files.specs.declared.load_err.LoadErr.TheVariants as failures
-use Rattle.commit_log.proofs.Leaves.{leaves_as, leaves_then}
-use Rattle.commit_log.proofs.ReadLemmas.{passed_err}
+use Rattle.snapshot_files.specs.shard_files.declared.load_err.LoadErr.TheVariants as failures
+use Rattle.snapshot_files.proofs.commit_log_proofs.Leaves.{leaves_as, leaves_then}
+use Rattle.snapshot_files.proofs.commit_log_proofs.ReadLemmas.{passed_err}
 use Rattle.shard_open.proofs.log.held_entries.Goals as goal
 
 pub returns-in_err-read_segments-clause-leaves : goal.returns-in_err-read_segments-clause-leaves

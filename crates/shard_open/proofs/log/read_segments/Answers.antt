@@ -1,13 +1,13 @@
 use Rattle.std.proofs.Common.{get_or, refl, subst, ◌∙◌, arith}
-use Rattle.m3_outside.specs.Files.{Files}
-use Rattle.commit_log.specs.Contents.{segment_bytes}
-use Rattle.commit_log.proofs.Leaves.{leaves_none, leaves_as, leaves_then}
-use Rattle.commit_log.proofs.ReadLemmas.{passed_err}
-use Rattle.shard_files.specs.Loading.{ReadsEntries, Tells, LogTells}
-use Rattle.shard_files.specs.Damage.{BreaksSegment}
-use Rattle.shard_files.specs.declared.load_err.LoadErr.TheVariants as failures
-use Rattle.shard_files.proofs.DamageLemmas.{found_none, found_next, found_broken}
-use Rattle.shard_files.proofs.SegmentStops.{passed_on}
+use Rattle.snapshot_files.specs.m3_outside.Files.{Files}
+use Rattle.snapshot_files.specs.commit_log.Contents.{segment_bytes}
+use Rattle.snapshot_files.proofs.commit_log_proofs.Leaves.{leaves_none, leaves_as, leaves_then}
+use Rattle.snapshot_files.proofs.commit_log_proofs.ReadLemmas.{passed_err}
+use Rattle.snapshot_files.specs.shard_files.Loading.{ReadsEntries, Tells, LogTells}
+use Rattle.snapshot_files.specs.shard_files.Damage.{BreaksSegment}
+use Rattle.snapshot_files.specs.shard_files.declared.load_err.LoadErr.TheVariants as failures
+use Rattle.snapshot_files.proofs.shard_files_proofs.DamageLemmas.{found_none, found_next, found_broken}
+use Rattle.snapshot_files.proofs.shard_files_proofs.SegmentStops.{passed_on}
 use Rattle.shard_open.proofs.log.read_segments.Goals as goal
 
 pub loop-number-init : goal.loop-number-init

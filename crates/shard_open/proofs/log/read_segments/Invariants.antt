@@ -1,6 +1,6 @@
 use Rattle.std.proofs.Common.{◌≡◌, true, take}
-use Rattle.m3_outside.specs.DiskCalls.{LeavesFiles}
-use Rattle.shard_files.specs.Loading.{FindsEntries}
+use Rattle.snapshot_files.specs.m3_outside.DiskCalls.{LeavesFiles}
+use Rattle.snapshot_files.specs.shard_files.Loading.{FindsEntries}
 use Rattle.shard_open.proofs.log.read_segments.Given as goal
 
 abbrev pub invariant-loop-number : goal.invariant-loop-number

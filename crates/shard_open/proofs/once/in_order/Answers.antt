@@ -2,7 +2,7 @@ use Rattle.std.proofs.Common.{◌≡◌, sym, subst, rules}
 use Rattle.std.specs.Prelude.{map}
 use Rattle.m3_model.specs.Ascends.{Ascends}
 use Rattle.held_points.proofs.ListLemmas.{sorted_ascends}
-use Rattle.shard_files.specs.Once.{IsBefore}
+use Rattle.snapshot_files.specs.shard_files.Once.{IsBefore}
 use Rattle.shard_open.specs.Ranks.{rank_cmp, unranked}
 use Rattle.shard_open.proofs.OnceLemmas.{unranked_ascend}
 use Rattle.shard_open.proofs.once.in_order.Goals as goal

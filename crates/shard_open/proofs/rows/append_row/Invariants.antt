@@ -1,5 +1,5 @@
 use Rattle.std.proofs.Common.{◌≡◌, ◌++◌, take}
-use Rattle.wire_bytes.specs.Volumes.{points_of_row}
+use Rattle.snapshot_files.specs.wire_bytes.Volumes.{points_of_row}
 use Rattle.shard_open.proofs.rows.append_row.Given as goal
 
 abbrev pub invariant-loop-pair : goal.invariant-loop-pair

@@ -1,5 +1,5 @@
 use Rattle.std.proofs.Common.{◌≡◌, ◌++◌, take}
-use Rattle.wire_bytes.specs.Volumes.{points_of_rows}
+use Rattle.snapshot_files.specs.wire_bytes.Volumes.{points_of_rows}
 use Rattle.shard_open.proofs.rows.append_rows.Given as goal
 
 abbrev pub invariant-loop-row : goal.invariant-loop-row

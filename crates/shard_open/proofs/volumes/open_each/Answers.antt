@@ -1,13 +1,13 @@
 use Rattle.std.proofs.Common.{List, [], map, ◌++◌, sym, ap, subst, ◌∙◌, append-nil, get_or}
 use Rattle.m3_model.proofs.Lists.{IsIn-get_or}
-use Rattle.m3_outside.specs.Files.{Files}
-use Rattle.commit_log.proofs.Leaves.{leaves_none, leaves_as, leaves_then}
-use Rattle.commit_log.proofs.ReadLemmas.{passed_err}
-use Rattle.volume_bytes.specs.Heads.{head_of}
-use Rattle.shard_files.specs.FilesHold.{volume_points}
-use Rattle.shard_files.specs.declared.load_err.LoadErr.TheVariants as failures
-use Rattle.fileset_read.specs.Volumes.{IsThere}
-use Rattle.fileset_check.specs.declared.volume.Volume.{Volume}
+use Rattle.snapshot_files.specs.m3_outside.Files.{Files}
+use Rattle.snapshot_files.proofs.commit_log_proofs.Leaves.{leaves_none, leaves_as, leaves_then}
+use Rattle.snapshot_files.proofs.commit_log_proofs.ReadLemmas.{passed_err}
+use Rattle.snapshot_files.specs.volume_bytes.Heads.{head_of}
+use Rattle.snapshot_files.specs.shard_files.FilesHold.{volume_points}
+use Rattle.snapshot_files.specs.shard_files.declared.load_err.LoadErr.TheVariants as failures
+use Rattle.snapshot_files.specs.fileset_read.Volumes.{IsThere}
+use Rattle.snapshot_files.specs.fileset_check.declared.volume.Volume.{Volume}
 use Rattle.shard_open.specs.Loads.{AreOpen, IsOpen, known_of}
 use Rattle.shard_open.specs.declared.volumes.OpenVolume.{OpenVolume}
 use Rattle.shard_open.proofs.OpenLemmas.{open_more, points_more, not_disk}

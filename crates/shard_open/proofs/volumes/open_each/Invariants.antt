@@ -1,6 +1,6 @@
 use Rattle.std.proofs.Common.{◌≡◌, ◌++◌, true, take, map}
-use Rattle.m3_outside.specs.DiskCalls.{LeavesFiles}
-use Rattle.shard_files.specs.FilesHold.{volume_points}
+use Rattle.snapshot_files.specs.m3_outside.DiskCalls.{LeavesFiles}
+use Rattle.snapshot_files.specs.shard_files.FilesHold.{volume_points}
 use Rattle.shard_open.specs.Loads.{AreOpen, known_of}
 use Rattle.shard_open.proofs.volumes.open_each.Given as goal
 

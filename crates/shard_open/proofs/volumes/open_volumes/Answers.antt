@@ -1,8 +1,8 @@
 use Rattle.std.proofs.Common.{List, subst, ◌∙◌}
 use Rattle.std.proofs.lemmas.Result.{IfOk-weaker}
-use Rattle.m3_outside.specs.Files.{Files}
-use Rattle.commit_log.proofs.Leaves.{leaves_then}
-use Rattle.fileset_check.specs.declared.volume.Volume.{Volume}
+use Rattle.snapshot_files.specs.m3_outside.Files.{Files}
+use Rattle.snapshot_files.proofs.commit_log_proofs.Leaves.{leaves_then}
+use Rattle.snapshot_files.specs.fileset_check.declared.volume.Volume.{Volume}
 use Rattle.shard_open.specs.Loads.{AreOpen, AreOpened}
 use Rattle.shard_open.proofs.OpenLemmas.{volumes_opened}
 use Rattle.shard_open.proofs.volumes.open_volumes.Goals as goal

@@ -1,7 +1,7 @@
 use Rattle.std.proofs.Common.{ap, ◌∙◌, rules}
 use Rattle.std.specs.Prelude.{filter}
-use Rattle.volume_bytes.specs.declared.heads.Head.{Head}
-use Rattle.volume_bytes.specs.Heads.{head_of}
+use Rattle.listed_volumes.specs.volume_bytes.declared.heads.Head.{Head}
+use Rattle.listed_volumes.specs.volume_bytes.Heads.{head_of}
 use Rattle.listed_volumes.specs.Known.{is_head_of}
 use Rattle.listed_volumes.proofs.RetainLemmas.{filtered}
 use Rattle.shard_store.proofs.flush.older.Goals as goal

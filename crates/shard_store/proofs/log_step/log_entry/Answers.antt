@@ -2,7 +2,7 @@ use Rattle.std.proofs.Common.{◌∙◌, refl, sym, subst}
 use Rattle.std.specs.Prelude.{⊤, IsErr, IsErrOf}
 use Rattle.m3_outside.specs.Causes.{CountsFaults}
 use Rattle.m3_outside.specs.declared.disk_err.DiskErr.TheVariants.{Failed as DiskFailed}
-use Rattle.shard_files.specs.LogSteps.{gain_in}
+use Rattle.listed_volumes.specs.shard_files.LogSteps.{gain_in}
 use Rattle.shard_store.proofs.LogStepLemmas.{err_is, err_to, brings_nothing, brings_fault, brings_all, after_nothing, steps_after_nothing}
 use Rattle.shard_open.proofs.Counts.{counts_both, counts_for}
 use Rattle.shard_store.proofs.log_step.log_entry.Goals as goal

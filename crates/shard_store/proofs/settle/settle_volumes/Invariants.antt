@@ -1,6 +1,6 @@
 use Rattle.std.proofs.Common.{◌≡◌, None, take, map}
-use Rattle.block_buffer.specs.Taken.{settled_with}
-use Rattle.shard_files.specs.FilesHold.{volume_points}
+use Rattle.listed_volumes.specs.block_buffer.Taken.{settled_with}
+use Rattle.listed_volumes.specs.shard_files.FilesHold.{volume_points}
 use Rattle.shard_open.specs.Loads.{known_of}
 use Rattle.shard_store.proofs.settle.settle_volumes.Given as goal
 

@@ -1,7 +1,7 @@
 use Rattle.std.proofs.Common.{rules}
-use Rattle.wire_bytes.specs.Volumes.{VolumeHead}
-use Rattle.volume_bytes.specs.declared.heads.Head.{Head}
-use Rattle.volume_bytes.specs.Heads.{head_of}
+use Rattle.listed_volumes.specs.wire_bytes.Volumes.{VolumeHead}
+use Rattle.listed_volumes.specs.volume_bytes.declared.heads.Head.{Head}
+use Rattle.listed_volumes.specs.volume_bytes.Heads.{head_of}
 use Rattle.listed_volumes.proofs.RetainLemmas.{filtered}
 use Rattle.shard_store.specs.Ticks.{is_outlived}
 use Rattle.shard_store.proofs.VolumeLists.{some_heads}

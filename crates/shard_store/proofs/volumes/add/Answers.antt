@@ -1,5 +1,5 @@
 use Rattle.std.proofs.Common.{◌≡◌, ◌++◌, ◌∷◌, List, take, drop, subst}
-use Rattle.volume_steps.specs.KnownLists.{with_volume}
+use Rattle.snapshot_steps.specs.volume_steps.KnownLists.{with_volume}
 use Rattle.listed_volumes.specs.Listed.{known_as, known_in}
 use Rattle.listed_volumes.specs.declared.volume.ListedVolume.{ListedVolume}
 use Rattle.shard_store.proofs.VolumeLists.{added}

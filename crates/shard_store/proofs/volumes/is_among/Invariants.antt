@@ -1,6 +1,6 @@
 use Rattle.std.proofs.Common.{◌≡◌, false, [], take}
-use Rattle.volume_bytes.specs.Heads.{head_of}
-use Rattle.volume_steps.specs.KnownLists.{is_one_of}
+use Rattle.listed_volumes.specs.volume_bytes.Heads.{head_of}
+use Rattle.snapshot_steps.specs.volume_steps.KnownLists.{is_one_of}
 use Rattle.shard_store.proofs.volumes.is_among.Given as goal
 
 -- it is none of those so far

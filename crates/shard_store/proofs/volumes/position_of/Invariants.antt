@@ -1,7 +1,7 @@
 use Rattle.std.proofs.Common.{◌≡◌, ◌++◌, List, take, drop}
 use Rattle.m3_model.specs.declared.point.Series.{Series}
-use Rattle.volume_bytes.specs.Heads.{head_of}
-use Rattle.volume_steps.specs.KnownLists.{with_volume}
+use Rattle.listed_volumes.specs.volume_bytes.Heads.{head_of}
+use Rattle.snapshot_steps.specs.volume_steps.KnownLists.{with_volume}
 use Rattle.listed_volumes.specs.Listed.{known_in}
 use Rattle.shard_store.proofs.volumes.position_of.Given as goal
 

@@ -1,6 +1,6 @@
 use Rattle.std.proofs.Common.{ap, ◌∙◌, not, rules}
 use Rattle.listed_volumes.proofs.RetainLemmas.{filtered}
-use Rattle.volume_steps.specs.KnownLists.{is_one_of}
+use Rattle.snapshot_steps.specs.volume_steps.KnownLists.{is_one_of}
 use Rattle.listed_volumes.specs.Listed.{known_as, known_in}
 use Rattle.listed_volumes.specs.declared.volume.ListedVolume.{ListedVolume}
 use Rattle.shard_store.proofs.VolumeLists.{filter_known}

@@ -1,5 +1,5 @@
 use Rattle.std.proofs.Common.{◌≡◌, length, sym, ap, subst, ◌∙◌}
-use Rattle.m3_model.specs.Ascends.{Ascends}
+use Rattle.fileset_check.specs.m3_model.Ascends.{Ascends}
 use Rattle.snapshot_files.specs.Bodies.{head_in}
 use Rattle.snapshot_files.specs.Snaps.{IsBefore}
 use Rattle.snapshot_files.specs.declared.body.Head.{Head}

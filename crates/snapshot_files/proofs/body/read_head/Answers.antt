@@ -1,6 +1,6 @@
 use Rattle.std.proofs.Common.{◌≡◌, ℕ, subst, arith}
 use Rattle.byteorder.specs.Endian.{big_bytes}
-use Rattle.wire_bytes.specs.Fields.{Stands}
+use Rattle.fileset_check.specs.wire_bytes.Fields.{Stands}
 use Rattle.snapshot_files.proofs.BodyLemmas.{fields_of, head_stands}
 use Rattle.snapshot_files.proofs.body.read_head.Goals as goal
 

@@ -1,10 +1,10 @@
 use Rattle.std.proofs.Common.{refl, ◌∙◌, to_z, of_z, w64}
 use Rattle.std.proofs.lemmas.Int.{to_z-of_z}
-use Rattle.m3_model.specs.declared.point.Point.{Point}
-use Rattle.shard_files.specs.Entries.{HasPoint}
-use Rattle.shard_files.proofs.LocationLemmas.{point_read}
-use Rattle.shard_files.proofs.SegmentStops.{passed_on}
-use Rattle.fileset_read.specs.declared.row_err.RowErr.TheVariants as errors
+use Rattle.fileset_check.specs.m3_model.declared.point.Point.{Point}
+use Rattle.fileset_check.specs.shard_files.Entries.{HasPoint}
+use Rattle.fileset_check.proofs.shard_files_proofs.LocationLemmas.{point_read}
+use Rattle.fileset_check.proofs.shard_files_proofs.SegmentStops.{passed_on}
+use Rattle.fileset_check.specs.fileset_read.declared.row_err.RowErr.TheVariants as errors
 use Rattle.snapshot_files.specs.Bodies.{Refuses}
 use Rattle.snapshot_files.proofs.body.read_point.Goals as goal
 

@@ -1,11 +1,11 @@
 use Rattle.std.proofs.Common.{◌≡◌, ℕ, suc, ◌+◌, ◌-◌, List, [], ◌∷◌, ◌++◌, length, sym, subst, ap, ◌∙◌, arith}
 use Rattle.std.proofs.lemmas.List.{length_push}
-use Rattle.m3_model.specs.declared.point.Point.{Point}
-use Rattle.wire_bytes.specs.Entries.{PointsStand}
-use Rattle.wire_bytes.proofs.EntryLemmas.{stands_none}
-use Rattle.shard_files.specs.Entries.{HasPoint, HavePoints}
-use Rattle.shard_files.proofs.LocationLemmas.{first_of, others_of, read_more}
-use Rattle.shard_files.proofs.SegmentStops.{passed_on}
+use Rattle.fileset_check.specs.m3_model.declared.point.Point.{Point}
+use Rattle.fileset_check.specs.wire_bytes.Entries.{PointsStand}
+use Rattle.fileset_check.proofs.wire_bytes_proofs.EntryLemmas.{stands_none}
+use Rattle.fileset_check.specs.shard_files.Entries.{HasPoint, HavePoints}
+use Rattle.fileset_check.proofs.shard_files_proofs.LocationLemmas.{first_of, others_of, read_more}
+use Rattle.fileset_check.proofs.shard_files_proofs.SegmentStops.{passed_on}
 use Rattle.snapshot_files.specs.Bodies.{Refuses}
 use Rattle.snapshot_files.proofs.CheckLemmas.{refuses_as}
 use Rattle.snapshot_files.proofs.body.read_points.Goals as goal

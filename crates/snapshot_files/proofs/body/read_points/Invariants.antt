@@ -1,6 +1,6 @@
 use Rattle.std.proofs.Common.{◌≡◌, ◌-◌, length}
-use Rattle.wire_bytes.specs.Entries.{PointsStand}
-use Rattle.shard_files.specs.Entries.{HavePoints}
+use Rattle.fileset_check.specs.wire_bytes.Entries.{PointsStand}
+use Rattle.fileset_check.specs.shard_files.Entries.{HavePoints}
 use Rattle.snapshot_files.proofs.body.read_points.Given as goal
 
 -- the first of the points are read, and the others stand behind them where all do

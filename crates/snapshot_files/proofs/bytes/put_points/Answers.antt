@@ -1,10 +1,10 @@
 use Rattle.std.proofs.Common.{◌≡◌, ℕ, ℤ, List, [], ◌∷◌, ◌++◌, take, subst, sym, ap, ◌∙◌, append_assoc, to_z, of_z, w64}
 use Rattle.std.proofs.lemmas.List.{take_more}
 use Rattle.std.proofs.lemmas.Int.{to_z-of_z}
-use Rattle.m3_model.specs.declared.point.Point.{Point}
-use Rattle.wire_bytes.specs.Points.{IsPoint, point_bytes}
-use Rattle.wire_bytes.specs.Entries.{bytes_of_point, points_bytes}
-use Rattle.wire_bytes.proofs.EntryLemmas.{bounded_at, points_more}
+use Rattle.fileset_check.specs.m3_model.declared.point.Point.{Point}
+use Rattle.fileset_check.specs.wire_bytes.Points.{IsPoint, point_bytes}
+use Rattle.fileset_check.specs.wire_bytes.Entries.{bytes_of_point, points_bytes}
+use Rattle.fileset_check.proofs.wire_bytes_proofs.EntryLemmas.{bounded_at, points_more}
 use Rattle.snapshot_files.proofs.bytes.put_points.Goals as goal
 
 pub put_point-requires : goal.put_point-requires

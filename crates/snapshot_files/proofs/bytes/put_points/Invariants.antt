@@ -1,5 +1,5 @@
 use Rattle.std.proofs.Common.{◌≡◌, ◌++◌, take}
-use Rattle.wire_bytes.specs.Entries.{points_bytes}
+use Rattle.fileset_check.specs.wire_bytes.Entries.{points_bytes}
 use Rattle.snapshot_files.proofs.bytes.put_points.Given as goal
 
 -- the first of the points are appended

@@ -1,6 +1,6 @@
 use Rattle.std.proofs.Common.{ap, ◌∙◌, rules}
 use Rattle.sha2.specs.Sha256.{sha256}
-use Rattle.shard_files.specs.Parts.{snapshot_data}
+use Rattle.fileset_check.specs.shard_files.Parts.{snapshot_data}
 use Rattle.snapshot_files.proofs.CheckLemmas.{digest_told}
 use Rattle.snapshot_files.proofs.check.check_digest.Goals as goal
 

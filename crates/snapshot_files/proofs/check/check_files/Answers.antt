@@ -1,8 +1,8 @@
 use Rattle.std.proofs.lemmas.Result.{IfOk-weaker}
-use Rattle.shard_files.specs.Parts.{snapshot_checkpoint, snapshot_data}
-use Rattle.shard_files.specs.Damage.{BreaksDigest, BreaksForm, IsGate}
-use Rattle.shard_files.proofs.SegmentStops.{passed_on}
-use Rattle.commit_log.proofs.ReadLemmas.{passed_err}
+use Rattle.fileset_check.specs.shard_files.Parts.{snapshot_checkpoint, snapshot_data}
+use Rattle.fileset_check.specs.shard_files.Damage.{BreaksDigest, BreaksForm, IsGate}
+use Rattle.fileset_check.proofs.shard_files_proofs.SegmentStops.{passed_on}
+use Rattle.fileset_check.proofs.commit_log_proofs.ReadLemmas.{passed_err}
 use Rattle.fileset_check.specs.Told.{MayTell}
 use Rattle.fileset_check.specs.declared.check_err.CheckErr.TheVariants as failures
 use Rattle.fileset_check.proofs.FirstLemmas.{tells_as}

@@ -1,4 +1,4 @@
-use Rattle.commit_log.proofs.Leaves.{leaves_as}
+use Rattle.fileset_check.proofs.commit_log_proofs.Leaves.{leaves_as}
 use Rattle.snapshot_files.proofs.check.check_snapshot.Goals as goal
 
 pub returns-clause-leaves : goal.returns-clause-leaves

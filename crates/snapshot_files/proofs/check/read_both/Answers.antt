@@ -1,9 +1,9 @@
 use Rattle.std.proofs.Common.{ap, ◌∙◌}
 use Rattle.std.specs.FinMap.{get}
-use Rattle.m3_outside.specs.Files.{Files}
-use Rattle.m3_outside.specs.declared.disk_err.DiskErr.TheVariants.{Failed as DiskFailed}
-use Rattle.commit_log.proofs.Leaves.{leaves_as, leaves_then}
-use Rattle.commit_log.proofs.ReadLemmas.{passed_err}
+use Rattle.fileset_check.specs.m3_outside.Files.{Files}
+use Rattle.fileset_check.specs.m3_outside.declared.disk_err.DiskErr.TheVariants.{Failed as DiskFailed}
+use Rattle.fileset_check.proofs.commit_log_proofs.Leaves.{leaves_as, leaves_then}
+use Rattle.fileset_check.proofs.commit_log_proofs.ReadLemmas.{passed_err}
 use Rattle.snapshot_files.proofs.check.read_both.Goals as goal
 
 pub returns-in_err-body-clause-leaves : goal.returns-in_err-body-clause-leaves

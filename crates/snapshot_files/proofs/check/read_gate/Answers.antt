@@ -1,6 +1,6 @@
 use Rattle.std.proofs.Common.{arith}
-use Rattle.shard_files.specs.Parts.{snapshot_checkpoint}
-use Rattle.shard_files.specs.Damage.{IsGate}
+use Rattle.fileset_check.specs.shard_files.Parts.{snapshot_checkpoint}
+use Rattle.fileset_check.specs.shard_files.Damage.{IsGate}
 use Rattle.fileset_check.proofs.DigestLemmas.{gate_there, gate_bytes}
 use Rattle.snapshot_files.proofs.CheckLemmas.{breaks_form}
 use Rattle.snapshot_files.proofs.check.read_gate.Goals as goal

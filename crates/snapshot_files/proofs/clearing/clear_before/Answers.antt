@@ -1,10 +1,10 @@
 use Rattle.std.proofs.Common.{sym, subst, ◌∙◌, List}
-use Rattle.m3_outside.specs.declared.file_name.FileName.{FileName}
-use Rattle.m3_outside.specs.DiskState.{Elapses, Becomes}
-use Rattle.m3_outside.specs.Removal.{without_files, MayTakeAway, HasTakenAway, AreRemovable}
-use Rattle.m3_outside.proofs.Moments.{becomes_stays}
-use Rattle.m3_outside.proofs.Removal.{left_elapses, left_all, then_elapses, then_becomes, then_taken}
-use Rattle.shard_files.specs.Steps.{snapshots_below}
+use Rattle.fileset_check.specs.m3_outside.declared.file_name.FileName.{FileName}
+use Rattle.fileset_check.specs.m3_outside.DiskState.{Elapses, Becomes}
+use Rattle.fileset_check.specs.m3_outside.Removal.{without_files, MayTakeAway, HasTakenAway, AreRemovable}
+use Rattle.fileset_check.proofs.m3_outside_proofs.Moments.{becomes_stays}
+use Rattle.fileset_check.proofs.m3_outside_proofs.Removal.{left_elapses, left_all, then_elapses, then_becomes, then_taken}
+use Rattle.fileset_check.specs.shard_files.Steps.{snapshots_below}
 use Rattle.snapshot_files.proofs.ClearLemmas.{below_removable}
 use Rattle.snapshot_files.proofs.clearing.clear_before.Goals as goal
 

@@ -1,10 +1,10 @@
 use Rattle.std.proofs.Common.{◌++◌, ap, ◌∙◌, List}
 use Rattle.std.specs.Prelude.{filter}
-use Rattle.m3_outside.specs.declared.file_name.FileName.{FileName}
-use Rattle.m3_outside.specs.declared.disk_err.DiskErr.TheVariants.{Failed as DiskFailed}
-use Rattle.shard_files.specs.Steps.{is_older}
-use Rattle.commit_log.proofs.Leaves.{leaves_as, leaves_then, leaves_memory}
-use Rattle.commit_log.proofs.ReadLemmas.{passed_err}
+use Rattle.fileset_check.specs.m3_outside.declared.file_name.FileName.{FileName}
+use Rattle.fileset_check.specs.m3_outside.declared.disk_err.DiskErr.TheVariants.{Failed as DiskFailed}
+use Rattle.fileset_check.specs.shard_files.Steps.{is_older}
+use Rattle.fileset_check.proofs.commit_log_proofs.Leaves.{leaves_as, leaves_then, leaves_memory}
+use Rattle.fileset_check.proofs.commit_log_proofs.ReadLemmas.{passed_err}
 use Rattle.snapshot_files.proofs.clearing.find_below.Goals as goal
 
 pub returns-in_err-older-clause-leaves : goal.returns-in_err-older-clause-leaves

@@ -1,8 +1,8 @@
 use Rattle.std.proofs.Common.{◌++◌, [], ◌∷◌, take, refl, sym, ap, subst, ◌∙◌}
 use Rattle.std.proofs.lemmas.List.{take_all, take_more}
-use Rattle.m3_model.specs.declared.point.Point.{Point}
-use Rattle.wire_bytes.specs.Entries.{AllBounded}
-use Rattle.wire_bytes.proofs.EntryLemmas.{bounded_at, bounded_more}
+use Rattle.fileset_check.specs.m3_model.declared.point.Point.{Point}
+use Rattle.fileset_check.specs.wire_bytes.Entries.{AllBounded}
+use Rattle.fileset_check.proofs.wire_bytes_proofs.EntryLemmas.{bounded_at, bounded_more}
 use Rattle.snapshot_files.proofs.lawful.are_bounded.Goals as goal
 
 pub loop-point-init : goal.loop-point-init

@@ -1,5 +1,5 @@
 use Rattle.std.proofs.Common.{take}
-use Rattle.wire_bytes.specs.Entries.{AllBounded}
+use Rattle.fileset_check.specs.wire_bytes.Entries.{AllBounded}
 use Rattle.snapshot_files.proofs.lawful.are_bounded.Given as goal
 
 -- the first of the points lie within their bounds

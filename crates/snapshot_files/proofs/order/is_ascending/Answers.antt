@@ -1,6 +1,6 @@
 use Rattle.std.proofs.Common.{refl, subst, arith}
 use Rattle.std.proofs.lemmas.List.{take_all}
-use Rattle.m3_model.specs.Ascends.{Ascends}
+use Rattle.fileset_check.specs.m3_model.Ascends.{Ascends}
 use Rattle.snapshot_files.specs.Snaps.{IsBefore}
 use Rattle.snapshot_files.proofs.OrderLemmas.{next_ascends, next_above, one_ascends, before_through}
 use Rattle.snapshot_files.proofs.order.is_ascending.Goals as goal

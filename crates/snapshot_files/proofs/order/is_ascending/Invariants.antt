@@ -1,5 +1,5 @@
 use Rattle.std.proofs.Common.{◌≤◌, take}
-use Rattle.m3_model.specs.Ascends.{Ascends}
+use Rattle.fileset_check.specs.m3_model.Ascends.{Ascends}
 use Rattle.snapshot_files.specs.Snaps.{IsBefore}
 use Rattle.snapshot_files.proofs.order.is_ascending.Given as goal
 

@@ -1,4 +1,4 @@
-use Rattle.commit_log.proofs.Leaves.{leaves_none}
+use Rattle.fileset_check.proofs.commit_log_proofs.Leaves.{leaves_none}
 use Rattle.snapshot_files.proofs.reading.counts.Goals as goal
 
 pub returns-then-name-ne-CHECKPOINT-clause-leaves : goal.returns-then-name-ne-CHECKPOINT-clause-leaves

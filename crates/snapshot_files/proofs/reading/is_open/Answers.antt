@@ -1,8 +1,8 @@
 use Rattle.std.proofs.Common.{◌≡◌, length, sym, ap, ◌∙◌, arith}
 use Rattle.std.specs.FinMap.{get}
-use Rattle.m3_outside.specs.Files.{Files}
-use Rattle.commit_log.proofs.Leaves.{leaves_as, leaves_then}
-use Rattle.fileset_read.proofs.NameLemmas.{err_is, gate_read}
+use Rattle.fileset_check.specs.m3_outside.Files.{Files}
+use Rattle.fileset_check.proofs.commit_log_proofs.Leaves.{leaves_as, leaves_then}
+use Rattle.fileset_check.proofs.fileset_read_proofs.NameLemmas.{err_is, gate_read}
 use Rattle.snapshot_files.proofs.reading.is_open.Goals as goal
 
 pub returns-in_err-read-clause-leaves : goal.returns-in_err-read-clause-leaves

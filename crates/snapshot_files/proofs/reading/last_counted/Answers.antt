@@ -1,8 +1,8 @@
 use Rattle.std.proofs.Common.{refl, ap, ◌∙◌, get_or}
-use Rattle.m3_outside.specs.declared.file_name.FileName.{FileName}
-use Rattle.m3_outside.specs.Files.{Files}
-use Rattle.commit_log.proofs.Leaves.{leaves_none, leaves_as, leaves_then}
-use Rattle.fileset_read.proofs.NameLemmas.{err_is}
+use Rattle.fileset_check.specs.m3_outside.declared.file_name.FileName.{FileName}
+use Rattle.fileset_check.specs.m3_outside.Files.{Files}
+use Rattle.fileset_check.proofs.commit_log_proofs.Leaves.{leaves_none, leaves_as, leaves_then}
+use Rattle.fileset_check.proofs.fileset_read_proofs.NameLemmas.{err_is}
 use Rattle.snapshot_files.specs.Told.{is_counted}
 use Rattle.snapshot_files.proofs.NewestLemmas.{name_more}
 use Rattle.snapshot_files.proofs.reading.last_counted.Goals as goal

@@ -1,7 +1,7 @@
 use Rattle.std.proofs.Common.{◌≡◌, true, take}
 use Rattle.std.specs.Prelude.{filter}
-use Rattle.m3_outside.specs.DiskCalls.{LeavesFiles}
-use Rattle.shard_files.specs.Damage.{last_of}
+use Rattle.fileset_check.specs.m3_outside.DiskCalls.{LeavesFiles}
+use Rattle.fileset_check.specs.shard_files.Damage.{last_of}
 use Rattle.snapshot_files.specs.Told.{checkpoint_of, is_counted}
 use Rattle.snapshot_files.proofs.reading.last_counted.Given as goal
 

@@ -1,8 +1,8 @@
 use Rattle.std.proofs.Common.{ap, subst, ◌∙◌}
-use Rattle.m3_outside.specs.Files.{Files}
+use Rattle.fileset_check.specs.m3_outside.Files.{Files}
 use Rattle.fileset_check.specs.declared.check_err.CheckErr.TheVariants as failures
-use Rattle.commit_log.proofs.Leaves.{leaves_as, leaves_then}
-use Rattle.commit_log.proofs.ReadLemmas.{passed_err}
+use Rattle.fileset_check.proofs.commit_log_proofs.Leaves.{leaves_as, leaves_then}
+use Rattle.fileset_check.proofs.commit_log_proofs.ReadLemmas.{passed_err}
 use Rattle.snapshot_files.specs.Told.{IsThere, checkpoint_of}
 use Rattle.snapshot_files.proofs.NewestLemmas.{none_newest, is_newest}
 use Rattle.snapshot_files.proofs.reading.newest.Goals as goal

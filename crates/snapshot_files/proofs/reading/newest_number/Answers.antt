@@ -1,11 +1,11 @@
 use Rattle.std.proofs.Common.{◌≡◌, ap, subst, ◌∙◌, List}
 use Rattle.std.specs.Prelude.{filter}
 use Rattle.std.specs.FinMap.{keys}
-use Rattle.m3_outside.specs.Files.{Files}
-use Rattle.m3_outside.specs.declared.file_name.FileName.{FileName}
-use Rattle.commit_log.proofs.Leaves.{leaves_as, leaves_then}
-use Rattle.fileset_read.proofs.NameLemmas.{err_is}
-use Rattle.shard_files.specs.Damage.{last_of}
+use Rattle.fileset_check.specs.m3_outside.Files.{Files}
+use Rattle.fileset_check.specs.m3_outside.declared.file_name.FileName.{FileName}
+use Rattle.fileset_check.proofs.commit_log_proofs.Leaves.{leaves_as, leaves_then}
+use Rattle.fileset_check.proofs.fileset_read_proofs.NameLemmas.{err_is}
+use Rattle.fileset_check.specs.shard_files.Damage.{last_of}
 use Rattle.snapshot_files.specs.Told.{checkpoint_of, is_counted}
 use Rattle.snapshot_files.proofs.NewestLemmas.{counted_names}
 use Rattle.snapshot_files.proofs.reading.newest_number.Goals as goal

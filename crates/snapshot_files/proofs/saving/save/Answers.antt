@@ -1,9 +1,9 @@
 use Rattle.std.proofs.Common.{ap, ◌∙◌, List, ℕ}
 use Rattle.std.proofs.lemmas.Result.{on_ok_weaker}
 use Rattle.sha2.specs.Sha256.{sha256}
-use Rattle.m3_outside.specs.declared.file_name.FileName.{FileName}
-use Rattle.m3_outside.specs.Files.{Files}
-use Rattle.m3_outside.specs.DiskState.{StepOf, Elapses, Becomes}
+use Rattle.fileset_check.specs.m3_outside.declared.file_name.FileName.{FileName}
+use Rattle.fileset_check.specs.m3_outside.Files.{Files}
+use Rattle.fileset_check.specs.m3_outside.DiskState.{StepOf, Elapses, Becomes}
 use Rattle.fileset_write.specs.declared.new_file.NewFile.{NewFile}
 use Rattle.fileset_write.specs.Putting.{with_volume, MayPutAll, PutNone}
 use Rattle.snapshot_files.specs.Snaps.{seen}

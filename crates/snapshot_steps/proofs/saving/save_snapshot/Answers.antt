@@ -1,8 +1,8 @@
 use Rattle.std.proofs.Common.{◌∙◌, ap, sym, subst}
-use Rattle.m3_outside.specs.declared.disk_err.DiskErr.TheVariants.{Memory}
-use Rattle.commit_log.specs.Contents.{numbers}
-use Rattle.commit_log.proofs.Begin.{stands_stays}
-use Rattle.shard_files.specs.Parts.{IsNewestNumber}
+use Rattle.snapshot_files.specs.m3_outside.declared.disk_err.DiskErr.TheVariants.{Memory}
+use Rattle.snapshot_files.specs.commit_log.Contents.{numbers}
+use Rattle.snapshot_files.proofs.commit_log_proofs.Begin.{stands_stays}
+use Rattle.snapshot_files.specs.shard_files.Parts.{IsNewestNumber}
 use Rattle.volume_steps.proofs.RemovalLemmas.{left_moment}
 use Rattle.snapshot_steps.specs.Saved.{snapshot_of}
 use Rattle.snapshot_steps.proofs.FilesLemmas.{unsaved_newest}

@@ -1,11 +1,11 @@
 use Rattle.std.proofs.Common.{◌∙◌, ap}
-use Rattle.m3_outside.specs.declared.disk_err.DiskErr.TheVariants.{Memory}
-use Rattle.m3_outside.specs.Files.{files_with_zeros}
-use Rattle.m3_outside.proofs.Moments.{becomes_both, becomes_stays}
-use Rattle.commit_log.specs.Segment.{segment}
-use Rattle.commit_log.proofs.Begin.{stands_stays}
+use Rattle.snapshot_files.specs.m3_outside.declared.disk_err.DiskErr.TheVariants.{Memory}
+use Rattle.snapshot_files.specs.m3_outside.Files.{files_with_zeros}
+use Rattle.snapshot_files.proofs.m3_outside_proofs.Moments.{becomes_both, becomes_stays}
+use Rattle.snapshot_files.specs.commit_log.Segment.{segment}
+use Rattle.snapshot_files.proofs.commit_log_proofs.Begin.{stands_stays}
 use Rattle.volume_steps.proofs.RemovalLemmas.{left_moment, left_known}
-use Rattle.shard_files.specs.Steps.{next_snapshot}
+use Rattle.snapshot_files.specs.shard_files.Steps.{next_snapshot}
 use Rattle.snapshot_steps.proofs.NextNumbers.{begun_next}
 use Rattle.snapshot_steps.proofs.StepLemmas.{then_keeps, begin_moment, begin_known, err_is, err_to, same_stands}
 use Rattle.snapshot_steps.proofs.segment.begin_segment.Goals as goal

@@ -1,10 +1,10 @@
 use Rattle.std.proofs.Common.{◌∙◌, ◌<◌, ℕ, List, [], ◌∷◌, ap, refl, sym, subst, arith, not}
 use Rattle.std.specs.Prelude.{filter, nat_lt, IsErr}
 use Rattle.m3_model.specs.declared.limits.TheConstants.{NUMBER_END}
-use Rattle.m3_outside.specs.DiskState.{EachImage}
-use Rattle.m3_outside.specs.declared.disk_err.DiskErr.TheVariants.{Memory}
-use Rattle.commit_log.specs.LogEnd.{LogEnd, NoneAbove}
-use Rattle.m3_outside.specs.Files.{Files}
+use Rattle.snapshot_files.specs.m3_outside.DiskState.{EachImage}
+use Rattle.snapshot_files.specs.m3_outside.declared.disk_err.DiskErr.TheVariants.{Memory}
+use Rattle.snapshot_files.specs.commit_log.LogEnd.{LogEnd, NoneAbove}
+use Rattle.snapshot_files.specs.m3_outside.Files.{Files}
 use Rattle.snapshot_steps.specs.Counts.{AreCounted}
 use Rattle.snapshot_steps.specs.Saved.{HoldsSaved, snapshot_of}
 use Rattle.snapshot_steps.proofs.LogCounts.{counted_alike, counted_one, counted_next, saved_newest}

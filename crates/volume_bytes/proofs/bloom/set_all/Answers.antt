@@ -1,7 +1,7 @@
 use Rattle.std.proofs.Common.{◌≡◌, ℕ, ◌+◌, ◌*◌, ◌<◌, ◌==◌, ◌||◌, Bool, List, [], ◌∷◌, ◌++◌, length, take, get_or, false, sym, ap, subst, ◌∙◌, arith}
 use Rattle.std.specs.List.{list_any}
 use Rattle.std.proofs.lemmas.List.{take_more}
-use Rattle.m3_model.specs.declared.point.Series.{Series}
+use Rattle.wire_bytes.specs.m3_model.declared.point.Series.{Series}
 use Rattle.wire_bytes.specs.Volumes.{bits_of, is_set}
 use Rattle.volume_bytes.proofs.BitLemmas.{is_set_more}
 use Rattle.volume_bytes.proofs.bloom.set_all.Goals as goal

@@ -1,6 +1,6 @@
 use Rattle.std.proofs.Common.{◌≡◌, ◌≤◌, ◌+◌, ℕ, List, length, sym, ap, subst, ◌∙◌, arith, length-append}
-use Rattle.m3_model.specs.declared.limits.TheConstants.{MOST_ID_BYTES}
-use Rattle.m3_model.proofs.Lists.{IsIn-read}
+use Rattle.wire_bytes.specs.m3_model.declared.limits.TheConstants.{MOST_ID_BYTES}
+use Rattle.wire_bytes.proofs.m3_model_proofs.Lists.{IsIn-read}
 use Rattle.wire_bytes.specs.Volumes.{row_bytes, index_entry}
 use Rattle.volume_bytes.proofs.RowLemmas.{left_at, body_more, index_more, count_more, summaries_more, length_entry}
 use Rattle.volume_bytes.proofs.tables.tables_of.Goals as goal

@@ -4,11 +4,11 @@ use Rattle.m3_model.specs.Answers.{IsAnswer}
 use Rattle.m3_model.specs.Contents.{content_of}
 use Rattle.m3_model.specs.declared.point.Matcher.{Matcher}
 use Rattle.m3_model.specs.declared.point.Pick.TheVariants as pick
-use Rattle.commit_log.proofs.Leaves.{leaves_none}
-use Rattle.series_slots.proofs.AnswerLemmas.{point_in}
-use Rattle.shard_files.specs.FilesHold.{volume_points}
-use Rattle.volume_bytes.specs.declared.heads.Head.{Head}
-use Rattle.volume_bytes.specs.Heads.{head_of}
+use Rattle.fileset_check.proofs.commit_log_proofs.Leaves.{leaves_none}
+use Rattle.held_points.proofs.series_slots_proofs.AnswerLemmas.{point_in}
+use Rattle.fileset_check.specs.shard_files.FilesHold.{volume_points}
+use Rattle.fileset_check.specs.volume_bytes.declared.heads.Head.{Head}
+use Rattle.fileset_check.specs.volume_bytes.Heads.{head_of}
 use Rattle.volume_points.specs.Blocks.{block_head}
 use Rattle.volume_points.specs.Candidates.{MayStand}
 use Rattle.volume_points.specs.Known.{AreOf, AreThere, is_head_of, is_of}

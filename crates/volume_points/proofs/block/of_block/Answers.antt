@@ -1,7 +1,7 @@
 use Rattle.std.proofs.Common.{rules, ap, ◌∙◌, List, ◌++◌}
 use Rattle.std.specs.Prelude.{filter}
-use Rattle.volume_bytes.specs.declared.heads.Head.{Head}
-use Rattle.volume_bytes.specs.Heads.{head_of}
+use Rattle.fileset_check.specs.volume_bytes.declared.heads.Head.{Head}
+use Rattle.fileset_check.specs.volume_bytes.Heads.{head_of}
 use Rattle.volume_points.specs.Known.{is_head_of}
 use Rattle.volume_points.proofs.RetainLemmas.{filtered}
 use Rattle.volume_points.proofs.block.of_block.Goals as goal

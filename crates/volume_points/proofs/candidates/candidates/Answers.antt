@@ -2,8 +2,8 @@ use Rattle.std.proofs.Common.{List, sym, subst}
 use Rattle.std.proofs.lemmas.Result.{IfOk-weaker}
 use Rattle.m3_model.specs.declared.point.Pick.{Pick}
 use Rattle.m3_model.specs.declared.point.Series.{Series}
-use Rattle.shard_files.specs.Parts.{VolumeHolds}
-use Rattle.volume_bytes.specs.Heads.{head_of}
+use Rattle.fileset_check.specs.shard_files.Parts.{VolumeHolds}
+use Rattle.fileset_check.specs.volume_bytes.Heads.{head_of}
 use Rattle.volume_points.specs.Candidates.{AreCandidates}
 use Rattle.volume_points.proofs.VolumeLemmas.{same_rows}
 use Rattle.volume_points.proofs.candidates.candidates.Goals as goal

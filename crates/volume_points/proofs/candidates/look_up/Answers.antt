@@ -1,10 +1,10 @@
 use Rattle.std.proofs.Common.{◌∙◌, sym, subst}
 use Rattle.std.proofs.lemmas.Result.{IfOk-weaker}
-use Rattle.m3_outside.specs.Files.{Files}
-use Rattle.commit_log.proofs.Leaves.{leaves_then}
-use Rattle.shard_files.specs.Parts.{VolumeHolds}
-use Rattle.volume_bytes.specs.Heads.{head_of}
-use Rattle.fileset_read.specs.Volumes.{IsThere}
+use Rattle.fileset_check.specs.m3_outside.Files.{Files}
+use Rattle.fileset_check.proofs.commit_log_proofs.Leaves.{leaves_then}
+use Rattle.fileset_check.specs.shard_files.Parts.{VolumeHolds}
+use Rattle.fileset_check.specs.volume_bytes.Heads.{head_of}
+use Rattle.fileset_check.specs.fileset_read.Volumes.{IsThere}
 use Rattle.volume_rows.specs.Seekers.{IsSeekerOf}
 use Rattle.volume_points.proofs.candidates.look_up.Goals as goal
 

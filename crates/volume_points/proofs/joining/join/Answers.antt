@@ -4,7 +4,7 @@ use Rattle.m3_model.specs.Answers.{IsAnswer}
 use Rattle.m3_model.specs.Contents.{Contents, content_of}
 use Rattle.m3_model.specs.declared.point.Pick.{Pick}
 use Rattle.m3_model.specs.declared.point.Point.{Point}
-use Rattle.block_buffer.specs.Joins.{joined}
+use Rattle.held_points.specs.block_buffer.Joins.{joined}
 use Rattle.series_merge.specs.Merges.{IsMergeOf}
 use Rattle.volume_points.proofs.AnswerLemmas.{answers_join}
 use Rattle.volume_points.proofs.joining.join.Goals as goal

@@ -1,6 +1,6 @@
 use Rattle.std.proofs.Common.{sym, subst}
 use Rattle.m3_model.specs.Members.{IsIn}
-use Rattle.tag_query.proofs.Members.{IsIn-get_or}
+use Rattle.held_points.proofs.tag_query_proofs.Members.{IsIn-get_or}
 use Rattle.held_points.proofs.TagLemmas.{has_tags}
 use Rattle.volume_points.proofs.matching.is_matched.Goals as goal
 

@@ -3,13 +3,13 @@ use Rattle.std.proofs.lemmas.Result.{IfOk-weaker}
 use Rattle.m3_model.specs.Answers.{IsAnswer}
 use Rattle.m3_model.specs.Contents.{content_of}
 use Rattle.m3_model.specs.declared.point.Series.{Series}
-use Rattle.m3_outside.specs.Files.{Files}
-use Rattle.commit_log.proofs.Leaves.{leaves_none, leaves_as, leaves_then}
-use Rattle.commit_log.proofs.ReadLemmas.{passed_err}
-use Rattle.shard_files.specs.Parts.{KnownVolume}
-use Rattle.shard_files.specs.FilesHold.{volume_points}
-use Rattle.fileset_read.specs.declared.file_err.FileErr.TheVariants as failures
-use Rattle.volume_bytes.specs.declared.heads.Head.{Head}
+use Rattle.fileset_check.specs.m3_outside.Files.{Files}
+use Rattle.fileset_check.proofs.commit_log_proofs.Leaves.{leaves_none, leaves_as, leaves_then}
+use Rattle.fileset_check.proofs.commit_log_proofs.ReadLemmas.{passed_err}
+use Rattle.fileset_check.specs.shard_files.Parts.{KnownVolume}
+use Rattle.fileset_check.specs.shard_files.FilesHold.{volume_points}
+use Rattle.fileset_check.specs.fileset_read.declared.file_err.FileErr.TheVariants as failures
+use Rattle.fileset_check.specs.volume_bytes.declared.heads.Head.{Head}
 use Rattle.series_merge.specs.Merges.{IsMergeOf}
 use Rattle.volume_points.specs.Known.{AreOf, AreThere}
 use Rattle.volume_points.proofs.KnownLemmas.{of_back, of_front, there_back, there_front}

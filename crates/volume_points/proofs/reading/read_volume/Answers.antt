@@ -3,10 +3,10 @@ use Rattle.m3_model.specs.Answers.{IsAnswer}
 use Rattle.m3_model.specs.Contents.{content_of}
 use Rattle.m3_model.specs.Reads.{IsOrdered}
 use Rattle.m3_model.specs.declared.point.Series.{Series}
-use Rattle.commit_log.proofs.Leaves.{leaves_none}
-use Rattle.wire_bytes.specs.Volumes.{points_of_rows}
-use Rattle.shard_files.specs.Parts.{VolumeHolds}
-use Rattle.volume_bytes.specs.Heads.{head_of}
+use Rattle.fileset_check.proofs.commit_log_proofs.Leaves.{leaves_none}
+use Rattle.fileset_check.specs.wire_bytes.Volumes.{points_of_rows}
+use Rattle.fileset_check.specs.shard_files.Parts.{VolumeHolds}
+use Rattle.fileset_check.specs.volume_bytes.Heads.{head_of}
 use Rattle.volume_points.specs.Picked.{IsSelectionOf}
 use Rattle.volume_points.proofs.KnownLemmas.{of_both}
 use Rattle.volume_points.proofs.VolumeLemmas.{answer_of_none, answer_of_one, candidates_stand}

@@ -1,5 +1,5 @@
 use Rattle.std.proofs.Common.{◌∙◌, sym}
-use Rattle.volume_bytes.specs.Heads.{head_of}
+use Rattle.fileset_check.specs.volume_bytes.Heads.{head_of}
 use Rattle.volume_points.proofs.VolumeLemmas.{answer_of_none}
 use Rattle.volume_points.proofs.whole.may_meet.Goals as goal
 

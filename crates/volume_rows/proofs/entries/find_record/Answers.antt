@@ -1,6 +1,6 @@
 use Rattle.std.proofs.Common.{ℕ, List, refl, subst, ◌∙◌}
-use Rattle.wire_bytes.specs.Volumes.{Index}
-use Rattle.volume_bytes.specs.Heads.{head_of}
+use Rattle.fileset_read.specs.wire_bytes.Volumes.{Index}
+use Rattle.fileset_read.specs.volume_bytes.Heads.{head_of}
 use Rattle.fileset_lookup.specs.Spots.{FindsSpot}
 use Rattle.volume_rows.proofs.StretchLemmas.{record_found}
 use Rattle.volume_rows.proofs.DiskLemmas.{entries_inside, entries_read, run_values}

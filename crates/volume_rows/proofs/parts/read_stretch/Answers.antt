@@ -1,4 +1,4 @@
-use Rattle.commit_log.proofs.Leaves.{leaves_memory}
+use Rattle.fileset_read.proofs.commit_log_proofs.Leaves.{leaves_memory}
 use Rattle.volume_rows.proofs.parts.read_stretch.Goals as goal
 
 pub returns-in_err-bytes-clause-leaves : goal.returns-in_err-bytes-clause-leaves

@@ -1,8 +1,8 @@
 use Rattle.std.proofs.Common.{◌≡◌, refl, sym, subst, ◌∙◌}
-use Rattle.m3_model.specs.declared.point.Series.{Series}
-use Rattle.m3_model.specs.Members.{IsIn}
-use Rattle.wire_bytes.specs.Volumes.{Data}
-use Rattle.volume_bytes.specs.Heads.{head_of}
+use Rattle.fileset_read.specs.m3_model.declared.point.Series.{Series}
+use Rattle.fileset_read.specs.m3_model.Members.{IsIn}
+use Rattle.fileset_read.specs.wire_bytes.Volumes.{Data}
+use Rattle.fileset_read.specs.volume_bytes.Heads.{head_of}
 use Rattle.fileset_read.specs.Volumes.{IsUndamaged}
 use Rattle.fileset_read.proofs.FileLemmas.{rows_spelled, undamaged}
 use Rattle.volume_rows.proofs.StretchLemmas.{record_in}

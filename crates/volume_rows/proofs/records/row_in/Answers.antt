@@ -1,8 +1,8 @@
 use Rattle.std.proofs.Common.{◌≡◌, [], ◌∷◌, length, sym, ap, ◌∙◌, arith, append-nil}
 use Rattle.std.specs.Prelude.{vec_len}
 use Rattle.std.proofs.lemmas.Bool.{eqb-false}
-use Rattle.m3_model.specs.declared.point.Series.{Series}
-use Rattle.wire_bytes.specs.Volumes.{row_bytes}
+use Rattle.fileset_read.specs.m3_model.declared.point.Series.{Series}
+use Rattle.fileset_read.specs.wire_bytes.Volumes.{row_bytes}
 use Rattle.fileset_read.proofs.LeftLemmas.{passed}
 use Rattle.volume_rows.proofs.StretchLemmas.{one_spelled, last_of_one}
 use Rattle.volume_rows.proofs.records.row_in.Goals as goal

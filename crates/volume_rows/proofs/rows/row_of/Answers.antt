@@ -1,7 +1,7 @@
 use Rattle.std.proofs.Common.{subst}
-use Rattle.commit_log.proofs.Leaves.{leaves_as, leaves_none, leaves_then}
-use Rattle.commit_log.proofs.ReadLemmas.{passed_err}
-use Rattle.volume_bytes.specs.Heads.{head_of}
+use Rattle.fileset_read.proofs.commit_log_proofs.Leaves.{leaves_as, leaves_none, leaves_then}
+use Rattle.fileset_read.proofs.commit_log_proofs.ReadLemmas.{passed_err}
+use Rattle.fileset_read.specs.volume_bytes.Heads.{head_of}
 use Rattle.fileset_read.specs.declared.file_err.FileErr.TheVariants as failures
 use Rattle.volume_rows.specs.Stretches.{FindsEntries, HasEntries, HaveNot}
 use Rattle.volume_rows.proofs.DiskLemmas.{seeks}

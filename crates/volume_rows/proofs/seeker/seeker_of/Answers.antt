@@ -1,12 +1,12 @@
 use Rattle.std.proofs.Common.{ℕ, List, length, Option, refl, sym, ap, ◌∙◌}
 use Rattle.std.specs.Prelude.{option_map}
 use Rattle.std.specs.FinMap.{get}
-use Rattle.m3_outside.specs.Files.{Files}
-use Rattle.commit_log.proofs.Leaves.{leaves_as, leaves_then}
-use Rattle.commit_log.proofs.ReadLemmas.{passed_err}
-use Rattle.shard_files.proofs.SegmentStops.{passed_on}
-use Rattle.wire_bytes.specs.Volumes.{Bloom, Index, Summaries}
-use Rattle.volume_bytes.specs.Heads.{head_of}
+use Rattle.fileset_read.specs.m3_outside.Files.{Files}
+use Rattle.fileset_read.proofs.commit_log_proofs.Leaves.{leaves_as, leaves_then}
+use Rattle.fileset_read.proofs.commit_log_proofs.ReadLemmas.{passed_err}
+use Rattle.fileset_read.proofs.shard_files_proofs.SegmentStops.{passed_on}
+use Rattle.fileset_read.specs.wire_bytes.Volumes.{Bloom, Index, Summaries}
+use Rattle.fileset_read.specs.volume_bytes.Heads.{head_of}
 use Rattle.fileset_read.specs.Volumes.{IsUndamaged}
 use Rattle.fileset_read.specs.declared.file_err.FileErr.TheVariants as failures
 use Rattle.volume_rows.proofs.DiskLemmas.{part_there}

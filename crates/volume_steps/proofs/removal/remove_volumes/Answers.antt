@@ -1,11 +1,11 @@
 use Rattle.std.proofs.Common.{◌∙◌, List, ap, sym, subst, arith}
 use Rattle.std.specs.FinMap.{get}
-use Rattle.m3_outside.specs.Files.{Files}
+use Rattle.shard_files.specs.m3_outside.Files.{Files}
 use Rattle.std.proofs.lemmas.List.{take_all}
 use Rattle.m3_model.specs.Members.{IsIn}
 use Rattle.volume_bytes.specs.declared.heads.Head.{Head}
-use Rattle.m3_outside.proofs.Moments.{becomes_stays, counts_then, counts_none}
-use Rattle.commit_log.proofs.Begin.{stands_stays}
+use Rattle.shard_files.proofs.m3_outside_proofs.Moments.{becomes_stays, counts_then, counts_none}
+use Rattle.shard_files.proofs.commit_log_proofs.Begin.{stands_stays}
 use Rattle.volume_steps.proofs.RemovalLemmas.{reserved_moment, not_removing, next_moment, next_gone, next_known, next_others, all_removed}
 use Rattle.volume_steps.proofs.removal.remove_volumes.Goals as goal
 

@@ -1,6 +1,6 @@
 use Rattle.std.proofs.Common.{[], ◌∷◌, ◌++◌, sym, ap, ◌∙◌}
 use Rattle.std.specs.Prelude.{Result, Ok, Err}
-use Rattle.transcripts.specs.Sweeps.{Entry, done_in, failed_in}
+use Rattle.node_calls.specs.transcripts.Sweeps.{Entry, done_in, failed_in}
 use Rattle.cluster_upkeep.specs.Findings.{entry_at}
 use Rattle.cluster_upkeep.proofs.SweepLemmas.{done_err, done_ok, failed_err, failed_ok}
 use Rattle.cluster_upkeep.proofs.findings.Findings.add.Goals as goal

@@ -1,6 +1,6 @@
 use Rattle.std.proofs.Common.{ℕ, ap, subst}
-use Rattle.m3_outside.specs.Files.{Files}
-use Rattle.m3_outside.specs.DiskState.{StepOf}
+use Rattle.log_chunks.specs.m3_outside.Files.{Files}
+use Rattle.log_chunks.specs.m3_outside.DiskState.{StepOf}
 use Rattle.commit_log.specs.Segment.{segment, Adds}
 use Rattle.commit_log.proofs.log.Log.append.Goals as goal
 

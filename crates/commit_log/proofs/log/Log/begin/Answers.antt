@@ -1,5 +1,5 @@
 use Rattle.std.proofs.Common.{inl}
-use Rattle.m3_outside.proofs.Moments.{same_becomes}
+use Rattle.log_chunks.proofs.m3_outside_proofs.Moments.{same_becomes}
 use Rattle.commit_log.proofs.Begin.{begun_stands, elapses_none}
 use Rattle.commit_log.proofs.log.Log.begin.Goals as goal
 

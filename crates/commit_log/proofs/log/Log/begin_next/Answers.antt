@@ -1,6 +1,6 @@
 use Rattle.std.proofs.Common.{◌≡◌, ◌+◌, inl, sym, ap, subst, arith}
 use Rattle.commit_log.specs.LogEnd.{LogEnd, LogEndStands}
-use Rattle.m3_outside.proofs.Moments.{same_becomes}
+use Rattle.log_chunks.proofs.m3_outside_proofs.Moments.{same_becomes}
 use Rattle.commit_log.proofs.Begin.{begun_stands, failed_above, none_from_next, elapses_none}
 use Rattle.commit_log.proofs.log.Log.begin_next.Goals as goal
 

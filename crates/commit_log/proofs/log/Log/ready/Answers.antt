@@ -1,5 +1,5 @@
 use Rattle.std.proofs.Common.{◌+◌, ◌∙◌}
-use Rattle.m3_outside.proofs.Moments.{becomes_both, becomes_stays}
+use Rattle.log_chunks.proofs.m3_outside_proofs.Moments.{becomes_both, becomes_stays}
 use Rattle.commit_log.proofs.Begin.{stays_begun, stays_then_begun, stays_then_began}
 use Rattle.commit_log.proofs.log.Log.ready.Goals as goal
 

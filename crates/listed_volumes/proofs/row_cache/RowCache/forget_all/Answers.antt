@@ -1,6 +1,6 @@
 use Rattle.std.proofs.Common.{List, get_or, take, sym, subst}
 use Rattle.std.proofs.lemmas.List.{take_all, take_more}
-use Rattle.volume_bytes.specs.declared.heads.Head.{Head}
+use Rattle.volume_points.specs.volume_bytes.declared.heads.Head.{Head}
 use Rattle.listed_volumes.specs.Cached.{HasForgotten}
 use Rattle.listed_volumes.proofs.CachedLemmas.{forgot_more, forgot_none}
 use Rattle.listed_volumes.proofs.row_cache.RowCache.forget_all.Goals as goal

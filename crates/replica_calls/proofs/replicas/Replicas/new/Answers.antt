@@ -1,6 +1,6 @@
 use Rattle.std.proofs.Common.{ap, ◌∙◌}
 use Rattle.std.specs.FinMap.{from_sorted}
-use Rattle.m3_model.proofs.RaiseLemmas.{from_sorted-empty}
+use Rattle.replica_exchange.proofs.m3_model_proofs.RaiseLemmas.{from_sorted-empty}
 use Rattle.replica_calls.specs.Slots.{slot_cmp}
 use Rattle.replica_calls.proofs.TrackLemmas.{tracked_new}
 use Rattle.replica_calls.proofs.replicas.Replicas.new.Goals as goal

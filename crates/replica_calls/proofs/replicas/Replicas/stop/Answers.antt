@@ -1,6 +1,6 @@
 use Rattle.std.proofs.Common.{refl, inl}
-use Rattle.cluster_core.specs.declared.event.StepCall.TheVariants as call
-use Rattle.cluster_core.specs.declared.event.StepReply.TheVariants as reply
+use Rattle.replica_exchange.specs.cluster_core.declared.event.StepCall.TheVariants as call
+use Rattle.replica_exchange.specs.cluster_core.declared.event.StepReply.TheVariants as reply
 use Rattle.replica_exchange.specs.MachineCalls.{AddsBoth}
 use Rattle.replica_exchange.specs.Promises.{Stops}
 use Rattle.replica_calls.proofs.SlotLemmas.{wrote, none_at}

@@ -4,7 +4,7 @@ use Rattle.m3_model.specs.declared.reason.Reason.{Reason}
 use Rattle.m3_model.specs.declared.reason.Reason.TheVariants as reason
 use Rattle.m3_model.specs.declared.rules.Rules.{Rules}
 use Rattle.m3_outside.specs.DiskState.{DiskState}
-use Rattle.fileset_read.specs.declared.file_err.FileErr.{FileErr}
+use Rattle.shard_store.specs.fileset_read.declared.file_err.FileErr.{FileErr}
 use Rattle.shard_store.specs.Flushes.{AreFlushed, HasFlushed}
 use Rattle.shard_store.specs.Stores.{StoreState}
 use Rattle.shard_store.proofs.LogStepLemmas.{err_is}

@@ -2,8 +2,8 @@ use Rattle.std.proofs.Common.{◌≡◌, ap, ◌∙◌, sym, subst, refl, true, 
 use Rattle.m3_model.specs.Contents.{content_of}
 use Rattle.cluster_core.specs.Refusals.{closed}
 use Rattle.m3_outside.specs.DiskState.{Told, EachImage}
-use Rattle.shard_files.specs.Once.{HeldOnce}
-use Rattle.commit_log.specs.LogEnd.{NoneFrom}
+use Rattle.shard_store.specs.shard_files.Once.{HeldOnce}
+use Rattle.shard_store.specs.commit_log.LogEnd.{NoneFrom}
 use Rattle.m3_outside.specs.Files.{Files}
 use Rattle.shard_store.specs.Loads.{known_of, AreOpened}
 use Rattle.shard_store.specs.Loaded.{Loaded}

@@ -6,7 +6,7 @@ use Rattle.m3_model.specs.Reads.{space_picked}
 use Rattle.m3_model.specs.declared.point.Series.{Series}
 use Rattle.m3_model.specs.declared.reason.Reason.{Reason}
 use Rattle.placement_core.proofs.ListLemmas.{at_index}
-use Rattle.commit_log.proofs.Leaves.{leaves_none}
+use Rattle.shard_store.proofs.commit_log_proofs.Leaves.{leaves_none}
 use Rattle.shard_store.proofs.LogStepLemmas.{err_is, on_ok_as}
 use Rattle.replica_machine.specs.Machines.{IsLiveAnswer, unserved}
 use Rattle.replica_machine.proofs.FilesLemmas.{store_after_files}

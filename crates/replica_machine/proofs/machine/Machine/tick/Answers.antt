@@ -1,5 +1,5 @@
 use Rattle.std.proofs.Common.{◌∙◌, ap, sym, subst, ℕ, Result, Err}
-use Rattle.block_buffer.specs.Held.{without, has_expired}
+use Rattle.shard_store.specs.block_buffer.Held.{without, has_expired}
 use Rattle.m3_model.specs.declared.reason.Reason.{Reason}
 use Rattle.m3_model.specs.declared.reason.Reason.TheVariants as reason
 use Rattle.shard_store.proofs.LogStepLemmas.{err_is, on_ok_as}

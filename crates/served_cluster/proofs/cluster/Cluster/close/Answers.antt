@@ -1,5 +1,5 @@
 use Rattle.std.proofs.Common.{subst, sym}
-use Rattle.first_cluster.specs.Depots.{AreOut, OwnedBy, depot_by}
+use Rattle.cluster_tracks.specs.first_cluster.Depots.{AreOut, OwnedBy, depot_by}
 use Rattle.served_cluster.proofs.OwnLemmas.{none_given_back}
 use Rattle.served_cluster.proofs.cluster.Cluster.close.Goals as goal
 

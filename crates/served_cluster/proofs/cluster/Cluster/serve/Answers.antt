@@ -1,6 +1,6 @@
 use Rattle.std.proofs.Common.{subst}
 use Rattle.served_acts.specs.NotYet.{IsServed}
-use Rattle.first_cluster.specs.Depots.{depot_by}
+use Rattle.cluster_tracks.specs.first_cluster.Depots.{depot_by}
 use Rattle.served_cluster.proofs.TrackLemmas.{tracks_on}
 use Rattle.served_cluster.proofs.cluster.Cluster.serve.Goals as goal
 

@@ -1,5 +1,5 @@
 use Rattle.std.proofs.Common.{sym, ◌∙◌}
-use Rattle.first_cluster.specs.Depots.{depot_by}
+use Rattle.cluster_tracks.specs.first_cluster.Depots.{depot_by}
 use Rattle.served_cluster.proofs.OwnLemmas.{owned_after, serves_so}
 use Rattle.served_cluster.proofs.cluster.Cluster.serve_other.Goals as goal
 

@@ -2,11 +2,11 @@ use Rattle.std.proofs.Common.{List, ap, refl, sym, subst}
 use Rattle.std.specs.Prelude.{IsErrOf}
 use Rattle.m3_outside.specs.DiskState.{EachImage}
 use Rattle.m3_outside.specs.declared.disk_err.DiskErr.TheVariants.{Failed as DiskFailed}
-use Rattle.block_buffer.specs.Held.{InMemory, has_expired, without}
-use Rattle.fileset_read.specs.declared.file_err.FileErr.TheVariants as unread
-use Rattle.shard_files.specs.Parts.{KnownVolume}
+use Rattle.listed_volumes.specs.block_buffer.Held.{InMemory, has_expired, without}
+use Rattle.listed_volumes.specs.fileset_read.declared.file_err.FileErr.TheVariants as unread
+use Rattle.listed_volumes.specs.shard_files.Parts.{KnownVolume}
 use Rattle.shard_open.proofs.Counts.{counts_for}
-use Rattle.volume_steps.specs.Known.{HoldsKnown}
+use Rattle.snapshot_steps.specs.volume_steps.Known.{HoldsKnown}
 use Rattle.listed_volumes.specs.Listed.{known_in}
 use Rattle.shard_store.specs.StoreParts.{content_of_opened}
 use Rattle.shard_store.proofs.CountedLemmas.{counted_removed}

@@ -1,8 +1,8 @@
 use Rattle.std.proofs.Common.{max, ◌++◌, List, ℕ, ◌∙◌, ap, sym, arith}
-use Rattle.wire_bytes.specs.Entries.{fence_entry}
+use Rattle.listed_volumes.specs.wire_bytes.Entries.{fence_entry}
 use Rattle.m3_outside.specs.declared.disk_err.DiskErr.TheVariants.{Memory, Failed as DiskFailed}
-use Rattle.shard_files.specs.Gains.{a_fence}
-use Rattle.shard_files.specs.declared.entries.LogEntry.TheVariants as entry
+use Rattle.listed_volumes.specs.shard_files.Gains.{a_fence}
+use Rattle.listed_volumes.specs.shard_files.declared.entries.LogEntry.TheVariants as entry
 use Rattle.listed_volumes.specs.Listed.{known_in}
 use Rattle.shard_store.proofs.CountedLemmas.{counted_on}
 use Rattle.shard_store.proofs.LogStepLemmas.{err_is, memory_else, brings_none, brings_there, brings_as, kept_for, err_to}

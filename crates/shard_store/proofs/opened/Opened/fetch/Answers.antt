@@ -4,11 +4,11 @@ use Rattle.m3_model.specs.Answers.{IsAnswer}
 use Rattle.m3_model.specs.Contents.{Contents, content_of}
 use Rattle.m3_model.specs.declared.point.Pick.{Pick}
 use Rattle.m3_model.specs.declared.point.Point.{Point}
-use Rattle.block_buffer.specs.Joins.{joined}
-use Rattle.commit_log.proofs.Leaves.{leaves_none, leaves_as}
-use Rattle.commit_log.proofs.ReadLemmas.{passed_err}
-use Rattle.shard_files.specs.FilesHold.{volume_points}
-use Rattle.fileset_read.specs.declared.file_err.FileErr.TheVariants as failures
+use Rattle.listed_volumes.specs.block_buffer.Joins.{joined}
+use Rattle.listed_volumes.proofs.commit_log_proofs.Leaves.{leaves_none, leaves_as}
+use Rattle.listed_volumes.proofs.commit_log_proofs.ReadLemmas.{passed_err}
+use Rattle.listed_volumes.specs.shard_files.FilesHold.{volume_points}
+use Rattle.listed_volumes.specs.fileset_read.declared.file_err.FileErr.TheVariants as failures
 use Rattle.listed_volumes.proofs.ReadLemmas.{not_fault}
 use Rattle.listed_volumes.specs.declared.volume.ListedVolume.{ListedVolume}
 use Rattle.listed_volumes.specs.Listed.{AreHeld, known_in}

@@ -3,10 +3,10 @@ use Rattle.std.specs.Prelude.{IsErrOf, slice_get}
 use Rattle.std.proofs.lemmas.List.{get_or_default}
 use Rattle.m3_model.specs.Answers.{HasPoint}
 use Rattle.m3_model.specs.Contents.{Contents}
-use Rattle.block_buffer.specs.Blocks.{IsClosedBlocksOf}
-use Rattle.commit_log.proofs.Leaves.{leaves_none}
-use Rattle.commit_log.proofs.ReadLemmas.{passed_err}
-use Rattle.fileset_read.specs.declared.file_err.FileErr.TheVariants as failures
+use Rattle.listed_volumes.specs.block_buffer.Blocks.{IsClosedBlocksOf}
+use Rattle.listed_volumes.proofs.commit_log_proofs.Leaves.{leaves_none}
+use Rattle.listed_volumes.proofs.commit_log_proofs.ReadLemmas.{passed_err}
+use Rattle.listed_volumes.specs.fileset_read.declared.file_err.FileErr.TheVariants as failures
 use Rattle.listed_volumes.proofs.ReadLemmas.{not_fault}
 use Rattle.shard_store.specs.Flushes.{is_in_one}
 use Rattle.listed_volumes.specs.Listed.{known_in}

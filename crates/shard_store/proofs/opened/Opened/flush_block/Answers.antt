@@ -2,11 +2,11 @@ use Rattle.std.proofs.Common.{List, ap, map, refl, sym, subst, ◌∙◌}
 use Rattle.std.specs.Prelude.{IsErrOf, filter}
 use Rattle.m3_outside.specs.Files.{Files}
 use Rattle.m3_outside.specs.declared.disk_err.DiskErr.TheVariants.{Failed as DiskFailed}
-use Rattle.commit_log.proofs.Leaves.{leaves_as}
-use Rattle.commit_log.proofs.ReadLemmas.{passed_err}
-use Rattle.fileset_read.specs.declared.file_err.FileErr.TheVariants as failures
-use Rattle.volume_bytes.specs.Heads.{head_of}
-use Rattle.shard_files.specs.Steps.{next_volume}
+use Rattle.listed_volumes.proofs.commit_log_proofs.Leaves.{leaves_as}
+use Rattle.listed_volumes.proofs.commit_log_proofs.ReadLemmas.{passed_err}
+use Rattle.listed_volumes.specs.fileset_read.declared.file_err.FileErr.TheVariants as failures
+use Rattle.listed_volumes.specs.volume_bytes.Heads.{head_of}
+use Rattle.listed_volumes.specs.shard_files.Steps.{next_volume}
 use Rattle.listed_volumes.specs.Known.{is_head_of}
 use Rattle.listed_volumes.proofs.ReadLemmas.{not_fault}
 use Rattle.shard_store.specs.Blocks.{IsOneVolume}

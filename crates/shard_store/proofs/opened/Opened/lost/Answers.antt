@@ -2,10 +2,10 @@ use Rattle.std.proofs.Common.{◌≡◌, ◌∙◌, ◌+◌, ◌<◌, ℕ, ap, a
 use Rattle.std.specs.Prelude.{slice_get}
 use Rattle.std.proofs.lemmas.Option.{slice_get_read}
 use Rattle.m3_model.specs.Contents.{content_of}
-use Rattle.commit_log.proofs.Leaves.{leaves_as, leaves_then}
-use Rattle.commit_log.proofs.ReadLemmas.{passed_err}
-use Rattle.fileset_read.specs.declared.file_err.FileErr.TheVariants as unread
-use Rattle.shard_files.specs.FilesHold.{volume_points}
+use Rattle.listed_volumes.proofs.commit_log_proofs.Leaves.{leaves_as, leaves_then}
+use Rattle.listed_volumes.proofs.commit_log_proofs.ReadLemmas.{passed_err}
+use Rattle.listed_volumes.specs.fileset_read.declared.file_err.FileErr.TheVariants as unread
+use Rattle.listed_volumes.specs.shard_files.FilesHold.{volume_points}
 use Rattle.listed_volumes.specs.Listed.{known_in}
 use Rattle.shard_store.specs.StoreParts.{content_of_opened}
 use Rattle.shard_store.specs.Ticks.{keys_in, live_volumes}

@@ -3,12 +3,12 @@ use Rattle.std.specs.Prelude.{◌==◌, filter, IfSome, not}
 use Rattle.m3_model.specs.Contents.{content_of}
 use Rattle.m3_model.specs.declared.point.Pick.TheVariants as pick
 use Rattle.m3_model.specs.declared.point.Series.{Series}
-use Rattle.block_buffer.specs.Joins.{joined}
-use Rattle.commit_log.proofs.Leaves.{leaves_none, leaves_as, leaves_then}
-use Rattle.commit_log.proofs.ReadLemmas.{passed_err}
-use Rattle.fileset_read.specs.declared.file_err.FileErr.TheVariants as unread
-use Rattle.wire_bytes.specs.Volumes.{count_of}
-use Rattle.shard_files.specs.FilesHold.{volume_points}
+use Rattle.listed_volumes.specs.block_buffer.Joins.{joined}
+use Rattle.listed_volumes.proofs.commit_log_proofs.Leaves.{leaves_none, leaves_as, leaves_then}
+use Rattle.listed_volumes.proofs.commit_log_proofs.ReadLemmas.{passed_err}
+use Rattle.listed_volumes.specs.fileset_read.declared.file_err.FileErr.TheVariants as unread
+use Rattle.listed_volumes.specs.wire_bytes.Volumes.{count_of}
+use Rattle.listed_volumes.specs.shard_files.FilesHold.{volume_points}
 use Rattle.listed_volumes.specs.Known.{AreOf, AreThere}
 use Rattle.listed_volumes.proofs.ReadLemmas.{not_fault}
 use Rattle.listed_volumes.specs.Listed.{known_in}

@@ -1,15 +1,15 @@
 use Rattle.std.proofs.Common.{◌++◌, [], ◌∷◌, List, ℕ, max, ◌∙◌, ap, sym, refl, subst, arith}
 use Rattle.std.specs.Prelude.{⊤, IsErr, IsErrOf}
-use Rattle.wire_bytes.specs.Entries.{points_entry}
+use Rattle.listed_volumes.specs.wire_bytes.Entries.{points_entry}
 use Rattle.m3_model.specs.Contents.{key_of, raised}
 use Rattle.std.specs.Prelude.{Some}
 use Rattle.m3_outside.specs.Causes.{CountsFaults}
 use Rattle.m3_outside.specs.declared.disk_err.DiskErr.TheVariants.{Memory, Failed as DiskFailed}
-use Rattle.block_buffer.specs.Held.{InMemory}
-use Rattle.shard_files.specs.Gains.{a_point}
-use Rattle.shard_files.specs.declared.entries.LogEntry.TheVariants as entry
+use Rattle.listed_volumes.specs.block_buffer.Held.{InMemory}
+use Rattle.listed_volumes.specs.shard_files.Gains.{a_point}
+use Rattle.listed_volumes.specs.shard_files.declared.entries.LogEntry.TheVariants as entry
 use Rattle.shard_store.specs.Stores.{IsKeptOn, joined_with}
-use Rattle.shard_files.specs.FilesHold.{volume_points}
+use Rattle.listed_volumes.specs.shard_files.FilesHold.{volume_points}
 use Rattle.shard_store.proofs.PointLemmas.{joined_raised}
 use Rattle.listed_volumes.specs.Listed.{known_in}
 use Rattle.shard_store.proofs.CountedLemmas.{counted_on}

@@ -1,9 +1,9 @@
 use Rattle.std.proofs.Common.{◌∙◌, List, ap, map}
 use Rattle.std.specs.Prelude.{filter}
-use Rattle.commit_log.proofs.Leaves.{leaves_none, leaves_as, leaves_then}
-use Rattle.commit_log.proofs.ReadLemmas.{passed_err}
-use Rattle.fileset_read.specs.declared.file_err.FileErr.TheVariants as unread
-use Rattle.volume_bytes.specs.Heads.{head_of}
+use Rattle.listed_volumes.proofs.commit_log_proofs.Leaves.{leaves_none, leaves_as, leaves_then}
+use Rattle.listed_volumes.proofs.commit_log_proofs.ReadLemmas.{passed_err}
+use Rattle.listed_volumes.specs.fileset_read.declared.file_err.FileErr.TheVariants as unread
+use Rattle.listed_volumes.specs.volume_bytes.Heads.{head_of}
 use Rattle.listed_volumes.proofs.ReadLemmas.{not_fault}
 use Rattle.listed_volumes.specs.Listed.{known_in}
 use Rattle.shard_store.specs.Ticks.{has_outlived, live_volumes}

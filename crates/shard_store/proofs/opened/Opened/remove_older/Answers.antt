@@ -2,10 +2,10 @@ use Rattle.std.proofs.Common.{List, refl, sym, subst}
 use Rattle.std.specs.Prelude.{IsErrOf}
 use Rattle.m3_outside.specs.DiskState.{EachImage}
 use Rattle.m3_outside.specs.declared.disk_err.DiskErr.TheVariants.{Failed as DiskFailed}
-use Rattle.commit_log.proofs.ReadLemmas.{passed_err}
-use Rattle.shard_files.specs.Parts.{KnownVolume}
+use Rattle.listed_volumes.proofs.commit_log_proofs.ReadLemmas.{passed_err}
+use Rattle.listed_volumes.specs.shard_files.Parts.{KnownVolume}
 use Rattle.shard_open.proofs.Counts.{counts_for}
-use Rattle.volume_steps.specs.Known.{HoldsKnown}
+use Rattle.snapshot_steps.specs.volume_steps.Known.{HoldsKnown}
 use Rattle.listed_volumes.specs.Listed.{known_in}
 use Rattle.shard_store.specs.StoreParts.{content_of_opened}
 use Rattle.shard_store.proofs.CountedLemmas.{counted_removed}

@@ -2,8 +2,8 @@ use Rattle.std.proofs.Common.{ap, sym, subst, ◌∙◌}
 use Rattle.std.specs.Prelude.{IsErrOf}
 use Rattle.m3_model.specs.Answers.{HasPoint}
 use Rattle.m3_outside.specs.declared.disk_err.DiskErr.TheVariants.{Failed as DiskFailed}
-use Rattle.block_buffer.specs.Held.{InMemory, is_in_block}
-use Rattle.commit_log.proofs.ReadLemmas.{passed_err}
+use Rattle.listed_volumes.specs.block_buffer.Held.{InMemory, is_in_block}
+use Rattle.listed_volumes.proofs.commit_log_proofs.ReadLemmas.{passed_err}
 use Rattle.listed_volumes.specs.Listed.{known_in}
 use Rattle.shard_store.specs.StoreParts.{content_of_opened}
 use Rattle.shard_store.proofs.KnownReads.{known_counted}

@@ -1,10 +1,10 @@
 use Rattle.std.proofs.Common.{◌∙◌, [], ap, map}
 use Rattle.std.specs.Prelude.{filter}
-use Rattle.block_buffer.specs.Joins.{joined}
-use Rattle.commit_log.proofs.Leaves.{leaves_none}
-use Rattle.commit_log.proofs.ReadLemmas.{passed_err}
-use Rattle.shard_files.specs.FilesHold.{volume_points}
-use Rattle.fileset_read.specs.declared.file_err.FileErr.TheVariants as failures
+use Rattle.listed_volumes.specs.block_buffer.Joins.{joined}
+use Rattle.listed_volumes.proofs.commit_log_proofs.Leaves.{leaves_none}
+use Rattle.listed_volumes.proofs.commit_log_proofs.ReadLemmas.{passed_err}
+use Rattle.listed_volumes.specs.shard_files.FilesHold.{volume_points}
+use Rattle.listed_volumes.specs.fileset_read.declared.file_err.FileErr.TheVariants as failures
 use Rattle.listed_volumes.specs.Known.{is_of}
 use Rattle.listed_volumes.proofs.AnswerLemmas.{block_is_range}
 use Rattle.listed_volumes.proofs.ReadLemmas.{not_fault}

@@ -1,8 +1,8 @@
 use Rattle.std.proofs.Common.{◌∙◌, List, sym, subst}
-use Rattle.commit_log.proofs.Leaves.{leaves_none}
-use Rattle.commit_log.specs.Contents.{next_after, numbers}
-use Rattle.shard_files.specs.Parts.{KnownVolume, VolumesAre}
-use Rattle.volume_steps.proofs.LawLemmas.{join_is_there}
+use Rattle.listed_volumes.proofs.commit_log_proofs.Leaves.{leaves_none}
+use Rattle.listed_volumes.specs.commit_log.Contents.{next_after, numbers}
+use Rattle.listed_volumes.specs.shard_files.Parts.{KnownVolume, VolumesAre}
+use Rattle.snapshot_steps.proofs.volume_steps_proofs.LawLemmas.{join_is_there}
 use Rattle.listed_volumes.specs.Listed.{known_in}
 use Rattle.shard_store.specs.StoreParts.{content_of_opened}
 use Rattle.shard_store.proofs.KnownReads.{known_counted, counted_is}

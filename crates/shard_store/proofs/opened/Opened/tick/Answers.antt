@@ -2,11 +2,11 @@ use Rattle.std.proofs.Common.{◌∙◌, ◌-◌, ap, length, map, refl, sym, ar
 use Rattle.std.specs.Prelude.{IsErrOf}
 use Rattle.std.specs.FinMap.{len}
 use Rattle.m3_outside.proofs.Moments.{becomes_stays}
-use Rattle.block_buffer.specs.Held.{has_expired, without}
-use Rattle.commit_log.proofs.Leaves.{leaves_as}
-use Rattle.commit_log.proofs.ReadLemmas.{passed_err}
-use Rattle.fileset_read.specs.declared.file_err.FileErr.TheVariants as unread
-use Rattle.volume_bytes.specs.Heads.{head_of}
+use Rattle.listed_volumes.specs.block_buffer.Held.{has_expired, without}
+use Rattle.listed_volumes.proofs.commit_log_proofs.Leaves.{leaves_as}
+use Rattle.listed_volumes.proofs.commit_log_proofs.ReadLemmas.{passed_err}
+use Rattle.listed_volumes.specs.fileset_read.declared.file_err.FileErr.TheVariants as unread
+use Rattle.listed_volumes.specs.volume_bytes.Heads.{head_of}
 use Rattle.listed_volumes.specs.Listed.{known_in}
 use Rattle.shard_store.specs.Stores.{joined_with}
 use Rattle.shard_store.specs.StoreParts.{content_of_opened}

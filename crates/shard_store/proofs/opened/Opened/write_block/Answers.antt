@@ -3,17 +3,17 @@ use Rattle.std.specs.Prelude.{⊤, IsErrOf, Result}
 use Rattle.m3_outside.specs.DiskState.{EachImage}
 use Rattle.m3_outside.specs.declared.disk_err.DiskErr.{DiskErr}
 use Rattle.m3_outside.specs.declared.disk_err.DiskErr.TheVariants.{Memory, Failed as DiskFailed}
-use Rattle.block_buffer.specs.Held.{InMemory, is_in_block, without}
-use Rattle.commit_log.proofs.Leaves.{leaves_none}
-use Rattle.shard_files.specs.Parts.{KnownVolume}
-use Rattle.volume_steps.specs.Known.{HoldsKnown}
-use Rattle.volume_steps.specs.KnownLists.{volume_of, with_volume}
-use Rattle.volume_steps.proofs.KnownLemmas.{hold_with_fewer}
+use Rattle.listed_volumes.specs.block_buffer.Held.{InMemory, is_in_block, without}
+use Rattle.listed_volumes.proofs.commit_log_proofs.Leaves.{leaves_none}
+use Rattle.listed_volumes.specs.shard_files.Parts.{KnownVolume}
+use Rattle.snapshot_steps.specs.volume_steps.Known.{HoldsKnown}
+use Rattle.snapshot_steps.specs.volume_steps.KnownLists.{volume_of, with_volume}
+use Rattle.snapshot_steps.proofs.volume_steps_proofs.KnownLemmas.{hold_with_fewer}
 use Rattle.shard_store.proofs.CountedLemmas.{counted_wrote}
 use Rattle.shard_store.proofs.PointLemmas.{has_fewer}
-use Rattle.commit_log.proofs.ReadLemmas.{passed_err}
+use Rattle.listed_volumes.proofs.commit_log_proofs.ReadLemmas.{passed_err}
 use Rattle.shard_open.proofs.Counts.{counts_for}
-use Rattle.volume_steps.proofs.LawLemmas.{join_is_there}
+use Rattle.snapshot_steps.proofs.volume_steps_proofs.LawLemmas.{join_is_there}
 use Rattle.listed_volumes.specs.declared.volume.ListedVolume.{ListedVolume}
 use Rattle.listed_volumes.specs.Listed.{known_as, known_in}
 use Rattle.shard_store.specs.StoreParts.{content_of_opened}

@@ -3,14 +3,14 @@ use Rattle.std.specs.Prelude.{IsErrOf}
 use Rattle.m3_outside.specs.DiskState.{EachImage, Told}
 use Rattle.m3_outside.specs.declared.disk_err.DiskErr.{DiskErr}
 use Rattle.m3_outside.specs.declared.disk_err.DiskErr.TheVariants.{Memory, Failed as DiskFailed}
-use Rattle.shard_files.specs.Gains.{Brings, nothing}
+use Rattle.listed_volumes.specs.shard_files.Gains.{Brings, nothing}
 use Rattle.std.specs.Prelude.{⊤, Err, Option, Result}
 use Rattle.shard_store.specs.declared.opened.Opened.{Opened}
-use Rattle.commit_log.specs.Contents.{numbers}
-use Rattle.shard_files.specs.Parts.{IsNewestNumber, KnownVolume}
-use Rattle.shard_files.specs.FilesHold.{volume_points}
+use Rattle.listed_volumes.specs.commit_log.Contents.{numbers}
+use Rattle.listed_volumes.specs.shard_files.Parts.{IsNewestNumber, KnownVolume}
+use Rattle.listed_volumes.specs.shard_files.FilesHold.{volume_points}
 use Rattle.shard_open.specs.Loads.{known_of}
-use Rattle.volume_steps.specs.Known.{HoldsKnown}
+use Rattle.snapshot_steps.specs.volume_steps.Known.{HoldsKnown}
 use Rattle.listed_volumes.specs.Cached.{AreOfVolumes, AreRight}
 use Rattle.listed_volumes.specs.Listed.{known_in}
 use Rattle.listed_volumes.specs.declared.row_cache.RowCache.{RowCache}
@@ -18,7 +18,7 @@ use Rattle.shard_store.specs.StoreParts.{IsKept, content_in}
 use Rattle.shard_store.specs.Stores.{joined_with}
 use Rattle.snapshot_steps.proofs.LogCounts.{few_segments}
 use Rattle.shard_store.proofs.PointLemmas.{settled_joins}
-use Rattle.block_buffer.specs.Held.{InMemory}
+use Rattle.listed_volumes.specs.block_buffer.Held.{InMemory}
 use Rattle.shard_store.proofs.LogStepLemmas.{err_is, brings_none, brings_nothing, brings_nothing_more, only_held, volumes_among, err_to}
 use Rattle.shard_open.proofs.Counts.{counts_for}
 use Rattle.shard_store.proofs.store.Store.open.Goals as goal

@@ -1,5 +1,5 @@
 use Rattle.std.proofs.Common.{◌≡◌, Option, length, true, ap, sym, subst, arith}
-use Rattle.shard_files.specs.Parts.{counted_volumes}
+use Rattle.listed_volumes.specs.shard_files.Parts.{counted_volumes}
 use Rattle.listed_volumes.specs.Listed.{known_in}
 use Rattle.shard_store.specs.StoreParts.{IsKept}
 use Rattle.shard_store.specs.declared.opened.Opened.{Opened}
