@@ -2,7 +2,7 @@
 ghost use Rattle.act_lines.specs.Inits.{FirstStands, FirstTells, LackingGroupsTell, UntakenTells};
 
 use m3_outside::Disk;
-use node_calls::cluster_members::Members;
+use node_calls::of_cluster_members::Members;
 
 /// The events of a first cluster tell of the line of the `init` that made it, and serve it; and it stands after the line.
 pub fn first_tells<D: Disk>(members: &Members<D>)

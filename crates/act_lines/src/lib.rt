@@ -16,7 +16,28 @@ pub use settings::{
     turns_leave,
 };
 
-// Libraries that the rows of crates above need not name.
-pub use first_cluster;
-pub use node_calls;
-pub use node_calls::{cluster_members, replica_calls, replica_exchange, session_net};
+// Of libraries that the rows of crates above need not name: what these crates name of them.
+/// Of `cluster_members`.
+pub mod of_cluster_members {
+    pub use node_calls::of_cluster_members::{Members, Range};
+}
+/// Of `first_cluster`.
+pub mod of_first_cluster {
+    pub use first_cluster::{first_members, give_all};
+}
+/// Of `node_calls`.
+pub mod of_node_calls {
+    pub use node_calls::{bootstrap, deliver, restart, set_fates, stop};
+}
+/// Of `replica_calls`.
+pub mod of_replica_calls {
+    pub use node_calls::of_replica_calls::Replicas;
+}
+/// Of `replica_exchange`.
+pub mod of_replica_exchange {
+    pub use node_calls::of_replica_exchange::CallId;
+}
+/// Of `session_net`.
+pub mod of_session_net {
+    pub use node_calls::of_session_net::Net;
+}

@@ -3,7 +3,7 @@ ghost use Rattle.act_lines.specs.Keeps.{BeginsStill};
 ghost use Rattle.act_lines.specs.Nodes.{AvailableTells, BootDamagedTells, BootFailedTells, BootWantedTells, RestartFailedTells, RestartWantedTells, RestartedTells, StoppedTells};
 
 use m3_outside::Disk;
-use node_calls::cluster_members::Members;
+use node_calls::of_cluster_members::Members;
 
 /// A node that was stopped leaves events that tell of the line.
 pub fn stops_tell<D: Disk>(members: &Members<D>)

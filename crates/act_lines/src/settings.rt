@@ -4,8 +4,8 @@ ghost use Rattle.act_lines.specs.Quiet.{DeliversNothingSo, KeepsStopsSo, Numbers
 ghost use Rattle.act_lines.specs.Stays.{NoneIsPlaced, NoneStandsAtFirst, StandsStill, StandsUnchanged, StaysUnmade};
 
 use m3_outside::Disk;
-use node_calls::cluster_members::Members;
-use node_calls::session_net::Net;
+use node_calls::of_cluster_members::Members;
+use node_calls::of_session_net::Net;
 
 /// The list tells of a line that was answered with the refusal that is due, by which nothing changed, and serves it: also
 /// before an `init`, where the list is empty.

@@ -17,8 +17,8 @@ use crate::spaces::namespace_position;
 use m3_model::{Answer, Matcher, Pick, Placement, Point, ReadLevel, Seq, Text, WriteLevel};
 use m3_outside::Disk;
 use session_reads::fetch;
-use session_writes::replica_exchange::CallId;
-use session_writes::session_net::{Net, SessionErr};
+use session_writes::of_replica_exchange::CallId;
+use session_writes::of_session_net::{Net, SessionErr};
 use session_writes::write::write;
 use std::alloc::Global;
 

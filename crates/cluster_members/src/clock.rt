@@ -9,8 +9,8 @@ ghost use Rattle.cluster_members.specs.Steps.{clock_events};
 
 use m3_model::Rules;
 use m3_outside::Disk;
-use session_writes::event_trail::{EventView, tell_apart};
-use session_writes::session_net::{Replicas, add};
+use session_writes::of_event_trail::{EventView, tell_apart};
+use session_writes::of_session_net::{Replicas, add};
 
 // Adds an Ask for a Clock of the rules to the list, which has room for it.
 fn ask<D: Disk>(replicas: &mut Replicas<D>, rules: &Rules)

@@ -6,7 +6,7 @@ ghost use Rattle.cluster_members.specs.Kept.{IsBy, IsNumberOf, IsUnkept, KeepsNo
 
 use m3_model::{Answer, Placement, Text};
 use m3_outside::Disk;
-use session_writes::session_net::Net;
+use session_writes::of_session_net::Net;
 use std::alloc::Global;
 use std::mem::swap;
 

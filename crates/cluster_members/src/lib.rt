@@ -13,5 +13,20 @@ pub use kept::unknown_number;
 pub use members::Members;
 pub use session_writes::deliver::deliver;
 
-// Libraries that the rows of crates above need not name.
-pub use session_writes::{event_trail, replica_calls, replica_exchange, session_net};
+// Of libraries that the rows of crates above need not name: what these crates name of them.
+/// Of `event_trail`.
+pub mod of_event_trail {
+    pub use session_writes::of_event_trail::Trail;
+}
+/// Of `replica_calls`.
+pub mod of_replica_calls {
+    pub use session_writes::of_replica_calls::Replicas;
+}
+/// Of `replica_exchange`.
+pub mod of_replica_exchange {
+    pub use session_writes::of_replica_exchange::{CallErr, CallId, Member, Slot};
+}
+/// Of `session_net`.
+pub mod of_session_net {
+    pub use session_writes::of_session_net::{Net, SessionErr, add, fate_to};
+}

@@ -5,8 +5,8 @@ ghost use Rattle.m3_model.specs.declared.limits.TheConstants.{MOST_NAMESPACES, M
 
 use m3_model::Placement;
 use m3_outside::Disk;
-use session_writes::replica_exchange::Slot;
-use session_writes::session_net::Net;
+use session_writes::of_replica_exchange::Slot;
+use session_writes::of_session_net::Net;
 
 /// A cluster that stands: what its calls meet, the placements that it keeps, the slots that have a replica by shard, and which of its
 /// nodes are stopped.

@@ -13,8 +13,8 @@ use crate::plan::{Change, planned};
 use crate::untaken::Untaken;
 use m3_model::{Act, Answer, Duplicate, Placement};
 use m3_outside::{Disk, Disks};
-use node_calls::cluster_members::Members;
-use node_calls::replica_exchange::Slot;
+use node_calls::of_cluster_members::Members;
+use node_calls::of_replica_exchange::Slot;
 use std::alloc::Global;
 use std::mem::replace;
 

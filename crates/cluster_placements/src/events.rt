@@ -14,9 +14,9 @@ ghost use Rattle.cluster_placements.specs.Steps.{end_at, place_events};
 use event_trail::{EventView, tell_apart};
 use m3_model::Placement;
 use m3_outside::Disk;
-use node_calls::replica_calls::Replicas;
-use node_calls::replica_exchange::Slot;
-use node_calls::session_net::add;
+use node_calls::of_replica_calls::Replicas;
+use node_calls::of_replica_exchange::Slot;
+use node_calls::of_session_net::add;
 
 // Adds an Ask for a Place of the placement to the list, which has room for it.
 fn ask<D: Disk>(replicas: &mut Replicas<D>, next: &Placement)

@@ -11,8 +11,8 @@ ghost use Rattle.cluster_placements.specs.Lending.{AreLent, HaveGained, HaveRetu
 use crate::untaken::Untaken;
 use first_cluster::give_all;
 use m3_outside::{Disk, DiskErr, DiskSlot, Disks};
-use node_calls::replica_calls::Replicas;
-use node_calls::replica_exchange::Slot;
+use node_calls::of_replica_calls::Replicas;
+use node_calls::of_replica_exchange::Slot;
 use std::alloc::Global;
 
 // The slot of a replica's disk.

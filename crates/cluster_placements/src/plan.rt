@@ -12,8 +12,8 @@ use crate::flags::with_nodes;
 use crate::slots::{left_out, slots_of, together, unmanned};
 use m3_model::{Act, Answer, Duplicate, Memory, Placement};
 use m3_outside::Disk;
-use node_calls::cluster_members::Members;
-use node_calls::replica_exchange::Slot;
+use node_calls::of_cluster_members::Members;
+use node_calls::of_replica_exchange::Slot;
 use placement_lines::next_placement;
 use std::alloc::Global;
 

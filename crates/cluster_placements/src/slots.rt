@@ -8,8 +8,8 @@ ghost use Rattle.first_cluster.specs.Slots.{slots_of};
 
 use m3_model::{Assignment, Memory, Placement};
 use m3_outside::Disk;
-use node_calls::replica_calls::Replicas;
-use node_calls::replica_exchange::Slot;
+use node_calls::of_replica_calls::Replicas;
+use node_calls::of_replica_exchange::Slot;
 use std::alloc::Global;
 
 // The slots of a placement's replicas, by shard.

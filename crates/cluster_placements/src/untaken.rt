@@ -1,4 +1,4 @@
-use node_calls::replica_exchange::Slot;
+use node_calls::of_replica_exchange::Slot;
 
 /// Why no replica could be made over the disk of a slot.
 #[derive(Clone, Copy)]

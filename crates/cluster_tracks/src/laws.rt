@@ -9,9 +9,9 @@ ghost use Rattle.cluster_tracks.specs.Runs.{RunFindsNoDamage, RunGoesOn, RunIsCo
 ghost use Rattle.cluster_tracks.specs.Steps.{FirstStandsSo, StandsAfterLine, TracksAtFirst, TracksOn};
 
 use m3_outside::Disk;
-use placement_tracks::cluster_members::Members;
-use placement_tracks::replica_calls::Replicas;
-use placement_tracks::session_net::Net;
+use placement_tracks::of_cluster_members::Members;
+use placement_tracks::of_replica_calls::Replicas;
+use placement_tracks::of_session_net::Net;
 
 /// Each disk counts the faults for which its slot's steps were refused, also those of the steps that come; and a slot that takes
 /// none of them has its replica as before.

@@ -10,8 +10,28 @@ pub use lines::{
     settings_are_tracked, steps_are_tracked, upkeep_is_tracked,
 };
 
-// Libraries that the rows of crates above need not name.
-pub use cluster_upkeep;
-pub use placement_tracks::{
-    cluster_members, cluster_placements, first_cluster, node_calls, replica_exchange,
-};
+// Of libraries that the rows of crates above need not name: what these crates name of them.
+/// Of `cluster_members`.
+pub mod of_cluster_members {
+    pub use placement_tracks::of_cluster_members::{Members, Range};
+}
+/// Of `cluster_placements`.
+pub mod of_cluster_placements {
+    pub use placement_tracks::of_cluster_placements::change_placement;
+}
+/// Of `cluster_upkeep`.
+pub mod of_cluster_upkeep {
+    pub use cluster_upkeep::{flush, snapshot, status, tick};
+}
+/// Of `first_cluster`.
+pub mod of_first_cluster {
+    pub use placement_tracks::of_first_cluster::{first_members, give_all};
+}
+/// Of `node_calls`.
+pub mod of_node_calls {
+    pub use placement_tracks::of_node_calls::{bootstrap, deliver, restart, set_fates, stop};
+}
+/// Of `replica_exchange`.
+pub mod of_replica_exchange {
+    pub use placement_tracks::of_replica_exchange::CallId;
+}

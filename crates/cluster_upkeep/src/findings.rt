@@ -5,7 +5,7 @@ ghost use Rattle.node_calls.specs.transcripts.Sweeps.{Entry, done_in, failed_in}
 ghost use Rattle.cluster_upkeep.specs.Findings.{HasRoomFor, entry_at};
 
 use m3_model::{Answer, Memory, Reason, Seq};
-use node_calls::replica_exchange::Slot;
+use node_calls::of_replica_exchange::Slot;
 use std::alloc::Global;
 
 /// The replicas that did what was asked, with how much they did, and those that refused, each in the order in which they were asked.

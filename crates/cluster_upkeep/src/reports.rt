@@ -15,8 +15,8 @@ use crate::rows::{Row, all_rows};
 use m3_model::{Answer, Report, Seq, StatusLine};
 use m3_outside::Disk;
 use node_calls::Members;
-use node_calls::replica_calls::Replicas;
-use node_calls::replica_exchange::Slot;
+use node_calls::of_replica_calls::Replicas;
+use node_calls::of_replica_exchange::Slot;
 use std::alloc::Global;
 
 // The line of a replica that reported so.

@@ -3,7 +3,7 @@ ghost use Rattle.std.specs.Prelude.{◌≡◌, ◌<◌, ◌^◌, length, IfOk, O
 ghost use Rattle.cluster_upkeep.specs.Rows.{AreRowsBelow, HasShardRows};
 
 use m3_model::{Memory, Placement, ShardState};
-use node_calls::replica_exchange::Slot;
+use node_calls::of_replica_exchange::Slot;
 use placement_core::members;
 use std::alloc::Global;
 

@@ -18,8 +18,8 @@ use crate::rows::{Row, all_rows};
 use m3_model::{Answer, Reason, Rules};
 use m3_outside::Disk;
 use node_calls::Members;
-use node_calls::replica_calls::Replicas;
-use node_calls::replica_exchange::{CallErr, Slot};
+use node_calls::of_replica_calls::Replicas;
+use node_calls::of_replica_exchange::{CallErr, Slot};
 use std::alloc::Global;
 
 // What all replicas are asked for.

@@ -1,8 +1,8 @@
 //! What calls of clients and late writes add to the events, and what they are answered: by the rules, the placement and the fates that
 //! the cluster goes by, and by the replies of the double.
 use cluster_core::Event;
-use cluster_members::replica_exchange::CallId;
-use cluster_members::session_net::{Net, fate_to};
+use cluster_members::of_replica_exchange::CallId;
+use cluster_members::of_session_net::{Net, fate_to};
 use cluster_words::{letter_of_node, spell_found};
 use m3_model::{Duplicate, Fate, Memory, Pick, Point, ReadLevel, WriteLevel};
 use m3_outside::Disk;

@@ -2,7 +2,7 @@
 ghost use Rattle.std.specs.Prelude.{◌<◌};
 ghost use Rattle.std.specs.List.{All};
 
-use cluster_members::replica_exchange::Slot;
+use cluster_members::of_replica_exchange::Slot;
 use cluster_words::{letter_of_node, spell_standing};
 use m3_model::{Memory, Rules};
 use m3_outside::Disk;

@@ -3,8 +3,8 @@ ghost use Rattle.fileset_read.specs.volume_bytes.Heads.{head_of};
 ghost use Rattle.fileset_check.specs.PartFiles.{IsBody, MayBeNoData};
 
 use crate::lawful::is_volume;
-use fileset_read::m3_model::{Seq, Series};
-use fileset_read::volume_bytes::{Head, Tables, tables_of};
+use fileset_read::of_m3_model::{Seq, Series};
+use fileset_read::of_volume_bytes::{Head, Tables, tables_of};
 use fileset_read::{RowErr, rows_in};
 use std::alloc::Global;
 

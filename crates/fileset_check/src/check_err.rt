@@ -1,5 +1,5 @@
 use crate::part_err::PartErr;
-use fileset_read::m3_outside::{DiskErr, FileName};
+use fileset_read::of_m3_outside::{DiskErr, FileName};
 use std::alloc::AllocFailed;
 use thiserror::Error;
 

@@ -7,9 +7,9 @@ ghost use Rattle.fileset_check.specs.Told.{FirstTells, Says, at_digests, at_gate
 use crate::gate::gate_stop;
 use crate::part_err::PartErr;
 use crate::parts::{bytes_in, file_of, is_there};
-use fileset_read::m3_model::Seq;
-use fileset_read::m3_outside::FileName;
-use fileset_read::wire_bytes::digest;
+use fileset_read::of_m3_model::Seq;
+use fileset_read::of_m3_outside::FileName;
+use fileset_read::of_wire_bytes::digest;
 
 // How many bytes a digest has, and how many the digests of five files.
 const DIGEST_BYTES: usize = 32;

@@ -10,9 +10,9 @@ use crate::body::Body;
 use crate::gate::first_difference;
 use crate::part_err::PartErr;
 use crate::parts::{bytes_in, file_of};
-use fileset_read::m3_model::Seq;
-use fileset_read::m3_outside::FileName;
-use fileset_read::volume_bytes::{Head, bloom_filter, info};
+use fileset_read::of_m3_model::Seq;
+use fileset_read::of_m3_outside::FileName;
+use fileset_read::of_volume_bytes::{Head, bloom_filter, info};
 use std::alloc::Global;
 
 // Tells where the file of this kind has other bytes than are due.

@@ -6,10 +6,10 @@ ghost use Rattle.fileset_check.specs.PartFiles.{HasHead};
 ghost use Rattle.fileset_check.specs.Told.{HeadStops, IsInside};
 
 use crate::numbers::{Field, field_of, number_stop};
-use fileset_read::m3_model::limits::{DURATION_END, MOST_NAMESPACES, NUMBER_END, TIME_END};
-use fileset_read::m3_outside::FileName;
-use fileset_read::volume_bytes::Head;
-use fileset_read::wire_bytes::get_number;
+use fileset_read::of_m3_model::limits::{DURATION_END, MOST_NAMESPACES, NUMBER_END, TIME_END};
+use fileset_read::of_m3_outside::FileName;
+use fileset_read::of_volume_bytes::Head;
+use fileset_read::of_wire_bytes::get_number;
 
 // The format of the volumes that are read.
 const FORMAT: u64 = 1;

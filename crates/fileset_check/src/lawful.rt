@@ -3,11 +3,11 @@ ghost use Rattle.fileset_read.specs.wire_bytes.Volumes.{IsHead, IsVolume};
 ghost use Rattle.fileset_read.specs.volume_bytes.Heads.{head_of};
 ghost use Rattle.fileset_check.specs.Lawful.{AreRows, AreTimes, IsRowIn};
 
-use fileset_read::m3_model::Series;
-use fileset_read::m3_model::limits::{
+use fileset_read::of_m3_model::Series;
+use fileset_read::of_m3_model::limits::{
     DURATION_END, MOST_ID_BYTES, MOST_NAMESPACES, NUMBER_END, TIME_END,
 };
-use fileset_read::volume_bytes::Head;
+use fileset_read::of_volume_bytes::Head;
 use std::cmp::Ordering;
 
 // Above all numbers of series that a volume may have, and of points that one of these may have.

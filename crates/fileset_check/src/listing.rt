@@ -14,8 +14,8 @@ ghost use Rattle.fileset_check.specs.declared.check_err.CheckErr.TheVariants as 
 use crate::check_err::CheckErr;
 use crate::volume::{Volume, check_volume};
 use fileset_read::counted;
-use fileset_read::m3_model::Seq;
-use fileset_read::m3_outside::{Disk, FileName};
+use fileset_read::of_m3_model::Seq;
+use fileset_read::of_m3_outside::{Disk, FileName};
 use std::alloc::Global;
 
 // Appends the volumes of these checkpoints.

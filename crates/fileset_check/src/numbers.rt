@@ -2,7 +2,7 @@ ghost use Rattle.std.specs.Prelude.{◌≡◌, IfNone, IfSome};
 ghost use Rattle.fileset_read.specs.wire_bytes.Fields.{StopsAt};
 ghost use Rattle.fileset_check.specs.Numbers.{AreFields, AreNumbers, offset_of};
 
-use fileset_read::wire_bytes::{WireErr, get_between};
+use fileset_read::of_wire_bytes::{WireErr, get_between};
 
 /// A number from `low` to `high` in `width` bytes, the highest first.
 #[derive(Clone, Copy)]

@@ -1,5 +1,5 @@
-use fileset_read::m3_model::Memory;
-use fileset_read::m3_outside::FileName;
+use fileset_read::of_m3_model::Memory;
+use fileset_read::of_m3_outside::FileName;
 
 /// Why files that were read aren't those of a volume.
 #[derive(Clone, Copy)]

@@ -4,8 +4,8 @@ ghost use Rattle.fileset_read.specs.m3_outside.DiskCalls.{LeavesFiles};
 ghost use Rattle.fileset_read.specs.m3_outside.declared.disk_err.DiskErr.TheVariants.{Failed as DiskFailed};
 ghost use Rattle.fileset_check.specs.PartFiles.{AreParts, bytes_in, file_of, part_in};
 
-use fileset_read::m3_model::Seq;
-use fileset_read::m3_outside::{Disk, DiskErr, FileName};
+use fileset_read::of_m3_model::Seq;
+use fileset_read::of_m3_outside::{Disk, DiskErr, FileName};
 use fileset_read::read_file;
 use std::alloc::Global;
 

@@ -17,9 +17,9 @@ use crate::head::read_head;
 use crate::part_err::PartErr;
 use crate::parts::{bytes_in, file_of, read_parts};
 use fileset_read::RowErr;
-use fileset_read::m3_model::Seq;
-use fileset_read::m3_outside::{Disk, FileName};
-use fileset_read::volume_bytes::Head;
+use fileset_read::of_m3_model::Seq;
+use fileset_read::of_m3_outside::{Disk, FileName};
+use fileset_read::of_volume_bytes::Head;
 use std::alloc::Global;
 
 /// A volume that counts and is there whole: which one it is, and how many series and points it has.

@@ -11,8 +11,8 @@ ghost use Rattle.first_cluster.specs.Slots.{AreApart, slots_in};
 ghost use Rattle.first_cluster.specs.declared.start.Start.{Start as AtStart};
 
 use crate::start::Start;
-use cluster_members::replica_calls::Replicas;
-use cluster_members::replica_exchange::CallErr;
+use cluster_members::of_replica_calls::Replicas;
+use cluster_members::of_replica_exchange::CallErr;
 use m3_model::{Memory, Reason};
 use m3_outside::Disk;
 

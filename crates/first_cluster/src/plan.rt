@@ -6,7 +6,7 @@ ghost use Rattle.first_cluster.specs.First.{IsPlan};
 ghost use Rattle.first_cluster.specs.Slots.{slots_in, starts_of};
 
 use crate::start::Start;
-use cluster_members::replica_exchange::Slot;
+use cluster_members::of_replica_exchange::Slot;
 use first_placement::initial::initial;
 use m3_model::{Duplicate, Memory, MetaState, Placement, Rules, Seq, Text};
 use net_plan::Bag;

@@ -1,4 +1,4 @@
-use cluster_members::replica_exchange::Slot;
+use cluster_members::of_replica_exchange::Slot;
 
 /// The slot of a replica, with the tenure with which it begins.
 #[derive(Clone, Copy)]

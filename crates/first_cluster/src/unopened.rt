@@ -1,4 +1,4 @@
-use cluster_members::replica_exchange::Slot;
+use cluster_members::of_replica_exchange::Slot;
 
 /// Why no replica could be made over the disk of a slot, or none of them be begun.
 #[derive(Clone, Copy)]

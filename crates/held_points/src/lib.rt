@@ -10,5 +10,8 @@ mod ranges;
 
 pub use held::{HeldPoints, hold};
 
-// Libraries that the rows of crates above need not name.
-pub use series_id;
+// Of libraries that the rows of crates above need not name: what these crates name of them.
+/// Of `series_id`.
+pub mod of_series_id {
+    pub use series_id::{has_tag, shard_of};
+}

@@ -19,9 +19,9 @@ use crate::row_cache::RowCache;
 use crate::volume::ListedVolume;
 use m3_model::{Pick, Seq, Series};
 use std::alloc::Global;
-use volume_points::fileset_read::FileErr;
-use volume_points::m3_outside::Disk;
-use volume_points::series_merge::merge;
+use volume_points::of_fileset_read::FileErr;
+use volume_points::of_m3_outside::Disk;
+use volume_points::of_series_merge::merge;
 use volume_points::{checked_rows, may_meet, read_volume, select_from};
 
 // What one volume, which may have some of them, has of the points that a match asks for. Its rows are read, and kept.

@@ -8,9 +8,9 @@ use crate::volume::ListedVolume;
 use m3_model::{Memory, Seq, Series};
 use std::alloc::Global;
 use std::snapshot::Snapshot;
-use volume_points::fileset_check::is_volume;
-use volume_points::volume_bytes::{Head, Tables, bloom_filter, tables_of};
-use volume_points::volume_rows::Seeker;
+use volume_points::of_fileset_check::is_volume;
+use volume_points::of_volume_bytes::{Head, Tables, bloom_filter, tables_of};
+use volume_points::of_volume_rows::Seeker;
 
 // The seeker of a volume of this head and these rows.
 fn seeker_from(alloc: Global, head: &Head, rows: &[Series]) -> Result<Seeker, Memory>

@@ -10,8 +10,8 @@ use block_cache::Cache;
 use m3_model::{Memory, Pick, Seq, Series};
 use std::alloc::Global;
 use std::marker::Model;
+use volume_points::of_volume_bytes::Head;
 use volume_points::select_from;
-use volume_points::volume_bytes::Head;
 
 /// At most so many volumes have their rows kept.
 const MOST_BLOCKS: usize = 64;

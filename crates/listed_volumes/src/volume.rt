@@ -3,8 +3,8 @@ ghost use Rattle.listed_volumes.specs.Kept.{HasSeeker};
 
 use m3_model::{Seq, Series};
 use std::snapshot::Snapshot;
-use volume_points::volume_bytes::Head;
-use volume_points::volume_rows::Seeker;
+use volume_points::of_volume_bytes::Head;
+use volume_points::of_volume_rows::Seeker;
 
 /// A volume that counts. Beside its head it has the volume's seeker, four bytes or so for each series, so that a look-up reads
 /// little; and none where its rows can't be those of a volume of this head, as a disk that doesn't tell what it holds may give.

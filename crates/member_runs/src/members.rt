@@ -12,9 +12,9 @@ use cluster_words::{act_of, spell, three_nodes};
 use first_cluster::first_members;
 use m3_model::{Act, Answer, Memory, Space, Text};
 use m3_outside::{Disk, Disks};
-use node_calls::cluster_members::{Members, Range};
-use node_calls::replica_calls::Replicas;
-use node_calls::replica_exchange::{CallId, Slot};
+use node_calls::of_cluster_members::{Members, Range};
+use node_calls::of_replica_calls::Replicas;
+use node_calls::of_replica_exchange::{CallId, Slot};
 use node_calls::{bootstrap, deliver, restart, set_fates, stop};
 use std::alloc::Global;
 

@@ -11,8 +11,8 @@ ghost use Rattle.node_calls.specs.Begins.{EndsBoots, tenure_in};
 ghost use Rattle.node_calls.specs.Boots.{IsOfForm, IsBeginTried, IsShardTried, EndsBegins, BreaksBegins};
 
 use crate::refused::Refused;
-use cluster_members::replica_calls::Replicas;
-use cluster_members::replica_exchange::{CallErr, Slot};
+use cluster_members::of_replica_calls::Replicas;
+use cluster_members::of_replica_exchange::{CallErr, Slot};
 use m3_model::{Assignment, Placement, Reason};
 use m3_outside::Disk;
 

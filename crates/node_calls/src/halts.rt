@@ -8,8 +8,8 @@ ghost use Rattle.node_calls.specs.Boots.{IsRestartTried, EndsRestarts};
 ghost use Rattle.node_calls.specs.Halts.{slots_of_node, stop_at, restart_at, AreManned};
 
 use crate::refused::Refused;
-use cluster_members::replica_calls::Replicas;
-use cluster_members::replica_exchange::{CallErr, Slot};
+use cluster_members::of_replica_calls::Replicas;
+use cluster_members::of_replica_exchange::{CallErr, Slot};
 use m3_outside::Disk;
 
 /// How many of the slots are the node's.

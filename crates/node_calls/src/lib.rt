@@ -11,6 +11,20 @@ pub use boots::{bootstrap, restart};
 pub use cluster_members::Members;
 pub use nodes::{deliver, set_fates, stop};
 
-// Libraries that the rows of crates above need not name.
-pub use cluster_members;
-pub use cluster_members::{replica_calls, replica_exchange, session_net};
+// Of libraries that the rows of crates above need not name: what these crates name of them.
+/// Of `cluster_members`.
+pub mod of_cluster_members {
+    pub use cluster_members::{Members, Range};
+}
+/// Of `replica_calls`.
+pub mod of_replica_calls {
+    pub use cluster_members::of_replica_calls::Replicas;
+}
+/// Of `replica_exchange`.
+pub mod of_replica_exchange {
+    pub use cluster_members::of_replica_exchange::{CallErr, CallId, Slot};
+}
+/// Of `session_net`.
+pub mod of_session_net {
+    pub use cluster_members::of_session_net::{Net, add};
+}

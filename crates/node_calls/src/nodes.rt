@@ -9,7 +9,7 @@ ghost use Rattle.node_calls.specs.Nodes.{IsResolved, IsFated, IsDeliverAnswer, I
 
 use crate::halts::{slots_of, stop_all};
 use cluster_members::Members;
-use cluster_members::session_net::SessionErr;
+use cluster_members::of_session_net::SessionErr;
 use m3_model::{Answer, Fate, Instance, Seq, Text};
 use m3_outside::Disk;
 use net_plan::Fates;

@@ -6,8 +6,32 @@ pub mod lines;
 
 pub use lines::{changes_serve, changes_stand};
 
-// Libraries that the rows of crates above need not name.
-pub use act_lines::{
-    cluster_members, first_cluster, node_calls, replica_calls, replica_exchange, session_net,
-};
-pub use cluster_placements;
+// Of libraries that the rows of crates above need not name: what these crates name of them.
+/// Of `cluster_members`.
+pub mod of_cluster_members {
+    pub use act_lines::of_cluster_members::{Members, Range};
+}
+/// Of `cluster_placements`.
+pub mod of_cluster_placements {
+    pub use cluster_placements::change_placement;
+}
+/// Of `first_cluster`.
+pub mod of_first_cluster {
+    pub use act_lines::of_first_cluster::{first_members, give_all};
+}
+/// Of `node_calls`.
+pub mod of_node_calls {
+    pub use act_lines::of_node_calls::{bootstrap, deliver, restart, set_fates, stop};
+}
+/// Of `replica_calls`.
+pub mod of_replica_calls {
+    pub use act_lines::of_replica_calls::Replicas;
+}
+/// Of `replica_exchange`.
+pub mod of_replica_exchange {
+    pub use act_lines::of_replica_exchange::CallId;
+}
+/// Of `session_net`.
+pub mod of_session_net {
+    pub use act_lines::of_session_net::Net;
+}

@@ -2,7 +2,7 @@
 ghost use Rattle.placement_tracks.specs.Serves.{ChangesServe};
 ghost use Rattle.placement_tracks.specs.Stands.{ChangesStand, ComesNext};
 
-use act_lines::cluster_members::Members;
+use act_lines::of_cluster_members::Members;
 use m3_outside::Disk;
 
 /// A run that is told and served stays so by the line of an act that asks for a step, whatever it is answered: the next placement, a

@@ -16,9 +16,9 @@ ghost use Rattle.replica_exchange.specs.Promises.{Begins, Puts, Reads, Flushes, 
 ghost use Rattle.replica_calls.specs.Calls.{first_member, AreMembersOf, MayCall, MayTell, IsNoStep};
 
 use event_book::Full;
-use replica_exchange::event_trail::{EventView, Trail};
-use replica_exchange::m3_model::{Pick, Point, Reason, Report, Rules, Seq, Series};
-use replica_exchange::m3_outside::Disk;
+use replica_exchange::of_event_trail::{EventView, Trail};
+use replica_exchange::of_m3_model::{Pick, Point, Reason, Report, Rules, Seq, Series};
+use replica_exchange::of_m3_outside::Disk;
 use replica_exchange::{
     CallErr, CallId, Machine, Member, Slot, boot_on, end_on, fence_on, flush_on, put_on, read_on,
     report_on, restart_on, snapshot_on, stop_on, tick_on,

@@ -14,7 +14,7 @@ use m3_model::{Duplicate, Memory, Pick, Point, Reason, Report, Rules};
 use m3_outside::Disk;
 use net_plan::LateWrite;
 use replica_exchange::Slot;
-use replica_exchange::replica_machine::{Began, Machine};
+use replica_exchange::of_replica_machine::{Began, Machine};
 use std::alloc::Global;
 
 /// So many nodes have each shard.

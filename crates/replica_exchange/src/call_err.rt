@@ -1,4 +1,4 @@
-use replica_machine::m3_model::Reason;
+use replica_machine::of_m3_model::Reason;
 use thiserror::Error;
 
 /// Why a replica wasn't called, or what it was refused for.

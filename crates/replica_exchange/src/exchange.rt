@@ -21,9 +21,9 @@ use crate::parts::{
 };
 use crate::slot::Slot;
 use event_trail::{CallView, EventView, ReplyView, Trail, tell_apart};
-use replica_machine::cluster_core::StepCall;
-use replica_machine::m3_model::{Pick, Point, Report, Rules, Seq, Series};
-use replica_machine::m3_outside::Disk;
+use replica_machine::of_cluster_core::StepCall;
+use replica_machine::of_m3_model::{Pick, Point, Report, Rules, Seq, Series};
+use replica_machine::of_m3_outside::Disk;
 
 // Adds an Ask for the call.
 fn ask<D: Disk>(trail: &mut Trail<D>, slot: Slot, call: &CallView)

@@ -18,7 +18,28 @@ pub use member::Member;
 pub use replica_machine::Machine;
 pub use slot::Slot;
 
-// Libraries that the rows of crates above need not name.
-pub use event_trail;
-pub use replica_machine;
-pub use replica_machine::{m3_model, m3_outside, placement_core, series_id};
+// Of libraries that the rows of crates above need not name: what these crates name of them.
+/// Of `event_trail`.
+pub mod of_event_trail {
+    pub use event_trail::{EventView, Trail, tell_apart};
+}
+/// Of `m3_model`.
+pub mod of_m3_model {
+    pub use replica_machine::of_m3_model::{Pick, Point, Reason, Report, Rules, Seq, Series};
+}
+/// Of `m3_outside`.
+pub mod of_m3_outside {
+    pub use replica_machine::of_m3_outside::Disk;
+}
+/// Of `placement_core`.
+pub mod of_placement_core {
+    pub use replica_machine::of_placement_core::counted;
+}
+/// Of `replica_machine`.
+pub mod of_replica_machine {
+    pub use replica_machine::{Began, Machine};
+}
+/// Of `series_id`.
+pub mod of_series_id {
+    pub use replica_machine::of_series_id::shard_of;
+}

@@ -1,5 +1,5 @@
 use replica_machine::Machine;
-use replica_machine::m3_outside::Disk;
+use replica_machine::of_m3_outside::Disk;
 use std::snapshot::Snapshot;
 
 /// The replica at a slot.

@@ -7,7 +7,7 @@ ghost use Rattle.replica_exchange.specs.MachineCalls.{result_of};
 use crate::call_err::CallErr;
 use event_trail::ReplyView;
 use replica_machine::Began;
-use replica_machine::m3_model::{Reason, Seq, Series};
+use replica_machine::of_m3_model::{Reason, Seq, Series};
 
 pub(crate) fn done_view(said: &Result<(), Reason>) -> ReplyView
     ensures { result ≡ reply_by (λ _. reply.Done) said.now }

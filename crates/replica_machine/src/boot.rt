@@ -24,7 +24,7 @@ use crate::opening::open_store;
 use m3_model::{Damage, Memory, Reason, Seq, Standing};
 use m3_outside::{Disk, DiskErr};
 use shard_store::Loaded;
-use shard_store::shard_files::LoadErr;
+use shard_store::of_shard_files::LoadErr;
 
 impl<D: Disk> Machine<D> {
     /// Begins a tenure. From Boot it syncs and loads the files, begins a fresh segment of the log, has the tenure in it where

@@ -12,9 +12,24 @@ mod upkeep;
 
 pub use machine::{Began, Machine};
 
-// Libraries that the rows of crates above need not name.
-pub use cluster_core;
-pub use m3_model;
-pub use m3_outside;
-pub use placement_core;
-pub use shard_store::series_id;
+// Of libraries that the rows of crates above need not name: what these crates name of them.
+/// Of `cluster_core`.
+pub mod of_cluster_core {
+    pub use cluster_core::StepCall;
+}
+/// Of `m3_model`.
+pub mod of_m3_model {
+    pub use m3_model::{Pick, Point, Reason, Report, Rules, Seq, Series};
+}
+/// Of `m3_outside`.
+pub mod of_m3_outside {
+    pub use m3_outside::Disk;
+}
+/// Of `placement_core`.
+pub mod of_placement_core {
+    pub use placement_core::counted;
+}
+/// Of `series_id`.
+pub mod of_series_id {
+    pub use shard_store::of_series_id::shard_of;
+}

@@ -18,7 +18,7 @@ use crate::damage::{name_room, named_damage};
 use crate::machine::Machine;
 use m3_model::{Pick, Reason, Rules, Seq, Series, Standing};
 use m3_outside::Disk;
-use shard_store::fileset_read::FileErr;
+use shard_store::of_fileset_read::FileErr;
 use std::alloc::Global;
 
 fn space_of(pick: &Pick) -> u8

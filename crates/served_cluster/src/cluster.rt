@@ -26,12 +26,12 @@ ghost use Rattle.cluster_tracks.specs.Lines.{EachMember};
 ghost use Rattle.served_cluster.specs.Acts.{Answers, Serves, is_init, sets_fates};
 ghost use Rattle.served_cluster.specs.Owned.{AreReady, MayServeCluster, TracksTurns, place_of};
 
-use cluster_tracks::cluster_members::{Members, Range};
-use cluster_tracks::cluster_placements::change_placement;
-use cluster_tracks::cluster_upkeep::{flush, snapshot, status, tick};
-use cluster_tracks::first_cluster::{first_members, give_all};
-use cluster_tracks::node_calls::{bootstrap, deliver, restart, set_fates, stop};
-use cluster_tracks::replica_exchange::CallId;
+use cluster_tracks::of_cluster_members::{Members, Range};
+use cluster_tracks::of_cluster_placements::change_placement;
+use cluster_tracks::of_cluster_upkeep::{flush, snapshot, status, tick};
+use cluster_tracks::of_first_cluster::{first_members, give_all};
+use cluster_tracks::of_node_calls::{bootstrap, deliver, restart, set_fates, stop};
+use cluster_tracks::of_replica_exchange::CallId;
 use m3_model::{Act, Answer, Fate, Placement, Reply, Request, Seq, Space, Text};
 use m3_outside::{Disk, Disks};
 use net_plan::Calls;

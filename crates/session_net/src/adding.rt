@@ -6,8 +6,8 @@ ghost use Rattle.replica_calls.specs.Calls.{IsNoStep};
 ghost use Rattle.session_net.specs.Runs.{Ran};
 
 use replica_calls::Replicas;
-use replica_calls::event_trail::EventView;
-use replica_calls::m3_outside::Disk;
+use replica_calls::of_event_trail::EventView;
+use replica_calls::of_m3_outside::Disk;
 
 /// Adds an event that no replica makes to the list, after which it is lawful and which has room for it, and answers its
 /// position. Takes no memory.

@@ -14,7 +14,32 @@ pub use replica_calls::Replicas;
 pub use session_err::SessionErr;
 pub use tally::Tally;
 
-// Libraries that the rows of crates above need not name.
-pub use net_plan;
-pub use replica_calls;
-pub use replica_calls::{event_trail, m3_outside, placement_core, replica_exchange, series_id};
+// Of libraries that the rows of crates above need not name: what these crates name of them.
+/// Of `event_trail`.
+pub mod of_event_trail {
+    pub use replica_calls::of_event_trail::{EventView, Trail, tell_apart};
+}
+/// Of `m3_outside`.
+pub mod of_m3_outside {
+    pub use replica_calls::of_m3_outside::Disk;
+}
+/// Of `net_plan`.
+pub mod of_net_plan {
+    pub use net_plan::Fates;
+}
+/// Of `placement_core`.
+pub mod of_placement_core {
+    pub use replica_calls::of_placement_core::counted;
+}
+/// Of `replica_calls`.
+pub mod of_replica_calls {
+    pub use replica_calls::Replicas;
+}
+/// Of `replica_exchange`.
+pub mod of_replica_exchange {
+    pub use replica_calls::of_replica_exchange::{CallErr, CallId, Member, Slot};
+}
+/// Of `series_id`.
+pub mod of_series_id {
+    pub use replica_calls::of_series_id::shard_of;
+}

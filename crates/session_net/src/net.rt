@@ -6,7 +6,7 @@ ghost use Rattle.replica_calls.specs.wire_bytes.Entries.{IsBounded};
 use m3_model::MetaState;
 use net_plan::{Bag, Fates};
 use replica_calls::Replicas;
-use replica_calls::m3_outside::Disk;
+use replica_calls::of_m3_outside::Disk;
 
 /// What calls of clients meet: the rules and the placement that they go by, the replicas that they reach with the list of
 /// the run's events, what becomes of their messages, and the late ones among these.

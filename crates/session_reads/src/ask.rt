@@ -25,8 +25,8 @@ ghost use Rattle.session_reads.specs.Gathering.{wish_of, TakesIn, IsContentOf, W
 use m3_model::{Fate, Memory, MetaState, Pick, Reason, Seq, Series};
 use m3_outside::Disk;
 use series_merge::merge;
-use session_net::net_plan::Fates;
-use session_net::replica_exchange::{CallErr, CallId, Slot};
+use session_net::of_net_plan::Fates;
+use session_net::of_replica_exchange::{CallErr, CallId, Slot};
 use session_net::{Replicas, Tally, fate_to};
 use std::alloc::Global;
 use std::mem::replace;

@@ -11,8 +11,8 @@ use crate::ask::{Asking, join_answer};
 use crate::shard::{Gave, ask_shard};
 use m3_model::{MetaState, Pick, Seq};
 use m3_outside::Disk;
-use session_net::net_plan::Fates;
-use session_net::series_id::shard_of;
+use session_net::of_net_plan::Fates;
+use session_net::of_series_id::shard_of;
 use session_net::{Replicas, SessionErr};
 use std::alloc::Global;
 

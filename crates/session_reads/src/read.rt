@@ -10,7 +10,7 @@ use crate::gather::gather;
 use m3_model::{Pick, ReadLevel, Seq, Series};
 use m3_outside::Disk;
 use quorum_count::{majority, needed_read};
-use session_net::replica_exchange::CallId;
+use session_net::of_replica_exchange::CallId;
 use session_net::{Net, SessionErr};
 use std::alloc::Global;
 

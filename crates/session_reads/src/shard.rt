@@ -16,9 +16,9 @@ ghost use Rattle.session_reads.specs.Gathering.{wish_of, IsShardRead, IsUnread};
 use crate::ask::{Asking, ask_nodes};
 use m3_model::{MetaState, Pick, Seq, Series};
 use m3_outside::Disk;
-use session_net::event_trail::EventView;
-use session_net::net_plan::Fates;
-use session_net::placement_core::counted;
+use session_net::of_event_trail::EventView;
+use session_net::of_net_plan::Fates;
+use session_net::of_placement_core::counted;
 use session_net::{Replicas, SessionErr, Tally, add};
 use std::alloc::Global;
 

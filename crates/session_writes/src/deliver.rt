@@ -18,8 +18,8 @@ use crate::put::put_once;
 use m3_model::limits::MOST_LATE_WRITES;
 use m3_model::{Memory, Reason, Rules, Seq};
 use net_plan::LateWrite;
-use session_net::m3_outside::Disk;
-use session_net::replica_exchange::{CallId, Slot};
+use session_net::of_m3_outside::Disk;
+use session_net::of_replica_exchange::{CallId, Slot};
 use session_net::{Net, Replicas, SessionErr};
 use std::alloc::Global;
 

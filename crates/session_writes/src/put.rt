@@ -10,8 +10,8 @@ ghost use Rattle.session_net.specs.Writes.{put_of};
 
 use m3_model::{Fate, Point, Reason, Rules};
 use session_net::Replicas;
-use session_net::m3_outside::Disk;
-use session_net::replica_exchange::{CallErr, CallId, Slot};
+use session_net::of_m3_outside::Disk;
+use session_net::of_replica_exchange::{CallErr, CallId, Slot};
 
 // Puts the point on the replica at the slot, which is there.
 pub(crate) fn put_once<D: Disk>(

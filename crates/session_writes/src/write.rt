@@ -27,10 +27,10 @@ use m3_model::{
 use net_plan::{Bag, Fates, LateWrite};
 use placement_core::members;
 use quorum_count::needed_write;
-use session_net::event_trail::EventView;
-use session_net::m3_outside::Disk;
-use session_net::replica_exchange::{CallId, Slot};
-use session_net::series_id::shard_of;
+use session_net::of_event_trail::EventView;
+use session_net::of_m3_outside::Disk;
+use session_net::of_replica_exchange::{CallId, Slot};
+use session_net::of_series_id::shard_of;
 use session_net::{Net, Replicas, SessionErr, Tally, add, fate_to};
 use std::alloc::Global;
 

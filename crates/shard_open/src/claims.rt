@@ -9,7 +9,7 @@ use boot_chain::{
 };
 use m3_model::Memory;
 use m3_model::limits::MOST_NAMESPACES;
-use snapshot_files::volume_bytes::Head;
+use snapshot_files::of_volume_bytes::Head;
 use std::alloc::Global;
 
 // The filesystem's bootstrapper: it claims the blocks with a volume that counts, of those that it is asked for. The blocks stand

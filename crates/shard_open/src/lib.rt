@@ -14,6 +14,6 @@ pub mod volumes;
 
 pub use load::Loaded;
 pub use rows::append_rows;
-pub use snapshot_files::fileset_check::is_volume;
+pub use snapshot_files::of_fileset_check::is_volume;
 pub use snapshot_files::{Snap, is_snapshot};
 pub use volumes::OpenVolume;

@@ -20,8 +20,8 @@ use crate::sync::sync_all;
 use crate::volumes::{OpenVolume, open_volumes};
 use boot_chain::Claims;
 use m3_model::{Memory, Point, Seq};
-use snapshot_files::m3_outside::Disk;
-use snapshot_files::shard_files::{Amount, LoadErr, join_entries};
+use snapshot_files::of_m3_outside::Disk;
+use snapshot_files::of_shard_files::{Amount, LoadErr, join_entries};
 use std::alloc::Global;
 
 /// What a replica's disk holds.

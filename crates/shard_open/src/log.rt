@@ -11,9 +11,9 @@ ghost use Rattle.snapshot_files.specs.shard_files.declared.load_err.LoadErr.TheV
 ghost use Rattle.shard_open.specs.Told.{AreApart};
 
 use m3_model::Seq;
-use snapshot_files::commit_log::{Segments, list_segments, read_front};
-use snapshot_files::m3_outside::{Disk, FileName};
-use snapshot_files::shard_files::{EntryErr, LoadErr, LogEntry, read_segment};
+use snapshot_files::of_commit_log::{Segments, list_segments, read_front};
+use snapshot_files::of_m3_outside::{Disk, FileName};
+use snapshot_files::of_shard_files::{EntryErr, LoadErr, LogEntry, read_segment};
 use std::alloc::Global;
 
 /// What a replica's log holds.

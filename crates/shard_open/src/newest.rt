@@ -10,9 +10,9 @@ ghost use Rattle.shard_open.specs.Told.{AreApart};
 
 use crate::told::told;
 use m3_model::{Point, Seq};
-use snapshot_files::m3_outside::Disk;
 use snapshot_files::newest;
-use snapshot_files::shard_files::LoadErr;
+use snapshot_files::of_m3_outside::Disk;
+use snapshot_files::of_shard_files::LoadErr;
 use std::alloc::Global;
 
 /// What the newest snapshot has; nothing where there is none.

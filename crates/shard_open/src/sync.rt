@@ -4,7 +4,7 @@ ghost use Rattle.snapshot_files.specs.m3_outside.DiskState.{DiskState, EachImage
 ghost use Rattle.snapshot_files.specs.m3_outside.Files.{Stays};
 ghost use Rattle.snapshot_files.specs.m3_outside.declared.disk_err.DiskErr.TheVariants.{Failed as DiskFailed};
 
-use snapshot_files::m3_outside::{Disk, DiskErr};
+use snapshot_files::of_m3_outside::{Disk, DiskErr};
 
 /// Syncs all files: a stop then leaves what reads give, and nothing else.
 ///

@@ -1,8 +1,8 @@
 //! Damage of volumes and of a snapshot, as it is told of a replica's files.
 ghost use Rattle.shard_open.specs.Told.{AreApart, IsToldBy};
 
-use snapshot_files::fileset_check::CheckErr;
-use snapshot_files::shard_files::LoadErr;
+use snapshot_files::of_fileset_check::CheckErr;
+use snapshot_files::of_shard_files::LoadErr;
 
 /// The same of the replica's files. A disk that doesn't keep to what it told may give a check two digests that are one: then no
 /// digests are told.

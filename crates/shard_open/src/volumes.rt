@@ -17,10 +17,10 @@ ghost use Rattle.shard_open.specs.Told.{AreApart, IsUnreadAs};
 use crate::rows::append_rows;
 use crate::told::told;
 use m3_model::{Memory, Point, Seq, Series};
-use snapshot_files::fileset_check::{Volume, volumes};
-use snapshot_files::fileset_read::{FileErr, rows};
-use snapshot_files::m3_outside::Disk;
-use snapshot_files::shard_files::LoadErr;
+use snapshot_files::of_fileset_check::{Volume, volumes};
+use snapshot_files::of_fileset_read::{FileErr, rows};
+use snapshot_files::of_m3_outside::Disk;
+use snapshot_files::of_shard_files::LoadErr;
 use std::alloc::Global;
 
 /// A volume that counts.

@@ -16,9 +16,9 @@ ghost use Rattle.shard_store.specs.StoreParts.{IsCachedIn, IsOpenOn, content_of_
 
 use crate::opened::Opened;
 use crate::volumes::heads;
-use listed_volumes::fileset_read::FileErr;
-use listed_volumes::held_points::HeldPoints;
-use listed_volumes::volume_bytes::Head;
+use listed_volumes::of_fileset_read::FileErr;
+use listed_volumes::of_held_points::HeldPoints;
+use listed_volumes::of_volume_bytes::Head;
 use listed_volumes::{ListedVolume, fetch, join};
 use m3_model::{Pick, Seq, Series};
 use m3_outside::Disk;

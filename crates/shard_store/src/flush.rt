@@ -31,14 +31,14 @@ use crate::fetch::heads_of;
 use crate::moments::is_past;
 use crate::opened::Opened;
 use crate::volumes::{add, take_off};
-use listed_volumes::fileset_read::FileErr;
-use listed_volumes::held_points::HeldPoints;
-use listed_volumes::volume_bytes::Head;
+use listed_volumes::of_fileset_read::FileErr;
+use listed_volumes::of_held_points::HeldPoints;
+use listed_volumes::of_volume_bytes::Head;
 use listed_volumes::{BlockErr, ListedVolume, block_rows, list_volume};
 use m3_model::{Rules, Seq, Series, Space};
 use m3_outside::{Disk, DiskErr};
 use shard_open::is_volume;
-use snapshot_steps::volume_steps::{remove_volumes, write_volume};
+use snapshot_steps::of_volume_steps::{remove_volumes, write_volume};
 use std::alloc::Global;
 
 // Why a block wasn't joined, of the replica's files.

@@ -15,5 +15,16 @@ mod volumes;
 pub use shard_open::Loaded;
 pub use store::Store;
 
-// Libraries that the rows of crates above need not name.
-pub use listed_volumes::{fileset_read, series_id, shard_files};
+// Of libraries that the rows of crates above need not name: what these crates name of them.
+/// Of `fileset_read`.
+pub mod of_fileset_read {
+    pub use listed_volumes::of_fileset_read::FileErr;
+}
+/// Of `series_id`.
+pub mod of_series_id {
+    pub use listed_volumes::of_series_id::shard_of;
+}
+/// Of `shard_files`.
+pub mod of_shard_files {
+    pub use listed_volumes::of_shard_files::LoadErr;
+}

@@ -18,7 +18,7 @@ ghost use Rattle.shard_store.specs.Stores.{IsKeptOn, memory_with};
 ghost use Rattle.listed_volumes.specs.shard_files.declared.entries.LogEntry.{LogEntry as Entry};
 ghost use Rattle.listed_volumes.specs.shard_files.LogSteps.{gain_in};
 
-use listed_volumes::commit_log::Log;
+use listed_volumes::of_commit_log::Log;
 use m3_outside::{Disk, DiskErr, Failed};
 
 /// Begins the segment of this number, above all that are there, as the log's end.

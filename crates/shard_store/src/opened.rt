@@ -12,9 +12,9 @@ ghost use Rattle.shard_store.specs.Stores.{IsKeptOn, joined_with};
 ghost use Rattle.shard_store.specs.StoreParts.{IsCountedIn};
 
 use crate::log_step::{append_entry, log_entry, ready_entry};
-use listed_volumes::commit_log::Log;
-use listed_volumes::held_points::HeldPoints;
-use listed_volumes::wire_bytes::{put_fence, put_points, put_tenure};
+use listed_volumes::of_commit_log::Log;
+use listed_volumes::of_held_points::HeldPoints;
+use listed_volumes::of_wire_bytes::{put_fence, put_points, put_tenure};
 use listed_volumes::{ListedVolume, RowCache};
 use m3_model::Point;
 use m3_outside::{Disk, DiskErr};

@@ -10,7 +10,7 @@ ghost use Rattle.shard_store.specs.Openings.{beside_volumes};
 
 use crate::volumes::listed;
 use listed_volumes::ListedVolume;
-use listed_volumes::held_points::{HeldPoints, hold};
+use listed_volumes::of_held_points::{HeldPoints, hold};
 use m3_model::{Memory, Point, Series};
 use shard_open::{Loaded, OpenVolume};
 use std::alloc::Global;

@@ -12,7 +12,7 @@ ghost use Rattle.shard_store.specs.OneSnapshot.{AddsSpace, AreBelow, HasOneSnaps
 ghost use Rattle.shard_store.specs.StoreParts.{IsOpenOn, content_of_opened, IsCountedIn};
 
 use crate::opened::Opened;
-use listed_volumes::held_points::HeldPoints;
+use listed_volumes::of_held_points::HeldPoints;
 use m3_model::limits::{MOST_NAMESPACES, TIME_END};
 use m3_model::{Memory, Point, Seq};
 use m3_outside::{Disk, DiskErr};

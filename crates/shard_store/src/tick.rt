@@ -18,12 +18,12 @@ ghost use Rattle.shard_store.specs.Ticks.{expired_in, has_outlived, is_outlived,
 use crate::fetch::{fetch_held, heads_of, join_both};
 use crate::moments::is_past;
 use crate::opened::Opened;
-use listed_volumes::fileset_read::FileErr;
-use listed_volumes::volume_bytes::Head;
+use listed_volumes::of_fileset_read::FileErr;
+use listed_volumes::of_volume_bytes::Head;
 use listed_volumes::{ListedVolume, read};
 use m3_model::{Pick, Rules, Seq, Series};
 use m3_outside::Disk;
-use snapshot_steps::volume_steps::remove_volumes;
+use snapshot_steps::of_volume_steps::remove_volumes;
 use std::alloc::Global;
 
 // The device calls that the removal of a volume uses up room for.

@@ -7,7 +7,7 @@ ghost use Rattle.shard_open.specs.Loads.{known_of};
 ghost use Rattle.snapshot_steps.specs.volume_steps.KnownLists.{head_cmp, is_one_of, with_volume, without_volumes};
 ghost use Rattle.listed_volumes.specs.Listed.{known_as, known_in};
 
-use listed_volumes::volume_bytes::Head;
+use listed_volumes::of_volume_bytes::Head;
 use listed_volumes::{ListedVolume, list_volume};
 use m3_model::Memory;
 use shard_open::OpenVolume;

@@ -10,10 +10,10 @@ ghost use Rattle.snapshot_files.specs.Snaps.{IsBefore, head_bytes};
 use crate::bytes::FORMAT;
 use crate::order::is_ascending;
 use crate::snap::Snap;
-use fileset_check::fileset_read::RowErr;
-use fileset_check::m3_model::limits::NUMBER_END;
-use fileset_check::m3_model::{Point, Seq, Text};
-use fileset_check::wire_bytes::{WireErr, get_between, get_number, get_point};
+use fileset_check::of_fileset_read::RowErr;
+use fileset_check::of_m3_model::limits::NUMBER_END;
+use fileset_check::of_m3_model::{Point, Seq, Text};
+use fileset_check::of_wire_bytes::{WireErr, get_between, get_number, get_point};
 use std::alloc::Global;
 
 // What stands before the points, and how many bytes that has.

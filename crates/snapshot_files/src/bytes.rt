@@ -4,8 +4,8 @@ ghost use Rattle.fileset_check.specs.wire_bytes.Snapshots.{IsSnapshot, snapshot_
 ghost use Rattle.snapshot_files.specs.Snaps.{head_bytes, seen};
 
 use crate::snap::Snap;
-use fileset_check::m3_model::{Memory, Point, Seq};
-use fileset_check::wire_bytes::{put_number, put_point};
+use fileset_check::of_m3_model::{Memory, Point, Seq};
+use fileset_check::of_wire_bytes::{put_number, put_point};
 use std::alloc::Global;
 
 /// The first byte of a snapshot's data.

@@ -17,10 +17,10 @@ use crate::body::read_body;
 use crate::names::{checkpoint_name, data_name};
 use crate::snap::Snap;
 use fileset_check::CheckErr;
-use fileset_check::fileset_read::{RowErr, read_file};
-use fileset_check::m3_model::Seq;
-use fileset_check::m3_outside::{Disk, DiskErr};
-use fileset_check::wire_bytes::digest;
+use fileset_check::of_fileset_read::{RowErr, read_file};
+use fileset_check::of_m3_model::Seq;
+use fileset_check::of_m3_outside::{Disk, DiskErr};
+use fileset_check::of_wire_bytes::digest;
 use std::alloc::Global;
 
 // An open gate.

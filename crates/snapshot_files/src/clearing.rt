@@ -8,9 +8,9 @@ ghost use Rattle.fileset_check.specs.shard_files.Steps as steps;
 ghost use Rattle.fileset_check.specs.shard_files.Steps.{snapshots_below};
 
 use crate::names::{CHECKPOINT, DATA};
-use fileset_check::m3_model::Memory;
-use fileset_check::m3_outside::take_away::take_away;
-use fileset_check::m3_outside::{Disk, DiskErr, FileName};
+use fileset_check::of_m3_model::Memory;
+use fileset_check::of_m3_outside::take_away::take_away;
+use fileset_check::of_m3_outside::{Disk, DiskErr, FileName};
 use std::alloc::Global;
 
 // Whether it is the name of a file of this kind of a snapshot below this number.

@@ -5,8 +5,8 @@ ghost use Rattle.snapshot_files.specs.Snaps.{seen};
 
 use crate::order::is_ascending;
 use crate::snap::Snap;
-use fileset_check::m3_model::Point;
-use fileset_check::m3_model::limits::{MOST_ID_BYTES, MOST_NAMESPACES, NUMBER_END, TIME_END};
+use fileset_check::of_m3_model::Point;
+use fileset_check::of_m3_model::limits::{MOST_ID_BYTES, MOST_NAMESPACES, NUMBER_END, TIME_END};
 
 // Above all numbers of points that a snapshot may have.
 const COUNT_END: usize = 1 << 32;

@@ -19,6 +19,32 @@ pub use reading::newest;
 pub use saving::save;
 pub use snap::Snap;
 
-// Libraries that the rows of crates above need not name.
-pub use fileset_check;
-pub use fileset_check::{commit_log, fileset_read, m3_outside, shard_files, volume_bytes};
+// Of libraries that the rows of crates above need not name: what these crates name of them.
+/// Of `commit_log`.
+pub mod of_commit_log {
+    pub use fileset_check::of_commit_log::{
+        Log, Segments, cut_before, list_segments, next_after, read_front,
+    };
+}
+/// Of `fileset_check`.
+pub mod of_fileset_check {
+    pub use fileset_check::{CheckErr, Volume, is_volume, volumes};
+}
+/// Of `fileset_read`.
+pub mod of_fileset_read {
+    pub use fileset_check::of_fileset_read::{FileErr, rows};
+}
+/// Of `m3_outside`.
+pub mod of_m3_outside {
+    pub use fileset_check::of_m3_outside::{Disk, DiskErr, FileName};
+}
+/// Of `shard_files`.
+pub mod of_shard_files {
+    pub use fileset_check::of_shard_files::{
+        Amount, EntryErr, LoadErr, LogEntry, join_entries, read_segment,
+    };
+}
+/// Of `volume_bytes`.
+pub mod of_volume_bytes {
+    pub use fileset_check::of_volume_bytes::Head;
+}

@@ -1,7 +1,7 @@
 ghost use Rattle.std.specs.Prelude.{◌≡◌};
 ghost use Rattle.fileset_check.specs.shard_files.Parts as parts;
 
-use fileset_check::m3_outside::FileName;
+use fileset_check::of_m3_outside::FileName;
 
 /// The kinds of a snapshot's two files.
 pub(crate) const DATA: u8 = 8;

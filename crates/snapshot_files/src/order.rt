@@ -2,7 +2,7 @@ ghost use Rattle.std.specs.Prelude.{◌↔◌, IsTrue};
 ghost use Rattle.fileset_check.specs.m3_model.Ascends.{Ascends};
 ghost use Rattle.snapshot_files.specs.Snaps.{IsBefore};
 
-use fileset_check::m3_model::Point;
+use fileset_check::of_m3_model::Point;
 use std::cmp::Ordering;
 
 // Whether the key of the one is below that of the other.

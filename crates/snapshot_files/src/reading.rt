@@ -16,7 +16,7 @@ use crate::check::check_snapshot;
 use crate::names::CHECKPOINT;
 use crate::snap::Snap;
 use fileset_check::CheckErr;
-use fileset_check::m3_outside::{Disk, DiskErr, Failed, FileName};
+use fileset_check::of_m3_outside::{Disk, DiskErr, Failed, FileName};
 use std::alloc::Global;
 
 // An open gate.

@@ -10,8 +10,8 @@ ghost use Rattle.snapshot_files.specs.Snaps.{IsNew, seen};
 use crate::bytes::bytes_of;
 use crate::names::{checkpoint_name, data_name};
 use crate::snap::Snap;
-use fileset_check::m3_outside::{Disk, DiskErr};
-use fileset_check::wire_bytes::digest;
+use fileset_check::of_m3_outside::{Disk, DiskErr};
+use fileset_check::of_wire_bytes::digest;
 use fileset_write::{NewFile, put_all};
 use std::alloc::Global;
 

@@ -1,4 +1,4 @@
-use fileset_check::m3_model::{Point, Seq};
+use fileset_check::of_m3_model::{Point, Seq};
 
 /// A snapshot of a replica.
 #[derive(Drop)]

@@ -12,7 +12,7 @@ ghost use Rattle.volume_steps.specs.Known.{HaveContent};
 ghost use Rattle.snapshot_steps.specs.Saved.{HoldsSaved};
 
 use snapshot_files::clear_before;
-use snapshot_files::m3_outside::{Disk, DiskErr};
+use snapshot_files::of_m3_outside::{Disk, DiskErr};
 use std::alloc::Global;
 
 /// Takes away all snapshots below this number, complete or not, their checkpoints first. The newest that counts isn't one of them.

@@ -12,8 +12,8 @@ ghost use Rattle.snapshot_files.specs.shard_files.Parts.{KnownVolume};
 ghost use Rattle.volume_steps.specs.Known.{HaveContent};
 ghost use Rattle.snapshot_steps.specs.Saved.{HoldsSaved};
 
-use snapshot_files::commit_log::cut_before;
-use snapshot_files::m3_outside::{Disk, DiskErr};
+use snapshot_files::of_commit_log::cut_before;
+use snapshot_files::of_m3_outside::{Disk, DiskErr};
 use std::alloc::Global;
 
 /// Takes away all segments of the log below this number, the lowest first. The newest snapshot has all that is in memory, the

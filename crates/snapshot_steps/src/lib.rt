@@ -16,5 +16,8 @@ pub use saving::save_snapshot;
 pub use segment::begin_segment;
 pub use snapshot::take_snapshot;
 
-// Libraries that the rows of crates above need not name.
-pub use volume_steps;
+// Of libraries that the rows of crates above need not name: what these crates name of them.
+/// Of `volume_steps`.
+pub mod of_volume_steps {
+    pub use volume_steps::{remove_volumes, write_volume};
+}

@@ -16,8 +16,8 @@ ghost use Rattle.volume_steps.specs.Known.{HoldsKnown, HaveContent};
 ghost use Rattle.snapshot_steps.specs.Saved.{AreIn, AreSaveable, HoldsSaved, snapshot_of};
 
 use m3_model::{Point, Seq};
-use snapshot_files::commit_log::next_after;
-use snapshot_files::m3_outside::{Disk, DiskErr, FileName};
+use snapshot_files::of_commit_log::next_after;
+use snapshot_files::of_m3_outside::{Disk, DiskErr, FileName};
 use snapshot_files::{Snap, save};
 use std::alloc::Global;
 

@@ -13,8 +13,8 @@ ghost use Rattle.snapshot_files.specs.shard_files.Parts.{KnownVolume};
 ghost use Rattle.snapshot_files.specs.shard_files.Steps.{next_snapshot};
 ghost use Rattle.volume_steps.specs.Known.{HoldsKnown, HaveContent};
 
-use snapshot_files::commit_log::{Log, list_segments};
-use snapshot_files::m3_outside::{Disk, DiskErr};
+use snapshot_files::of_commit_log::{Log, list_segments};
+use snapshot_files::of_m3_outside::{Disk, DiskErr};
 use std::alloc::Global;
 
 /// Begins a fresh segment as the log's end, and gives its number: one above all that are there.

@@ -18,8 +18,8 @@ use crate::cutting::cut_log;
 use crate::saving::save_snapshot;
 use crate::segment::begin_segment;
 use m3_model::{Point, Seq};
-use snapshot_files::commit_log::Log;
-use snapshot_files::m3_outside::{Disk, DiskErr};
+use snapshot_files::of_commit_log::Log;
+use snapshot_files::of_m3_outside::{Disk, DiskErr};
 use std::alloc::Global;
 
 /// Takes a snapshot of what is in memory, and gives its number, one above those of all snapshots of which a file is there: begins a

@@ -1,7 +1,7 @@
 //! What lines of upkeep leave of the list tells of their turns.
 ghost use Rattle.upkeep_lines.specs.Upkeep.{StatusTells, SweptTells, UpkeepIsDue};
 
-use act_lines::cluster_members::Members;
+use act_lines::of_cluster_members::Members;
 use m3_outside::Disk;
 
 /// The events of a sweep over all replicas of the placement tell of its line, and serve it; and the cluster stands after it.

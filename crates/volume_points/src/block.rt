@@ -21,8 +21,8 @@ ghost use Rattle.volume_points.specs.declared.block_err.BlockErr.TheVariants as 
 use crate::block_err::BlockErr;
 use crate::candidates::may_stand;
 use crate::reading::read;
-use fileset_check::m3_outside::Disk;
-use fileset_check::volume_bytes::Head;
+use fileset_check::of_m3_outside::Disk;
+use fileset_check::of_volume_bytes::Head;
 use m3_model::{Memory, Pick, Seq, Series};
 use series_merge::merge;
 use std::alloc::Global;

@@ -1,5 +1,5 @@
-use fileset_check::fileset_read::FileErr;
-use fileset_check::m3_outside::FileName;
+use fileset_check::of_fileset_read::FileErr;
+use fileset_check::of_m3_outside::FileName;
 use m3_model::Memory;
 use thiserror::Error;
 

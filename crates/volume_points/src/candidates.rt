@@ -10,10 +10,10 @@ ghost use Rattle.fileset_check.specs.fileset_read.declared.file_err.FileErr.TheV
 ghost use Rattle.volume_rows.specs.Seekers.{IsSeekerOf};
 ghost use Rattle.volume_points.specs.Candidates.{AreCandidates, IsOneOf, MayStand, one_or_none};
 
-use fileset_check::fileset_read::{FileErr, rows};
 use fileset_check::is_volume;
-use fileset_check::m3_outside::Disk;
-use fileset_check::volume_bytes::Head;
+use fileset_check::of_fileset_read::{FileErr, rows};
+use fileset_check::of_m3_outside::Disk;
+use fileset_check::of_volume_bytes::Head;
 use m3_model::{Memory, Pick, Seq, Series};
 use std::alloc::Global;
 use volume_rows::{Seeker, row_of, seeker_of};

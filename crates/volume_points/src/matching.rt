@@ -5,7 +5,7 @@ ghost use Rattle.m3_model.specs.declared.point.Series.{Series};
 ghost use Rattle.held_points.specs.Matched.{IsMatched};
 ghost use Rattle.volume_points.specs.Picked.{AreAscending, IsPicked};
 
-use held_points::series_id::has_tag;
+use held_points::of_series_id::has_tag;
 use m3_model::{Matcher, Pick, Seq, Series};
 
 // Whether the matcher holds for the tags of the identifier.

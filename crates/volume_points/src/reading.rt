@@ -21,9 +21,9 @@ ghost use Rattle.volume_points.specs.Picked.{AreAscending, HasNoneIn, IsSelectio
 use crate::candidates::{candidates, may_stand};
 use crate::matching::picked;
 use crate::ranges::cut;
-use fileset_check::fileset_read::FileErr;
-use fileset_check::m3_outside::{Disk, FileName};
-use fileset_check::volume_bytes::Head;
+use fileset_check::of_fileset_read::FileErr;
+use fileset_check::of_m3_outside::{Disk, FileName};
+use fileset_check::of_volume_bytes::Head;
 use m3_model::{Memory, Pick, Seq, Series};
 use series_merge::merge;
 use std::alloc::Global;

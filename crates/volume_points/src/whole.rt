@@ -18,9 +18,9 @@ use crate::candidates::may_stand;
 use crate::matching::is_picked;
 use crate::ranges::{add, is_inside};
 use crate::reading::{data_of, meets, space_of};
-use fileset_check::fileset_read::{FileErr, rows};
-use fileset_check::m3_outside::Disk;
-use fileset_check::volume_bytes::Head;
+use fileset_check::of_fileset_read::{FileErr, rows};
+use fileset_check::of_m3_outside::Disk;
+use fileset_check::of_volume_bytes::Head;
 use m3_model::{Duplicate, Memory, Pick, Seq, Series};
 use std::alloc::Global;
 

@@ -14,9 +14,9 @@ use crate::parts::{INDEX, part_name, read_stretch};
 use crate::seeker::Seeker;
 use fileset_lookup::{Spot, find, may_hold, span};
 use fileset_read::FileErr;
-use fileset_read::m3_outside::Disk;
-use fileset_read::volume_bytes::Head;
-use fileset_read::wire_bytes::WireErr;
+use fileset_read::of_m3_outside::Disk;
+use fileset_read::of_volume_bytes::Head;
+use fileset_read::of_wire_bytes::WireErr;
 use std::alloc::Global;
 
 /// A piece of a file: its offset, and how many bytes it has.

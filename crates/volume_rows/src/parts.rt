@@ -10,9 +10,9 @@ ghost use Rattle.fileset_read.specs.volume_bytes.Heads.{head_of};
 ghost use Rattle.fileset_read.specs.Volumes.{IsUndamaged};
 ghost use Rattle.fileset_read.specs.declared.file_err.FileErr.TheVariants as failures;
 
-use fileset_read::m3_model::Seq;
-use fileset_read::m3_outside::{Disk, DiskErr, FileName};
-use fileset_read::volume_bytes::Head;
+use fileset_read::of_m3_model::Seq;
+use fileset_read::of_m3_outside::{Disk, DiskErr, FileName};
+use fileset_read::of_volume_bytes::Head;
 use fileset_read::{FileErr, read_file};
 use std::alloc::Global;
 

@@ -12,9 +12,9 @@ ghost use Rattle.volume_rows.specs.Stretches.{HasRecord, OfVolume};
 
 use crate::parts::{DATA, part_name, read_stretch};
 use fileset_lookup::Spot;
-use fileset_read::m3_model::Series;
-use fileset_read::m3_outside::{Disk, FileName};
-use fileset_read::volume_bytes::Head;
+use fileset_read::of_m3_model::Series;
+use fileset_read::of_m3_outside::{Disk, FileName};
+use fileset_read::of_volume_bytes::Head;
 use fileset_read::{FileErr, RowErr, rows_in};
 use std::alloc::Global;
 

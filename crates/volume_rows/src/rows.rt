@@ -15,9 +15,9 @@ use crate::parts::{SUMMARIES, part_name};
 use crate::records::read_row;
 use crate::seeker::Seeker;
 use fileset_read::FileErr;
-use fileset_read::m3_model::Series;
-use fileset_read::m3_outside::Disk;
-use fileset_read::volume_bytes::Head;
+use fileset_read::of_m3_model::Series;
+use fileset_read::of_m3_outside::Disk;
+use fileset_read::of_volume_bytes::Head;
 use std::alloc::Global;
 
 /// The series of an identifier in a volume that counts, and none where the volume has none. Where the volume's bloom filter and

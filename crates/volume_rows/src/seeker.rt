@@ -9,9 +9,9 @@ ghost use Rattle.volume_rows.specs.Seekers.{IsSeekerOf};
 
 use crate::parts::{BLOOM, INDEX, SUMMARIES, part_len, part_name, read_part};
 use fileset_read::FileErr;
-use fileset_read::m3_model::Seq;
-use fileset_read::m3_outside::Disk;
-use fileset_read::volume_bytes::Head;
+use fileset_read::of_m3_model::Seq;
+use fileset_read::of_m3_outside::Disk;
+use fileset_read::of_volume_bytes::Head;
 use std::alloc::Global;
 
 /// What a caller keeps of a volume to look identifiers up in it, as long as the volume stays. It has two bytes for each series and
