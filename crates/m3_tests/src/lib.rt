@@ -1,10 +1,6 @@
-//! Tests over several crates: words and lines go through `run`, over a source, a sink and disks in memory, and points through a buffer.
+//! Tests of stories of lines, which go through `run` over a source, a sink and disks in memory.
 #![tactic(auto)]
 
-#[cfg(test)]
-mod buffers;
-#[cfg(test)]
-mod generated;
 #[cfg(test)]
 mod lines;
 #[cfg(test)]
@@ -12,8 +8,4 @@ mod messages;
 #[cfg(test)]
 mod nodes;
 #[cfg(test)]
-mod statuses;
-#[cfg(test)]
 mod stories;
-#[cfg(test)]
-mod words;

@@ -7,3 +7,5 @@ mod damages;
 mod openings;
 #[cfg(test)]
 mod plain_volumes;
+#[cfg(test)]
+mod segments;

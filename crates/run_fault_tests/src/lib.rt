@@ -1,7 +1,5 @@
-//! Tests of runs over lines in memory whose source, sink or disks fail, and of the order in which a run reads and writes.
+//! Tests of runs over lines in memory of whose disks one fails.
 #![tactic(auto)]
 
-#[cfg(test)]
-mod calls;
 #[cfg(test)]
 mod disks;

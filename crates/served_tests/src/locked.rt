@@ -123,7 +123,7 @@ const ROWS: &str =
 0,1,2,3,4|i2 i2 i2 i2 i2>~a0:~a0:~a0:~a0:~a0:|5:--------
 3|i1 nm t100 %ad1 p wmuA100=5 %ad1 wmuM101=6>v1[abc]:ok:ok:~d0:v1[abc]:abc:v2[a-bcd+]:bc:|1:0000----
 7|i2 %ad1 p %ad1>v1[abc][abc]:~d1:v1[abc][abc]:v2[a-bcd+][a-bcd+]:|1:00000000
-4|i1 %ad1 ~d %ad1 p>v1[abc]:v2[a-bcd+]:v3[abc]:v4[a-bcd+]:v4[a-bcd+]:|0:0000----";
+4|i1 %ad1 ~d %ad1 -a p>v1[abc]:v2[a-bcd+]:v3[abc]:order:v4[a-bcd+]:v4[a-bcd+]:|0:0000----";
 
 #[test]
 fn locked_disks_are_told(rt: HostRuntime) -> Result<(), Fail> {

@@ -1,8 +1,6 @@
 //! What a replica answers from one flush, tick and snapshot to the next.
 use m3_model::Memory;
-use mem_disk::MemDisk;
 use replica_stories::stories::first_wrong;
-use replica_stories::{Replica, over, steps};
 use std::alloc::Global;
 use std::test::Fail;
 
@@ -87,43 +85,28 @@ fn snapshots_are_taken(rt: HostRuntime) -> Result<(), Fail> {
     Ok(())
 }
 
-// A put and a snapshot, and what files of the log and of snapshots there are then.
-fn saved(
-    alloc: Global,
-    replica: Replica<MemDisk>,
-    round: u64,
-    out: &mut String,
-) -> Result<Replica<MemDisk>, Memory> {
-    let t = round.saturating_add(950);
-    let words = format!(in alloc; "p0,hello,{t},{round} s c b1")?;
-    out.clear();
-    let (replica, _) = steps(replica, words.as_str(), out)?;
-    Ok(replica)
-}
-
-// Whether that was said of this round.
-fn is_due(alloc: Global, said: &str, round: u64) -> Result<bool, Memory> {
-    let due = format!(in alloc; "|{round}| 1 1 1|1 of {round}|")?;
-    Ok(said == due.as_str())
-}
-
-// The first of 40 rounds of which something else was said, or none.
-fn wrong_round(alloc: Global) -> Result<u64, Memory> {
-    let mut said = String::new(alloc);
-    let disk = MemDisk::new(alloc, &[], None)?;
-    let (mut replica, _) = steps(over(alloc, disk)?, "t1000 b1", &mut said)?;
+// 40 rounds of a put and a snapshot, with what files of the log and of snapshots there are after each.
+fn rounds(alloc: Global) -> Result<String, Memory> {
+    let mut words = String::new(alloc);
+    let mut due = String::new(alloc);
     for round in 1..41u64 {
-        replica = saved(alloc, replica, round, &mut said)?;
-        if !is_due(alloc, said.as_str(), round)? {
-            return Ok(round);
-        }
+        let t = round.saturating_add(950);
+        write!(
+            words,
+            "{}p0,hello,{t},{round} s c b1",
+            if round == 1 { "" } else { " " }
+        )?;
+        write!(due, "|{round}| 1 1 1|1 of {round}|")?;
     }
-    Ok(0)
+    write!(words, " => {due}")?;
+    Ok(words)
 }
 
 // However many are taken, one segment and one snapshot are left, and each number is one higher.
 #[test]
 fn snapshots_bound_the_log(rt: HostRuntime) -> Result<(), Fail> {
-    assert_eq!(rt; wrong_round(rt.alloc())?, 0);
+    let story = rounds(rt.alloc())?;
+    let wrong = first_wrong(rt.alloc(), "b1 t1000", story.as_str())?;
+    assert_eq!(rt; wrong.as_str(), "");
     Ok(())
 }
