@@ -1,52 +1,15 @@
 //! What the words of a story do to a disk.
-use crate::words::{block, file, many, number, part, series, text};
+use crate::tells::{tell, tell_turned};
+use crate::words::{block, many, part, series};
+use disk_stories::{Words, cut, digest_of, drop_file, files, make, number, text};
 use fileset_check::is_volume;
 use fileset_read::read_file;
 use fileset_write::{remove, write};
 use m3_model::{Seq, Series};
 use m3_outside::{Disk, DiskErr, FileName};
+use mem_disk::MemDisk;
 use std::alloc::Global;
 use volume_bytes::Head;
-use wire_bytes::digest;
-
-// Writes the bytes into a file from this offset on, where there is such a range.
-fn write_in<D: Disk>(disk: &mut D, name: FileName, at: u64, bytes: &[u8]) -> Result<bool, DiskErr> {
-    disk.reserve(1)?;
-    let Some(size) = disk.size(name)? else {
-        return Ok(false);
-    };
-    if at > size || bytes.len() as u64 > size - at {
-        return Ok(false);
-    }
-    disk.write_at(name, at, bytes)?;
-    Ok(true)
-}
-
-fn sync<D: Disk>(disk: &mut D, name: FileName) -> Result<bool, DiskErr> {
-    disk.reserve(1)?;
-    let Some(_) = disk.size(name)? else {
-        return Ok(false);
-    };
-    disk.sync(name)?;
-    Ok(true)
-}
-
-/// Writes the bytes into a file from this offset on, where there is such a range, and syncs it.
-pub fn put<D: Disk>(disk: &mut D, name: FileName, at: u64, bytes: &[u8]) -> Result<bool, DiskErr> {
-    if !write_in(disk, name, at, bytes)? {
-        return Ok(false);
-    }
-    sync(disk, name)
-}
-
-// Makes a file of these bytes, where there is none of the name.
-fn make<D: Disk>(disk: &mut D, name: FileName, bytes: &[u8]) -> Result<bool, DiskErr> {
-    if disk.size(name)?.is_some() {
-        return Ok(false);
-    }
-    disk.create(name, bytes.len() as u64)?;
-    put(disk, name, 0, bytes)
-}
 
 // Makes a file of the bytes of another one.
 fn copy_file<D: Disk>(
@@ -56,7 +19,7 @@ fn copy_file<D: Disk>(
     to: FileName,
 ) -> Result<bool, DiskErr> {
     match read_file(alloc, disk, from)? {
-        Some(bytes) => make(disk, to, bytes.as_slice()),
+        Some(bytes) => make(disk, to, bytes.len() as u64, bytes.as_slice()),
         None => Ok(false),
     }
 }
@@ -67,39 +30,6 @@ fn copy<D: Disk>(alloc: Global, disk: &mut D, volume: &str) -> Result<bool, Disk
         copy_file(alloc, disk, part(kind, "2.100.1"), part(kind, volume))?;
     }
     Ok(true)
-}
-
-// Takes a file away, where it is there.
-fn drop_file<D: Disk>(disk: &mut D, name: FileName) -> Result<bool, DiskErr> {
-    disk.reserve(1)?;
-    let Some(_) = disk.size(name)? else {
-        return Ok(false);
-    };
-    disk.remove(name)?;
-    Ok(true)
-}
-
-// The bytes that the hexadecimal digits are, and none where they are no such.
-fn decoded(alloc: Global, digits: &str) -> Result<Vec<u8>, DiskErr> {
-    match hex::decode(alloc, digits) {
-        Ok(bytes) => Ok(bytes),
-        Err(_) => Ok(Vec::new(alloc)),
-    }
-}
-
-// `c4.2.100.1:00ff` makes a file of these bytes.
-fn create<D: Disk>(alloc: Global, disk: &mut D, words: &str) -> Result<bool, DiskErr> {
-    let (name, digits) = words.split_once(':').unwrap_or((words, ""));
-    let bytes = decoded(alloc, digits)?;
-    make(disk, file(name), &bytes)
-}
-
-// `b4.2.100.1:3:ff` writes these bytes over those from the offset on.
-fn overwrite<D: Disk>(alloc: Global, disk: &mut D, words: &str) -> Result<bool, DiskErr> {
-    let (name, rest) = words.split_once(':').unwrap_or((words, ""));
-    let (at, digits) = rest.split_once(':').unwrap_or((rest, ""));
-    let bytes = decoded(alloc, digits)?;
-    put(disk, file(name), number(at), &bytes)
 }
 
 // Writes a volume of these series, where one may have them, and its number into the text.
@@ -125,7 +55,7 @@ fn write_volume<D: Disk>(
     words: &str,
     out: &mut String,
 ) -> Result<bool, DiskErr> {
-    let (head, rest) = words.split_once(':').unwrap_or((words, ""));
+    let (head, rest) = cut(words, ':');
     let rows = series(alloc, rest)?;
     write_rows(alloc, disk, &block(head), &rows, out)
 }
@@ -148,18 +78,6 @@ fn take_away<D: Disk>(disk: &mut D, volume: &str) -> Result<bool, DiskErr> {
     Ok(true)
 }
 
-/// The digest of a file, and that of no bytes where there is no such file.
-pub fn digest_of<D: Disk>(
-    alloc: Global,
-    disk: &mut D,
-    name: FileName,
-) -> Result<[u8; 32], DiskErr> {
-    match read_file(alloc, disk, name)? {
-        Some(bytes) => Ok(digest(bytes.as_slice())),
-        None => Ok(digest(&[])),
-    }
-}
-
 // Makes the file of the digests of a volume anew, from its first five files as they are.
 fn seal_files<D: Disk>(alloc: Global, disk: &mut D, volume: &str) -> Result<bool, DiskErr> {
     let mut all = [0; 160];
@@ -169,7 +87,7 @@ fn seal_files<D: Disk>(alloc: Global, disk: &mut D, volume: &str) -> Result<bool
         all[at..at + 32].copy_from_slice(&digest);
     }
     drop_file(disk, part(6, volume))?;
-    make(disk, part(6, volume), &all)
+    make(disk, part(6, volume), 160, &all)
 }
 
 // Makes its checkpoint anew, from its digests as they are.
@@ -177,7 +95,7 @@ fn seal_digests<D: Disk>(alloc: Global, disk: &mut D, volume: &str) -> Result<bo
     let mut gate = [1; 33];
     gate[1..].copy_from_slice(&digest_of(alloc, disk, part(6, volume))?);
     drop_file(disk, part(7, volume))?;
-    make(disk, part(7, volume), &gate)
+    make(disk, part(7, volume), 33, &gate)
 }
 
 // `s2.100.1` makes both.
@@ -188,29 +106,47 @@ fn seal<D: Disk>(alloc: Global, disk: &mut D, volume: &str) -> Result<bool, Disk
     seal_digests(alloc, disk, volume)
 }
 
-fn restart<D: Disk>(disk: &mut D, pick: &str) -> Result<bool, DiskErr> {
-    disk.restart(number(pick))?;
-    Ok(true)
-}
-
-/// Does what a word says. False where there is no such word, or it can't be done.
-pub fn act<D: Disk>(
-    alloc: Global,
-    disk: &mut D,
-    word: &str,
-    out: &mut String,
-) -> Result<bool, DiskErr> {
+// Does what a word of volumes says, or else of files.
+fn act(alloc: Global, disk: &mut MemDisk, word: &str, out: &mut String) -> Result<bool, DiskErr> {
     match word.as_bytes() {
         [b'w', rest @ ..] => write_volume(alloc, disk, text(rest), out),
         [b'm', rest @ ..] => write_many(alloc, disk, text(rest), out),
         [b'x', rest @ ..] => take_away(disk, text(rest)),
-        [b'c', rest @ ..] => create(alloc, disk, text(rest)),
         [b'y', rest @ ..] => copy(alloc, disk, text(rest)),
-        [b'd', rest @ ..] => drop_file(disk, file(text(rest))),
-        [b'b', rest @ ..] => overwrite(alloc, disk, text(rest)),
         [b's', rest @ ..] => seal(alloc, disk, text(rest)),
         [b'S', rest @ ..] => seal_digests(alloc, disk, text(rest)),
-        [b'p', rest @ ..] => restart(disk, text(rest)),
-        _ => Ok(false),
+        _ => files::say(alloc, disk, word, out),
+    }
+}
+
+/// The words of volumes.
+pub struct Volumes;
+
+impl Words for Volumes {
+    fn say(
+        alloc: Global,
+        disk: &mut MemDisk,
+        word: &str,
+        out: &mut String,
+    ) -> Result<bool, DiskErr> {
+        if tell(alloc, disk, word, out)? {
+            return Ok(true);
+        }
+        act(alloc, disk, word, out)
+    }
+
+    // `2.100.1` are the files of this volume.
+    fn may_change(files: &str, name: FileName) -> bool {
+        1 <= name.kind && name.kind <= 7 && name == part(name.kind, files)
+    }
+
+    fn tell_turned(
+        _alloc: Global,
+        _disk: &mut MemDisk,
+        name: FileName,
+        at: usize,
+        out: &mut String,
+    ) -> Result<(), DiskErr> {
+        tell_turned(name, at, out)
     }
 }

@@ -1,12 +1,8 @@
 //! Damage: bytes that changed, files that are gone, and bytes of no volume that keep to their digests.
-use crate::acts::put;
-use crate::stories::{first_wrong, steps};
-use crate::words::file;
-use fileset_check::{CheckErr, volumes};
-use fileset_read::read_file;
-use m3_outside::{Disk, DiskErr, FileName};
-use mem_disk::MemDisk;
-use std::alloc::Global;
+use crate::acts::Volumes;
+use crate::words::part;
+use disk_stories::stories::first_wrong;
+use disk_stories::turns::{EACH_BIT, first_untold};
 use std::test::Fail;
 
 // Writes a volume of two series.
@@ -45,7 +41,7 @@ w2.100.50:a,100=1 d1.2.100.2 d5.2.100.2 d6.2.100.2 => form of 6.2.100.2 at 0|";
 
 #[test]
 fn damage_is_told(rt: HostRuntime) -> Result<(), Fail> {
-    let wrong = first_wrong(rt.alloc(), TWO, DAMAGES, "e")?;
+    let wrong = first_wrong::<Volumes>(rt.alloc(), TWO, DAMAGES, "e")?;
     assert_eq!(rt; wrong.as_str(), "");
     Ok(())
 }
@@ -104,7 +100,7 @@ b1.2.100.1:17:31 => |form of 4.2.100.1 at 0|";
 
 #[test]
 fn other_bytes_are_told(rt: HostRuntime) -> Result<(), Fail> {
-    let wrong = first_wrong(rt.alloc(), TWO, RESEALED, "s2.100.1 e")?;
+    let wrong = first_wrong::<Volumes>(rt.alloc(), TWO, RESEALED, "s2.100.1 e")?;
     assert_eq!(rt; wrong.as_str(), "");
     Ok(())
 }
@@ -119,110 +115,28 @@ y2.4611686018427387904.1 s2.4611686018427387904.1 => form of 1.2.461168601842738
 
 #[test]
 fn other_names_are_told(rt: HostRuntime) -> Result<(), Fail> {
-    let wrong = first_wrong(rt.alloc(), TWO, NAMES, "e")?;
+    let wrong = first_wrong::<Volumes>(rt.alloc(), TWO, NAMES, "e")?;
     assert_eq!(rt; wrong.as_str(), "");
     Ok(())
 }
 
-// A bit of each byte.
-const BITS: [u8; 8] = [1, 2, 4, 8, 16, 32, 64, 128];
-
-fn byte_at<D: Disk>(
-    alloc: Global,
-    disk: &mut D,
-    name: FileName,
-    at: usize,
-) -> Result<Option<u8>, DiskErr> {
-    match read_file(alloc, disk, name)? {
-        Some(bytes) => Ok(bytes.as_slice().get(at).copied()),
-        None => Ok(None),
-    }
-}
-
-// Turns a bit of the byte at the offset. False where there is none.
-fn turn<D: Disk>(alloc: Global, disk: &mut D, name: FileName, at: usize) -> Result<bool, DiskErr> {
-    let Some(byte) = byte_at(alloc, disk, name, at)? else {
-        return Ok(false);
-    };
-    put(disk, name, at as u64, &[byte ^ BITS[at % 8]])
-}
-
-// Volumes in a letter: of which file a digest differs, `f` where a form does, or how many there are.
-fn letter<D: Disk>(alloc: Global, disk: &mut D) -> Result<char, DiskErr> {
-    match volumes(alloc, disk) {
-        Ok(all) => Ok(if all.as_slice().len() == 0 { '-' } else { 'w' }),
-        Err(CheckErr::Digest { file, .. }) => Ok(char::from(b'0' | (file.kind & 7))),
-        Err(CheckErr::Form { .. }) => Ok('f'),
-        Err(CheckErr::Disk) => Err(DiskErr::Failed),
-        Err(CheckErr::Memory) => Err(DiskErr::Memory),
-    }
-}
-
-// The letter once the bit was turned, of a volume that was there whole.
-fn turned<D: Disk>(
-    alloc: Global,
-    disk: &mut D,
-    name: FileName,
-    at: usize,
-    out: &mut String,
-) -> Result<Option<char>, DiskErr> {
-    steps(alloc, disk, TWO, out)?;
-    out.clear();
-    if !turn(alloc, disk, name, at)? {
-        return Ok(None);
-    }
-    Ok(Some(letter(alloc, disk)?))
-}
-
-fn turned_in_memory(
-    alloc: Global,
-    name: FileName,
-    at: usize,
-    out: &mut String,
-) -> Result<Option<char>, Fail> {
-    let mut disk = MemDisk::new(alloc, &[], None)?;
-    Ok(turned(alloc, &mut disk, name, at, out)?)
-}
-
-// The letters for each byte of the file, each with the first offset of those that have it, and last the number of bytes.
-fn letters(alloc: Global, name: FileName, out: &mut String) -> Result<(), Fail> {
-    let mut last = None;
-    let mut scratch = String::new(alloc);
-    for at in 0..200 {
-        let letter = turned_in_memory(alloc, name, at, &mut scratch)?;
-        if letter != last {
-            write!(out, "{at}{} ", letter.unwrap_or('.'))?;
-            last = letter;
-        }
-        if letter.is_none() {
-            break;
-        }
-    }
-    Ok(())
-}
-
-// Files, and these letters.
-const LETTERS: &str = "1.2.100.1 => 01 38. 
-2.2.100.1 => 02 15. 
-3.2.100.1 => 03 37. 
-4.2.100.1 => 04 69. 
-5.2.100.1 => 05 8. 
-6.2.100.1 => 06 160. 
-7.2.100.1 => 0- 16 33. ";
-
-fn all_letters(alloc: Global) -> Result<String, Fail> {
-    let mut out = String::new(alloc);
-    for (position, row) in LETTERS.lines().enumerate() {
-        let (name, _) = row.split_once(" => ").unwrap_or((row, ""));
-        write!(out, "{}{name} => ", if position == 0 { "" } else { "\n" })?;
-        letters(alloc, file(name), &mut out)?;
-    }
-    Ok(out)
-}
+// The files of the volume, with the lengths that they have.
+const LENGTHS: [(u8, usize); 7] = [
+    (1, 38),
+    (2, 15),
+    (3, 37),
+    (4, 69),
+    (5, 8),
+    (6, 160),
+    (7, 33),
+];
 
 #[test]
-fn each_byte_is_checked(rt: HostRuntime) -> Result<(), Fail> {
-    let told = all_letters(rt.alloc())?;
-    assert_eq!(rt; told.as_str(), LETTERS);
+fn each_bit_is_told(rt: HostRuntime) -> Result<(), Fail> {
+    for (kind, len) in LENGTHS {
+        let name = part(kind, "2.100.1");
+        let untold = first_untold::<Volumes>(rt.alloc(), [TWO, "v"], name, 0..len, &EACH_BIT)?;
+        assert_eq!(rt; untold, None);
+    }
     Ok(())
 }

@@ -11,8 +11,9 @@ ghost use Rattle.volume_bytes.specs.Heads.{head_of};
 ghost use Rattle.fileset_read.specs.Volumes.{IsThere};
 ghost use Rattle.fileset_check.specs.declared.volume.Volume.{Volume as Listed};
 
-use crate::tells::{of_damage, of_file, tell_all, tell_name};
+use crate::tells::{of_damage, of_file, tell_all};
 use crate::words::{block, series};
+use disk_stories::{cut, tell_name};
 use fileset_check::{Volume, is_volume, volumes};
 use fileset_read::FileErr;
 use m3_model::{Matcher, Memory, Pick, Seq, Series, Text};
@@ -106,7 +107,7 @@ pub fn tell_series_found<D: Disk>(
     words: &str,
     out: &mut String,
 ) -> Result<bool, DiskErr> {
-    let (span, id) = words.split_once(':').unwrap_or((words, ""));
+    let (span, id) = cut(words, ':');
     let span = block(span);
     let id = Text::from_str(alloc, id)?;
     tell_read(alloc, disk, &Pick::One { ns: span.ns, id }, &span, out)
@@ -114,7 +115,7 @@ pub fn tell_series_found<D: Disk>(
 
 // The matcher `dc=east` or `dc!=east`.
 fn matcher(alloc: Global, text: &str) -> Result<Matcher, Memory> {
-    let (left, value) = text.split_once('=').unwrap_or((text, ""));
+    let (left, value) = cut(text, '=');
     let name = left.strip_suffix('!').unwrap_or(left);
     Ok(Matcher {
         name: Text::from_str(alloc, name)?,
@@ -140,7 +141,7 @@ pub fn tell_matched<D: Disk>(
     words: &str,
     out: &mut String,
 ) -> Result<bool, DiskErr> {
-    let (span, wanted) = words.split_once(':').unwrap_or((words, ""));
+    let (span, wanted) = cut(words, ':');
     let span = block(span);
     let wanted = matchers(alloc, wanted)?;
     tell_read(
@@ -195,7 +196,7 @@ pub fn tell_rows_joined<D: Disk>(
     words: &str,
     out: &mut String,
 ) -> Result<bool, DiskErr> {
-    let (head, rest) = words.split_once(':').unwrap_or((words, ""));
+    let (head, rest) = cut(words, ':');
     let held = series(alloc, rest)?;
     match volumes(alloc, disk) {
         Ok(all) => tell_block(alloc, disk, all.as_slice(), &block(head), held, out),
@@ -247,7 +248,7 @@ pub fn tell_both<D: Disk>(
     words: &str,
     out: &mut String,
 ) -> Result<bool, DiskErr> {
-    let (head, rest) = words.split_once(':').unwrap_or((words, ""));
+    let (head, rest) = cut(words, ':');
     let held = series(alloc, rest)?;
     match volumes(alloc, disk) {
         Ok(all) => tell_join(alloc, disk, all.as_slice(), &block(head), held, out),

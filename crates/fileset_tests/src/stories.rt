@@ -1,87 +1,7 @@
 //! Stories of words on one disk in memory: volumes written, read, numbered and taken away.
-use crate::acts::act;
-use crate::tells::tell;
-use m3_outside::{Disk, DiskErr};
-use mem_disk::MemDisk;
-use std::alloc::Global;
+use crate::acts::Volumes;
+use disk_stories::stories::first_wrong;
 use std::test::Fail;
-
-// What a word gives, of what it does or else of what it tells.
-fn step<D: Disk>(
-    alloc: Global,
-    disk: &mut D,
-    word: &str,
-    out: &mut String,
-) -> Result<bool, DiskErr> {
-    if act(alloc, disk, word, out)? {
-        return Ok(true);
-    }
-    tell(alloc, disk, word, out)
-}
-
-// What the answer of a step is written as.
-fn mark(answer: Result<bool, DiskErr>) -> &'static str {
-    match answer {
-        Ok(true) => "|",
-        Ok(false) => "no|",
-        Err(DiskErr::Failed) => "fault|",
-        Err(DiskErr::Memory) => "memory|",
-    }
-}
-
-/// What each of the words gives, until one fails. Says whether none did.
-pub fn steps<D: Disk>(
-    alloc: Global,
-    disk: &mut D,
-    words: &str,
-    out: &mut String,
-) -> Result<bool, DiskErr> {
-    for word in words.split(' ') {
-        let answer = step(alloc, disk, word, out);
-        out.push_str(mark(answer))?;
-        if answer.is_err() {
-            return Ok(false);
-        }
-    }
-    Ok(true)
-}
-
-// What the words of a row give on the disk, once others were said; or what others behind them give, where there are such.
-fn say_all<D: Disk>(
-    alloc: Global,
-    disk: &mut D,
-    all: [&str; 3],
-    out: &mut String,
-) -> Result<(), DiskErr> {
-    for words in all {
-        if !words.is_empty() {
-            out.clear();
-            steps(alloc, disk, words, out)?;
-        }
-    }
-    Ok(())
-}
-
-fn told(alloc: Global, all: [&str; 3], out: &mut String) -> Result<(), Fail> {
-    let mut disk = MemDisk::new(alloc, &[], None)?;
-    Ok(say_all(alloc, &mut disk, all, out)?)
-}
-
-/// The first of these rows that doesn't give what it wants, and what it gave; nothing where there is none. What is wanted stands
-/// behind ` => `. Other words come before those of each row, and others behind them, which tell.
-pub fn first_wrong(alloc: Global, before: &str, rows: &str, last: &str) -> Result<String, Fail> {
-    let mut out = String::new(alloc);
-    for row in rows.lines() {
-        let (words, wanted) = row.split_once(" => ").unwrap_or((row, ""));
-        told(alloc, [before, words, last], &mut out)?;
-        if out.as_str() != wanted {
-            write!(out, " of {words}")?;
-            return Ok(out);
-        }
-    }
-    out.clear();
-    Ok(out)
-}
 
 // The files of volumes with one series and with two.
 const BYTES: &str =
@@ -101,7 +21,7 @@ w2.100.50:hello,100=5,120=-3;zulu,149=-9223372036854775808 g7.2.100.1 => 1|01700
 
 #[test]
 fn volumes_are_spelled_so(rt: HostRuntime) -> Result<(), Fail> {
-    let wrong = first_wrong(rt.alloc(), "", BYTES, "")?;
+    let wrong = first_wrong::<Volumes>(rt.alloc(), "", BYTES, "")?;
     assert_eq!(rt; wrong.as_str(), "");
     Ok(())
 }
@@ -118,7 +38,7 @@ m33 g2.0.1000.1 => 1|00037330300000000000000000000373313600000000000001100003733
 
 #[test]
 fn many_series_are_spelled_so(rt: HostRuntime) -> Result<(), Fail> {
-    let wrong = first_wrong(rt.alloc(), "", MANY, "")?;
+    let wrong = first_wrong::<Volumes>(rt.alloc(), "", MANY, "")?;
     assert_eq!(rt; wrong.as_str(), "");
     Ok(())
 }
@@ -138,7 +58,7 @@ v n l => |||"#;
 
 #[test]
 fn volumes_are_read(rt: HostRuntime) -> Result<(), Fail> {
-    let wrong = first_wrong(rt.alloc(), "", READ, "")?;
+    let wrong = first_wrong::<Volumes>(rt.alloc(), "", READ, "")?;
     assert_eq!(rt; wrong.as_str(), "");
     Ok(())
 }
@@ -159,7 +79,7 @@ w2.4611686018427387903.2:a,4611686018427387904=1 => no|";
 
 #[test]
 fn other_series_are_refused(rt: HostRuntime) -> Result<(), Fail> {
-    let wrong = first_wrong(rt.alloc(), "", REFUSED, "")?;
+    let wrong = first_wrong::<Volumes>(rt.alloc(), "", REFUSED, "")?;
     assert_eq!(rt; wrong.as_str(), "");
     Ok(())
 }
@@ -179,7 +99,7 @@ c2.2.100.3:00 c5.2.100.3:00 c1.2.100.4:00 x2.100.3 x2.100.9 l => ||||| 1.2.100.4
 
 #[test]
 fn numbers_go_on(rt: HostRuntime) -> Result<(), Fail> {
-    let wrong = first_wrong(rt.alloc(), "", NUMBERS, "")?;
+    let wrong = first_wrong::<Volumes>(rt.alloc(), "", NUMBERS, "")?;
     assert_eq!(rt; wrong.as_str(), "");
     Ok(())
 }
@@ -208,7 +128,7 @@ a1.0.1000: => (a 100=99)|";
 
 #[test]
 fn points_of_volumes_are_found(rt: HostRuntime) -> Result<(), Fail> {
-    let wrong = first_wrong(rt.alloc(), VOLUMES, FOUND, "")?;
+    let wrong = first_wrong::<Volumes>(rt.alloc(), VOLUMES, FOUND, "")?;
     assert_eq!(rt; wrong.as_str(), "");
     Ok(())
 }
@@ -227,7 +147,7 @@ f2.0.1000:{dc="east"} => ({dc="east"} 100=1 110=5)|"#;
 
 #[test]
 fn points_of_volumes_are_matched(rt: HostRuntime) -> Result<(), Fail> {
-    let wrong = first_wrong(rt.alloc(), TAGGED, MATCHED, "")?;
+    let wrong = first_wrong::<Volumes>(rt.alloc(), TAGGED, MATCHED, "")?;
     assert_eq!(rt; wrong.as_str(), "");
     Ok(())
 }
@@ -246,7 +166,7 @@ o3.100.50:a,100=9 => (a 100=9)|";
 
 #[test]
 fn points_of_volumes_are_joined(rt: HostRuntime) -> Result<(), Fail> {
-    let wrong = first_wrong(rt.alloc(), VOLUMES, JOINED, "")?;
+    let wrong = first_wrong::<Volumes>(rt.alloc(), VOLUMES, JOINED, "")?;
     assert_eq!(rt; wrong.as_str(), "");
     Ok(())
 }

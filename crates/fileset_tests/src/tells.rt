@@ -7,25 +7,14 @@ ghost use Rattle.fileset_read.specs.Volumes.{IsThere};
 ghost use Rattle.fileset_check.specs.declared.volume.Volume.{Volume as Listed};
 
 use crate::joins::{tell_both, tell_matched, tell_rows_joined, tell_series_found};
-use crate::words::{file, number, part, text};
+use crate::words::part;
+use disk_stories::{number, tell_bytes, tell_name, text};
 use fileset_check::{CheckErr, Volume, volumes};
 use fileset_read::{FileErr, counted, read_file, row, rows};
 use m3_model::{Memory, Series};
 use m3_outside::{Disk, DiskErr, FileName};
 use std::alloc::Global;
 use wire_bytes::digest;
-
-/// A file, as ` 4.2.100.1`.
-pub fn tell_name(name: FileName, out: &mut String) -> Result<(), Memory> {
-    let FileName {
-        kind,
-        ns,
-        block,
-        number,
-    } = name;
-    write!(out, " {kind}.{ns}.{block}.{number}")?;
-    Ok(())
-}
 
 // A series with its times and values.
 fn tell_series(one: &Series, out: &mut String) -> Result<(), Memory> {
@@ -163,14 +152,6 @@ pub fn of_damage(alloc: Global, e: CheckErr, full: bool, out: &mut String) -> Re
     }
 }
 
-// The bytes as hexadecimal digits, behind these words.
-fn tell_bytes(alloc: Global, before: &str, bytes: &[u8], out: &mut String) -> Result<(), DiskErr> {
-    out.push_str(before)?;
-    let digits = hex::encode(alloc, bytes)?;
-    out.push_str(digits.as_str())?;
-    Ok(())
-}
-
 // `v` tells all volumes with their series, `r:id` with one of them.
 fn tell_disk<D: Disk>(
     alloc: Global,
@@ -224,13 +205,6 @@ fn tell_counted<D: Disk>(alloc: Global, disk: &mut D, out: &mut String) -> Resul
     Ok(())
 }
 
-// `l` tells all files.
-fn tell_files<D: Disk>(disk: &mut D, out: &mut String) -> Result<(), DiskErr> {
-    let names = disk.list()?;
-    tell_names(names.as_slice(), out)?;
-    Ok(())
-}
-
 // `q2.100.1` tells the kinds of the files of a volume that are there.
 fn tell_kinds<D: Disk>(disk: &mut D, volume: &str, out: &mut String) -> Result<(), DiskErr> {
     for kind in 1..8u8 {
@@ -241,17 +215,15 @@ fn tell_kinds<D: Disk>(disk: &mut D, volume: &str, out: &mut String) -> Result<(
     Ok(())
 }
 
-// `g1.2.100.1` tells the bytes of a file.
-fn tell_file<D: Disk>(
-    alloc: Global,
-    disk: &mut D,
-    name: FileName,
-    out: &mut String,
-) -> Result<(), DiskErr> {
-    match read_file(alloc, disk, name)? {
-        Some(bytes) => tell_bytes(alloc, "", bytes.as_slice(), out),
-        None => Ok(out.push('-')?),
+/// What `v` tells once bits of the byte at this position of a file of a volume have been turned: the file's digest is another one, or, behind the gate, that
+/// of the digests. A volume whose gate has another first byte doesn't count.
+pub fn tell_turned(name: FileName, at: usize, out: &mut String) -> Result<(), DiskErr> {
+    if name.kind == 7 && at == 0 {
+        return Ok(());
     }
+    out.push_str("digest of")?;
+    let kind = name.kind.min(6);
+    Ok(tell_name(FileName { kind, ..name }, out)?)
 }
 
 // The length of a file, and the beginning of its digest.
@@ -294,9 +266,7 @@ pub fn tell<D: Disk>(
         [b'r', id @ ..] => tell_disk(alloc, disk, Some(text(id)), false, out)?,
         [b'k', rest @ ..] => tell_whether(alloc, disk, number(text(rest)), out)?,
         [b'n'] => tell_counted(alloc, disk, out)?,
-        [b'l'] => tell_files(disk, out)?,
         [b'q', rest @ ..] => tell_kinds(disk, text(rest), out)?,
-        [b'g', rest @ ..] => tell_file(alloc, disk, file(text(rest)), out)?,
         [b'h', rest @ ..] => tell_digests(alloc, disk, text(rest), out)?,
         [b'f', rest @ ..] => return tell_series_found(alloc, disk, text(rest), out),
         [b'a', rest @ ..] => return tell_matched(alloc, disk, text(rest), out),

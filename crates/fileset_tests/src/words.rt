@@ -1,27 +1,14 @@
-//! What the words of a story name: numbers, files, volumes and series.
+//! What the words of a story name: volumes, blocks and series.
+use disk_stories::{cut, number, small};
 use m3_model::{Memory, Seq, Series, Text};
 use m3_outside::FileName;
 use std::alloc::Global;
 use volume_bytes::Head;
 
-/// The text that the bytes are, and the empty one where they are none.
-pub fn text(bytes: &[u8]) -> &str {
-    str::from_utf8(bytes).unwrap_or("")
-}
-
-/// A number; 0 where the text is none.
-pub fn number(text: &str) -> u64 {
-    text.parse::<u64>().unwrap_or(0)
-}
-
-fn small(text: &str) -> u8 {
-    text.parse::<u8>().unwrap_or(0)
-}
-
 /// The file of this kind of the volume `2.100.1`: its namespace, its start and its number.
 pub fn part(kind: u8, text: &str) -> FileName {
-    let (ns, rest) = text.split_once('.').unwrap_or((text, ""));
-    let (block, last) = rest.split_once('.').unwrap_or((rest, ""));
+    let (ns, rest) = cut(text, '.');
+    let (block, last) = cut(rest, '.');
     FileName {
         kind,
         ns: small(ns),
@@ -30,16 +17,10 @@ pub fn part(kind: u8, text: &str) -> FileName {
     }
 }
 
-/// The file `4.2.100.1`: its kind, and what a volume is named by.
-pub fn file(text: &str) -> FileName {
-    let (kind, rest) = text.split_once('.').unwrap_or((text, ""));
-    part(small(kind), rest)
-}
-
 /// The block `2.100.50`: its namespace, its start and its size.
 pub fn block(text: &str) -> Head {
-    let (ns, rest) = text.split_once('.').unwrap_or((text, ""));
-    let (start, size) = rest.split_once('.').unwrap_or((rest, ""));
+    let (ns, rest) = cut(text, '.');
+    let (start, size) = cut(rest, '.');
     Head {
         ns: small(ns),
         start: number(start),
@@ -60,7 +41,7 @@ fn pairs(alloc: Global, text: &str) -> Result<Vec<(u64, i64)>, Memory> {
 
 // A series with its times and values, as `hello,100=5,120=-3`.
 fn one(alloc: Global, text: &str) -> Result<Series, Memory> {
-    let (id, rest) = text.split_once(',').unwrap_or((text, ""));
+    let (id, rest) = cut(text, ',');
     let points = Seq::from_vec(pairs(alloc, rest)?);
     Ok(Series {
         id: Text::from_str(alloc, id)?,

@@ -8,16 +8,8 @@ mod entries;
 #[cfg(test)]
 mod fates;
 #[cfg(test)]
-mod identifiers;
-#[cfg(test)]
-mod indexes;
-#[cfg(test)]
 mod levels;
-#[cfg(test)]
-mod matches;
 #[cfg(test)]
 mod merges;
 #[cfg(test)]
 mod replicas;
-#[cfg(test)]
-mod tags;
