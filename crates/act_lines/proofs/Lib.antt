@@ -24,6 +24,7 @@ pub use Rattle.call_lines.proofs.told_by_proofs as told_by_proofs
 pub use Rattle.call_lines.proofs.told_causes_proofs as told_causes_proofs
 pub use Rattle.call_lines.proofs.told_moves_proofs as told_moves_proofs
 pub use Rattle.call_lines.proofs.told_runs_proofs as told_runs_proofs
+pub use Rattle.cluster_core.proofs as cluster_core_proofs
 pub use Rattle.first_cluster.proofs as first_cluster_proofs
 pub use Rattle.node_calls.proofs as node_calls_proofs
 pub use Rattle.node_calls.proofs.cluster_members_proofs as cluster_members_proofs

@@ -12,6 +12,7 @@ pub use Rattle.call_lines.specs.told_by as told_by
 pub use Rattle.call_lines.specs.told_causes as told_causes
 pub use Rattle.call_lines.specs.told_moves as told_moves
 pub use Rattle.call_lines.specs.told_runs as told_runs
+pub use Rattle.cluster_core.specs as cluster_core
 pub use Rattle.first_cluster.specs as first_cluster
 pub use Rattle.node_calls.specs as node_calls
 pub use Rattle.node_calls.specs.cluster_members as cluster_members

@@ -21,9 +21,15 @@ pub use settings::{
 pub mod of_cluster_members {
     pub use node_calls::of_cluster_members::{Members, Range};
 }
+/// Of `event_trail`.
+pub mod of_event_trail {
+    pub use node_calls::of_event_trail::Trail;
+}
 /// Of `first_cluster`.
 pub mod of_first_cluster {
-    pub use first_cluster::{first_members, give_all};
+    pub use first_cluster::{
+        Lent, begin_first, first_members, give_all, give_back, lend_first, plan_first,
+    };
 }
 /// Of `node_calls`.
 pub mod of_node_calls {
@@ -35,7 +41,7 @@ pub mod of_replica_calls {
 }
 /// Of `replica_exchange`.
 pub mod of_replica_exchange {
-    pub use node_calls::of_replica_exchange::CallId;
+    pub use node_calls::of_replica_exchange::{CallId, Slot};
 }
 /// Of `session_net`.
 pub mod of_session_net {

@@ -1,5 +1,6 @@
 pub mod ClockLemmas
 pub mod NameLemmas
+pub mod PlanLemmas
 pub mod SpaceLemmas
 pub mod ExchangeLemmas
 pub mod WentLemmas

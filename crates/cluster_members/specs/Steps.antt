@@ -1,8 +1,9 @@
 -- What a cluster that stands answers of namespaces and of the moment, and what that leaves of it.
 use Rattle.std.specs.Prelude.{◌≡◌, ℕ, ◌≤◌, ◌<◌, List, [], ◌∷◌, ◌++◌, length, None, IsSome}
+use Rattle.std.specs.List.{All}
 use Rattle.m3_outside.specs.DiskState.{DiskState}
 use Rattle.m3_outside.specs.declared.disk.Disk.{Ghosts}
-use Rattle.m3_model.specs.declared.limits.TheConstants.{MOST_NAMESPACES}
+use Rattle.m3_model.specs.declared.limits.TheConstants.{MOST_NAMESPACES, TIME_END}
 use Rattle.m3_model.specs.Rules.{namespace_position}
 use Rattle.m3_model.specs.declared.answer.Answer.{Answer}
 use Rattle.m3_model.specs.declared.answer.Answer.TheVariants as answer
@@ -13,6 +14,7 @@ use Rattle.session_writes.specs.cluster_core.declared.event.Event.{Event}
 use Rattle.session_writes.specs.cluster_core.declared.event.Event.TheVariants as event
 use Rattle.session_writes.specs.replica_exchange.MachineCalls.{HasRoom}
 use Rattle.session_writes.specs.session_net.Runs.{Ran}
+use Rattle.session_writes.specs.cluster_core.Legal.{IsNextClock}
 use Rattle.cluster_members.specs.declared.members.Members.{Members}
 
 abbrev pub spaces_in : {D : Type 0} {G : Ghosts D} → Members D G → List Space
@@ -36,6 +38,14 @@ pub record SetsRules {D : Type 0} {G : Ghosts D} (state : D → DiskState) (rule
 abbrev pub LacksRoom : {D : Type 0} {G : Ghosts D} → Members D G → Members D G → Type 0
 LacksRoom old new = (new ≡ old) × ¬ HasRoom 2 old.net.replicas.events
 
+-- a Clock of the rules may come, for which the list has room; and the rules are within the limits
+pub record MaySetRules {D : Type 0} {G : Ghosts D} (m : Members D G) (rules : Rules) : Type 0 where
+  pub next : IsNextClock m.net.replicas.events rules
+  pub room : HasRoom 2 m.net.replicas.events
+  pub few : length rules.spaces ≤ MOST_NAMESPACES
+  pub sizes : All (λ (space : Space). 0 < space.block) rules.spaces
+  pub moment : rules.now < TIME_END
+
 -- ---- namespaces
 
 -- one more namespace, the others as they are
@@ -56,6 +66,20 @@ IsSpaceAdded state old space answer.Memory new = MayName (spaces_in old) space �
 IsSpaceAdded state old space answer.Full new = MayName (spaces_in old) space × LacksRoom old new
 IsSpaceAdded state old space _ new = ⊥
 
+-- the rules with it may be set
+pub record IsSpacePlanned {D : Type 0} {G : Ghosts D} (m : Members D G) (space : Space) (rules : Rules) : Type 0 where
+  pub may_name : MayName (spaces_in m) space
+  pub rules_are : rules ≡ with_space space m.net.state.rules
+  pub may_set : MaySetRules m rules
+
+-- it is refused so, before anything changes
+abbrev pub RefusesSpace : {D : Type 0} {G : Ghosts D} → Members D G → Space → Answer → Type 0
+RefusesSpace m space answer.Order = IsSome (namespace_position space.name (spaces_in m))
+RefusesSpace m space (answer.Limit limit) = (namespace_position space.name (spaces_in m) ≡ None) × (MOST_NAMESPACES ≤ length (spaces_in m)) × (limit ≡ MOST_NAMESPACES)
+RefusesSpace m space answer.Memory = MayName (spaces_in m) space
+RefusesSpace m space answer.Full = MayName (spaces_in m) space × ¬ HasRoom 2 m.net.replicas.events
+RefusesSpace m space _ = ⊥
+
 -- ---- the moment
 
 -- the same namespaces at another moment
@@ -69,3 +93,16 @@ IsMoved state old now (answer.Clock moment) new = (now < old.net.state.rules.now
 IsMoved state old now answer.Memory new = (old.net.state.rules.now ≤ now) × (new ≡ old)
 IsMoved state old now answer.Full new = (old.net.state.rules.now ≤ now) × LacksRoom old new
 IsMoved state old now _ new = ⊥
+
+-- the rules at it may be set
+pub record IsMovePlanned {D : Type 0} {G : Ghosts D} (m : Members D G) (now : ℕ) (rules : Rules) : Type 0 where
+  pub not_lower : m.net.state.rules.now ≤ now
+  pub rules_are : rules ≡ at_moment now m.net.state.rules
+  pub may_set : MaySetRules m rules
+
+-- it is refused so, before anything changes
+abbrev pub RefusesMove : {D : Type 0} {G : Ghosts D} → Members D G → ℕ → Answer → Type 0
+RefusesMove m now (answer.Clock moment) = (now < m.net.state.rules.now) × (moment ≡ m.net.state.rules.now)
+RefusesMove m now answer.Memory = m.net.state.rules.now ≤ now
+RefusesMove m now answer.Full = (m.net.state.rules.now ≤ now) × ¬ HasRoom 2 m.net.replicas.events
+RefusesMove m now _ = ⊥

@@ -1,11 +1,8 @@
 //! The namespaces and the moment of a cluster that stands.
-ghost use Rattle.std.specs.Prelude.{◌≡◌, ◌≤◌, ◌<◌, ◌++◌, ◌∷◌, [], length, IfOk};
-ghost use Rattle.std.specs.List.{All};
-ghost use Rattle.m3_model.specs.declared.limits.TheConstants.{MOST_NAMESPACES, TIME_END};
-ghost use Rattle.session_writes.specs.cluster_core.Legal.{IsNextClock};
-ghost use Rattle.session_writes.specs.replica_exchange.MachineCalls.{HasRoom};
+ghost use Rattle.std.specs.Prelude.{◌≡◌, ◌<◌, IfOk, IfErr};
+ghost use Rattle.m3_model.specs.declared.limits.TheConstants.{TIME_END};
 ghost use Rattle.session_writes.specs.session_net.Ready.{IsReady};
-ghost use Rattle.cluster_members.specs.Steps.{IsMoved, IsSpaceAdded, SetsRules, at_moment, with_space};
+ghost use Rattle.cluster_members.specs.Steps.{IsMoved, IsSpaceAdded, SetsRules, at_moment, with_space, IsMovePlanned, IsSpacePlanned, MaySetRules, RefusesMove, RefusesSpace};
 
 use crate::clock::tick;
 use crate::members::Members;
@@ -39,14 +36,63 @@ fn at_moment(alloc: Global, rules: &Rules, now: u64) -> Result<Rules, Memory>
 }
 
 impl<D: Disk> Members<D> {
-    // Sets the rules, by a Clock for which the list has room.
-    fn set_rules(&mut self, rules: Rules)
+    /// The rules with one more namespace, whose blocks have at least the size 1: a Clock of them may come. Nothing changes.
+    ///
+    /// # Errors
+    ///
+    /// The answer, as `name_space` gives it.
+    pub fn plan_space(&self, alloc: Global, space: Space) -> Result<Rules, Answer>
+        requires sized { 0 < space.block }
+        requires ready { IsReady self.now.net.state self.now.net.replicas self.now.net.bag }
+        ensures planned { IfOk result (IsSpacePlanned self.now space) }
+        ensures refused { IfErr result (RefusesSpace self.now space) }
+    {
+        let spaces = self.net.state.rules.spaces.as_slice();
+        if namespace_position(spaces, space.name.as_str()).is_some() {
+            return Err(Answer::Order);
+        }
+        if spaces.len() >= MOST_NAMESPACES {
+            return Err(Answer::Limit {
+                limit: MOST_NAMESPACES as u64,
+            });
+        }
+        if !self.net.replicas.has_room(EVENTS) {
+            return Err(Answer::Full);
+        }
+        match with_space(alloc, &self.net.state.rules, space) {
+            Ok(rules) => Ok(rules),
+            Err(_) => Err(Answer::Memory),
+        }
+    }
+
+    /// The rules at this moment: a Clock of them may come. Nothing changes.
+    ///
+    /// # Errors
+    ///
+    /// The answer, as `set_moment` gives it.
+    pub fn plan_moment(&self, alloc: Global, now: u64) -> Result<Rules, Answer>
+        requires time { now < TIME_END }
+        requires ready { IsReady self.now.net.state self.now.net.replicas self.now.net.bag }
+        ensures planned { IfOk result (IsMovePlanned self.now now) }
+        ensures refused { IfErr result (RefusesMove self.now now) }
+    {
+        let moment = self.net.state.rules.now;
+        if now < moment {
+            return Err(Answer::Clock { now: moment });
+        }
+        if !self.net.replicas.has_room(EVENTS) {
+            return Err(Answer::Full);
+        }
+        match at_moment(alloc, &self.net.state.rules, now) {
+            Ok(rules) => Ok(rules),
+            Err(_) => Err(Answer::Memory),
+        }
+    }
+
+    /// Sets the rules, which were planned, by a Clock of the list. Takes no memory.
+    pub fn set_rules(&mut self, rules: Rules)
         requires ready { IsReady self.old.net.state self.old.net.replicas self.old.net.bag }
-        requires next { IsNextClock self.old.net.replicas.events rules }
-        requires room { HasRoom 2 self.old.net.replicas.events }
-        requires few { length rules.spaces ≤ MOST_NAMESPACES }
-        requires sizes { All (λ space. 0 < space.block) rules.spaces }
-        requires moment { rules.now < TIME_END }
+        requires may { MaySetRules self.old rules }
         ensures ready { IsReady self.new.net.state self.new.net.replicas self.new.net.bag }
         ensures sets { SetsRules D.state rules self.old self.new }
     {
@@ -64,23 +110,13 @@ impl<D: Disk> Members<D> {
         ensures past { self.new.past.items ≡ self.old.past.items }
         ensures named { IsSpaceAdded D.state self.old space result self.new }
     {
-        let spaces = self.net.state.rules.spaces.as_slice();
-        if namespace_position(spaces, space.name.as_str()).is_some() {
-            return Answer::Order;
+        match self.plan_space(alloc, space) {
+            Ok(rules) => {
+                self.set_rules(rules);
+                Answer::Done
+            }
+            Err(refused) => refused,
         }
-        if spaces.len() >= MOST_NAMESPACES {
-            return Answer::Limit {
-                limit: MOST_NAMESPACES as u64,
-            };
-        }
-        if !self.net.replicas.has_room(EVENTS) {
-            return Answer::Full;
-        }
-        let Ok(rules) = with_space(alloc, &self.net.state.rules, space) else {
-            return Answer::Memory;
-        };
-        self.set_rules(rules);
-        Answer::Done
     }
 
     /// Moves the moment on, by a Clock of the list. `Clock` says that it would fall; then `Full` that the list has no room,
@@ -92,17 +128,12 @@ impl<D: Disk> Members<D> {
         ensures past { self.new.past.items ≡ self.old.past.items }
         ensures moved { IsMoved D.state self.old now result self.new }
     {
-        let moment = self.net.state.rules.now;
-        if now < moment {
-            return Answer::Clock { now: moment };
+        match self.plan_moment(alloc, now) {
+            Ok(rules) => {
+                self.set_rules(rules);
+                Answer::Done
+            }
+            Err(refused) => refused,
         }
-        if !self.net.replicas.has_room(EVENTS) {
-            return Answer::Full;
-        }
-        let Ok(rules) = at_moment(alloc, &self.net.state.rules, now) else {
-            return Answer::Memory;
-        };
-        self.set_rules(rules);
-        Answer::Done
     }
 }

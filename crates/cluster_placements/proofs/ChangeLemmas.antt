@@ -38,16 +38,19 @@ use Rattle.node_calls.specs.session_net.Ready.{IsCallable, IsReady, Places}
 use Rattle.node_calls.specs.session_net.Runs.{Ran, slot_at, steps_of}
 use Rattle.node_calls.proofs.session_net_proofs.ReadyLemmas.{room_after}
 use Rattle.node_calls.specs.cluster_members.declared.members.Members.{Members}
+use Rattle.cluster_core.specs.declared.event.Event.{Event}
+use Rattle.event_book.specs.Lists.{most_entries}
 use Rattle.node_calls.specs.Halts.{AreManned}
 use Rattle.first_cluster.specs.Depots.{AreOut}
 use Rattle.first_cluster.specs.First.{IsDiskAnswer}
 use Rattle.first_cluster.specs.Lending.{IsFree}
 use Rattle.first_cluster.specs.Slots.{AreApart, slots_of}
 use Rattle.first_cluster.proofs.FirstLemmas.{node_slot}
+use Rattle.first_cluster.proofs.PlacedSlots.{no_meta}
 use Rattle.first_cluster.proofs.SlotLists.{in_or_out, slot_instance, slot_replica}
 use Rattle.cluster_placements.specs.Lending.{HaveGained, HaveReturned, IsUntakenAt}
 use Rattle.cluster_placements.specs.Slots.{AreSlotsIn, left_slots, new_slots}
-use Rattle.cluster_placements.specs.Steps.{FitsNext, IsAsItWas, IsChange, IsChanged, IsMade, MakesNext, MayBeMade, MayChange, kept_in, place_events, step_events, step_length}
+use Rattle.cluster_placements.specs.Steps.{FitsNext, IsAsItWas, IsChange, IsChanged, IsMade, IsPlaced, MakesNext, MakesPlanned, MayBeMade, MayChange, kept_in, place_events, step_events, step_length}
 use Rattle.cluster_placements.specs.declared.plan.Change.{Change}
 use Rattle.cluster_placements.proofs.HasLemmas.{any_in}
 use Rattle.cluster_placements.proofs.HeldLemmas.{manned_then, out_still, out_then, unstepped_then}
@@ -86,8 +89,12 @@ module _ {D : Type 0} {G : Ghosts D} (m : Members D G) (held : DiskSlot → Held
   none_at : (s : Slot) → IsIn new s → get m.net.replicas.members s ≡ None
   none_at s i = new_free m.net.replicas.members next s (subst (λ slots. IsIn slots s) is i)
 
-  pub free_slots : (s : Slot) → IsIn new s → IsFree held m.net.replicas.members s
-  free_slots s i = record { not_out = may.out.there s (none_at s i); no_member = none_at s i }
+  pub free_slots : IsLawful next → (s : Slot) → IsIn new s → IsFree held m.net.replicas.members s
+  free_slots lawful s i =
+      let one = slot_instance next lawful s (new_placed m.net.replicas.members next s (subst (λ slots. IsIn slots s) is i)) in
+      let low = at_within next.instances s.node one.0 one.1 in
+      let few = lawful.limits.few_nodes in
+      record { not_out = may.out.there s (no_meta s (omega (arith, low, few))) (none_at s i); no_member = none_at s i }
 
   pub fresh_slots : (s : Slot) → IsIn new s → replica s.node s.shard m.net.replicas.events ≡ fresh
   fresh_slots s i = fresh_by s m.net.replicas.events (may.unstepped s (none_at s i))
@@ -200,22 +207,20 @@ module _ {D : Type 0} {G : Ghosts D} (state : D → DiskState) (kept : ℕ) (a :
   state_then : new.net.state ≡ record old.net.state { place = change.next }
   state_then = made.state_is ∙ ap (λ (meta : MetaState). record meta { place = change.next }) state_same
 
-  pub makes : MakesNext state kept a depot old answered after new
-  makes = record {
-    next = change.next;
-    leads = is.leads;
-    answer_is = made.answer_is ∙ ap (λ (printed : Placement). answer.Placed printed printed.version) is.fitted.printed;
-    placed = record {
-      made = mid.net.replicas.members;
-      gained = have;
-      ran = ran_on;
-      state_is = state_then;
-      past = made.past ∙ ap (λ (xs : List Placement). xs ++ mid.net.state.place ∷ []) past_same ∙ ap (λ (meta : MetaState). old.past.items ++ meta.place ∷ []) state_same;
-      fates = made.fates ∙ fates_same;
-      bag = made.bag ∙ bag_same;
-      fits = fits_then;
-    };
+  pub placed_then : IsPlaced state depot old change.next after new
+  placed_then = record {
+    made = mid.net.replicas.members;
+    gained = have;
+    ran = ran_on;
+    state_is = state_then;
+    past = made.past ∙ ap (λ (xs : List Placement). xs ++ mid.net.state.place ∷ []) past_same ∙ ap (λ (meta : MetaState). old.past.items ++ meta.place ∷ []) state_same;
+    fates = made.fates ∙ fates_same;
+    bag = made.bag ∙ bag_same;
+    fits = fits_then;
   }
+
+  pub makes : MakesNext state kept a depot old answered after new
+  makes = record { next = change.next; leads = is.leads; answer_is = made.answer_is ∙ ap (λ (printed : Placement). answer.Placed printed printed.version) is.fitted.printed; placed = placed_then }
 
   all_slots : IsPermutation (old.slots.items ++ new_slots old.net.replicas.members change.next) new.slots.items
   all_slots = fits_then.slots_are
@@ -273,7 +278,34 @@ module _ {D : Type 0} {G : Ghosts D} (state : D → DiskState) (kept : ℕ) (a :
   untaken_answer change slot answer.Memory is of cause named = wanted_answer change is of
   untaken_answer change slot _ is of cause named = absurd named
 
+-- ---- a line in two parts
+
+-- the planned placement was answered, and stands
+pub makes_planned : {D : Type 0} {G : Ghosts D} (state : D → DiskState) (depot after : Depot D) (old new : Members D G) (change : Change) (b : Answer) → b ≡ answer.Placed change.printed change.printed.version → change.printed ≡ change.next → IsPlaced state depot old change.next after new
+    → MakesPlanned state depot old change.next b after new
+makes_planned state depot after old new change b is printed placed = subst (λ (x : Answer). MakesPlanned state depot old change.next x after new) (sym is) (printed, ap (λ (place : Placement). place.version) printed, placed)
+
+-- a disk couldn't be taken
+pub untaken_planned : {D : Type 0} {G : Ghosts D} (state : D → DiskState) (depot after : Depot D) (old new : Members D G) (next : Placement) (slot : Slot) (b : Answer) → IsDiskAnswer next slot b → IsAsItWas old new → MakesPlanned state depot old next b after new
+untaken_planned state depot after old new next slot (answer.Disk name shard) named same = same
+untaken_planned state depot after old new next slot answer.Memory named same = same
+untaken_planned state depot after old new next slot _ named same = absurd named
+
 -- ---- room for its events
+
+-- there is none
+pub no_room : (events : List Event) (n k : ℕ) (b : Bool) → k ≡ n → b ≡ nat_le (length events + k) most_entries → b ≡ false → ¬ HasRoom n events
+no_room events n k b same is off room = let over = leb-false (length events + k) most_entries (sym is ∙ off) in omega (arith, same, over, room)
+
+pub full_answer : {D : Type 0} {G : Ghosts D} (state : D → DiskState) (kept : ℕ) (a : Act) (depot : Depot D) (m : Members D G) (change : Change) → IsChange m kept a change → ¬ HasRoom (step_length change.left.items) m.net.replicas.events → IsChanged state kept a depot m answer.Full depot m
+full_answer state kept a depot m change is none = inr (inr (inr (inl (record {
+  next = change.next;
+  leads = is.leads;
+  answer_is = refl;
+  no_room = subst (λ left. ¬ HasRoom (step_length left) m.net.replicas.events) is.fitted.left_are none;
+  same = record { state_is = refl; past = refl; replicas = refl; fates = refl; bag = refl; slots = refl; stopped = refl };
+  depot_is = refl;
+}))))
 
 pub room_first : {D : Type 0} (replicas : Tracked D) (left : List Slot) → HasRoom (step_length left) replicas.events → HasRoom 2 replicas.events
 room_first replicas left room = omega (arith, room)

@@ -14,12 +14,12 @@ use Rattle.node_calls.specs.replica_calls.Calls.{Tracked, first_member}
 use Rattle.node_calls.specs.replica_calls.Slots.{MemberMap}
 use Rattle.node_calls.proofs.replica_calls_proofs.SlotLemmas.{slot_cmp_total, slot_cmp-IsAntisymmetric}
 use Rattle.first_cluster.specs.Depots.{disk_slot_of}
-use Rattle.first_cluster.specs.Lending.{HasGivenBack, IsBack, IsFree, IsKept, IsNewlyTaken, KeepsOthers}
+use Rattle.first_cluster.specs.Lending.{HasGivenBack, IsBack, IsFree, IsKept, IsLeftAt, IsNewlyTaken, IsReturned, IsSameAt, KeepsOthers}
 use Rattle.first_cluster.specs.Slots.{AreApart}
 use Rattle.first_cluster.proofs.ListLemmas.{not_before, parted, take_at}
 use Rattle.first_cluster.proofs.SlotLists.{in_or_out, slot_or_other}
 use Rattle.first_cluster.proofs.TakeAll.{rose_from, rose_to}
-use Rattle.cluster_placements.specs.Lending.{AreLent, HaveGained, HaveReturned, IsLeftAt, IsLeftBy, IsReturned, IsSameAt, MayHaveGained, MayNotTake}
+use Rattle.cluster_placements.specs.Lending.{AreLent, HaveGained, HaveReturned, IsLeftBy, MayHaveGained, MayNotTake}
 use Rattle.cluster_placements.specs.declared.untaken.Untaken.{Untaken}
 use Rattle.cluster_placements.specs.declared.untaken.Untaken.TheVariants as untaken
 

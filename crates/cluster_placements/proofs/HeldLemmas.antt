@@ -17,8 +17,9 @@ use Rattle.node_calls.specs.session_net.Runs.{IsStepped, Ran, Step, step_in, ste
 use Rattle.node_calls.proofs.session_net_proofs.ReadyLemmas.{there_after}
 use Rattle.node_calls.specs.Halts.{AreManned}
 use Rattle.first_cluster.specs.Depots.{AreOut, disk_slot_of}
+use Rattle.first_cluster.specs.Lending.{IsLeftAt}
 use Rattle.first_cluster.proofs.SlotLists.{in_or_out}
-use Rattle.cluster_placements.specs.Lending.{HaveGained, HaveReturned, IsLeftAt}
+use Rattle.cluster_placements.specs.Lending.{HaveGained, HaveReturned}
 use Rattle.cluster_placements.proofs.OrderLemmas.{in_again, in_before}
 
 clash : {X : Type 0} (o : Option X) (x : X) → o ≡ None → o ≡ Some x → ⊥
@@ -78,9 +79,9 @@ module _ {D : Type 0} (state : D → DiskState) where
       only = λ s away. none_stays (steps_of s more) (get made s) (get replicas.members s) (ran.stepped s)
           ((gained.others s (λ i. away (in_again (slots ++ new_) all same s (IsIn-append_right slots new_ s i)))).member ∙ out.only s (λ i. away (in_again (slots ++ new_) all same s (IsIn-append_left slots new_ s i))));
       lent = out_lent;
-      there = λ s none is_out.
+      there = λ s low none is_out.
           let gone = none_before s none in
-          out.there s (none_at_first s gone) (sym (gained.others s (not_new s gone)).held ∙ is_out);
+          out.there s low (none_at_first s gone) (sym (gained.others s (not_new s gone)).held ∙ is_out);
     }
 
   -- ---- disks were given back
@@ -89,7 +90,7 @@ module _ {D : Type 0} (state : D → DiskState) where
   out_still slots members old new out taken back = record {
     only = out.only;
     lent = λ s m there. lent_at s (out.lent s m there) (at s);
-    there = λ s none. there_at s (out.there s none) (at s);
+    there = λ s low none. there_at s (out.there s low none) (at s);
   }
     where
       at : (s : Slot) → IsLeftAt state old new s

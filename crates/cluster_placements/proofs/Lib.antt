@@ -1,5 +1,5 @@
 pub mod ChangeLemmas
-mod FewLemmas
+pub mod FewLemmas
 mod GainLemmas
 mod HasLemmas
 mod HeldLemmas

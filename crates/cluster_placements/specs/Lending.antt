@@ -1,36 +1,21 @@
 -- Replicas made over the disks of further slots, and disks given back as they were.
-use Rattle.std.specs.Prelude.{◌≡◌, ◌⊎◌, ◌≤◌, ⊤, List, ◌∷◌, ◌++◌, Some, None}
+use Rattle.std.specs.Prelude.{◌≡◌, ◌≤◌, ⊤, List, ◌∷◌, ◌++◌, Some, None}
 use Rattle.std.specs.FinMap.{get}
 use Rattle.m3_model.specs.Members.{IsIn}
 use Rattle.m3_outside.specs.Causes.{Rose}
 use Rattle.m3_outside.specs.Depots.{Depot}
-use Rattle.m3_outside.specs.DiskState.{DiskState, IsEmpty}
-use Rattle.m3_outside.specs.Slots.{Held, Here, Out, MayGive}
+use Rattle.m3_outside.specs.DiskState.{DiskState}
+use Rattle.m3_outside.specs.Slots.{Held, Out}
 use Rattle.m3_outside.specs.declared.slot.DiskSlot.{DiskSlot}
 use Rattle.node_calls.specs.replica_exchange.declared.member.Member.{Member}
 use Rattle.node_calls.specs.replica_exchange.declared.slot.Slot.{Slot}
 use Rattle.node_calls.specs.replica_calls.Slots.{MemberMap}
 use Rattle.first_cluster.specs.Depots.{disk_slot_of}
-use Rattle.first_cluster.specs.Lending.{IsKept, IsNewlyTaken}
+use Rattle.first_cluster.specs.Lending.{IsKept, IsLeftAt, IsNewlyTaken, IsReturned, IsSameAt}
 use Rattle.cluster_placements.specs.declared.untaken.Untaken.{Untaken}
 use Rattle.cluster_placements.specs.declared.untaken.Untaken.TheVariants as untaken
 
 -- ---- disks that are where they were
-
--- the slot is as it was
-pub record IsSameAt {D : Type 0} (old new : Depot D) (s : Slot) : Type 0 where
-  pub held : new.held (disk_slot_of s) ≡ old.held (disk_slot_of s)
-  pub counted : new.counted (disk_slot_of s) ≡ old.counted (disk_slot_of s)
-
--- the slot's disk was taken, and given back as it was
-pub record IsReturned {D : Type 0} (state : D → DiskState) (old new : Depot D) (s : Slot) : Type 0 where
-  pub disk : D
-  pub given : MayGive (λ d. IsEmpty (state d)) (old.held (disk_slot_of s)) disk
-  pub held : new.held (disk_slot_of s) ≡ Here disk
-  pub counted : new.counted (disk_slot_of s) ≡ old.counted (disk_slot_of s)
-
-abbrev pub IsLeftAt : {D : Type 0} → (D → DiskState) → Depot D → Depot D → Slot → Type 0
-IsLeftAt state old new s = IsSameAt old new s ⊎ IsReturned state old new s
 
 -- The disk of each of these slots lies where it lay, or was taken and is back; at all others all is as it was. The count of faults didn't fall.
 pub record HaveReturned {D : Type 0} (state : D → DiskState) (slots : List Slot) (old new : Depot D) : Type 0 where

@@ -1,5 +1,5 @@
 -- Lines that make a placement: what a cluster that stands answers, and what that leaves of it and of the disks that it doesn't have.
-use Rattle.std.specs.Prelude.{◌≡◌, ◌≢◌, ◌⊎◌, ℕ, suc, ◌≤◌, ◌<◌, ◌-◌, ◌+◌, ◌*◌, List, [], ◌∷◌, ◌++◌, length, Some, None, Bool, false, replicate, slice_get, vec_len}
+use Rattle.std.specs.Prelude.{◌≡◌, ◌≢◌, ◌⊎◌, ℕ, suc, ◌≤◌, ◌<◌, ◌-◌, ◌+◌, ◌*◌, List, [], ◌∷◌, ◌++◌, length, Some, None, Bool, true, false, replicate, slice_get, vec_len}
 use Rattle.std.specs.FinMap.{get}
 use Rattle.std.specs.List.{flat_map}
 use Rattle.std.specs.List.Sorted.{IsPermutation, IsSorted}
@@ -16,7 +16,7 @@ use Rattle.m3_outside.specs.DiskState.{DiskState}
 use Rattle.m3_outside.specs.Slots.{Held}
 use Rattle.m3_outside.specs.declared.disk.Disk.{Ghosts}
 use Rattle.m3_outside.specs.declared.slot.DiskSlot.{DiskSlot}
-use Rattle.placement_acts.specs.Acts.{LeadsNowhere, LeadsTo}
+use Rattle.placement_acts.specs.Acts.{LeadsNowhere, LeadsTo, is_step_act}
 use Rattle.placement_core.specs.Lawful.{IsLawful}
 use Rattle.placement_core.specs.Shards.{nodes_of, shard_at}
 use Rattle.placement_core.specs.Steps.{IsStep}
@@ -170,6 +170,19 @@ abbrev pub IsChanged : {D : Type 0} {G : Ghosts D} → (D → DiskState) → ℕ
 IsChanged state kept a depot old answered after new =
     MakesNext state kept a depot old answered after new
     ⊎ (MakesNone kept a depot old answered after new ⊎ (LacksDisk state kept a depot old answered after new ⊎ (LacksRoom kept a depot old answered after new ⊎ LacksMemory state kept a depot old answered after new)))
+
+-- ---- a line in two parts
+
+-- it was planned for a line of this cluster
+pub record IsPlanned {D : Type 0} {G : Ghosts D} (m : Members D G) (change : Change) : Type 0 where
+  pub line : Act
+  pub step : is_step_act line ≡ true
+  pub planned : IsChange m (kept_in m) line change
+
+-- The planned placement stands where one is answered, which is that one; else the cluster is as it was.
+abbrev pub MakesPlanned : {D : Type 0} {G : Ghosts D} → (D → DiskState) → Depot D → Members D G → Placement → Answer → Depot D → Members D G → Type 0
+MakesPlanned state depot old next (answer.Placed place version) after new = (place ≡ next) × (version ≡ next.version) × IsPlaced state depot old next after new
+MakesPlanned state depot old next _ after new = IsAsItWas old new
 
 -- ---- within a line
 

@@ -1,15 +1,16 @@
 //! Lines that make a placement.
 ghost use Rattle.std.specs.Prelude.{◌≡◌, ◌<◌, ◌+◌, ◌*◌, true, length};
 ghost use Rattle.m3_model.specs.Limits.{MeetsLimits};
+ghost use Rattle.m3_model.specs.declared.act.Act.{Act as Line};
 ghost use Rattle.placement_acts.specs.Acts.{is_step_act};
 ghost use Rattle.node_calls.specs.replica_exchange.MachineCalls.{HasRoom};
 ghost use Rattle.first_cluster.specs.Depots.{depot_by};
 ghost use Rattle.first_cluster.specs.First.{IsDiskAnswer};
-ghost use Rattle.cluster_placements.specs.Steps.{IsChanged, IsMade, MayBeMade, MayChange, kept_in};
+ghost use Rattle.cluster_placements.specs.Steps.{IsChange, IsChanged, IsMade, IsPlanned, MakesPlanned, MayBeMade, MayChange, kept_in};
 
 use crate::events::{end_all, place};
 use crate::lending::gain;
-use crate::plan::{Change, planned};
+use crate::plan::{Change, plan_change};
 use crate::untaken::Untaken;
 use m3_model::{Act, Answer, Duplicate, Placement};
 use m3_outside::{Disk, Disks};
@@ -60,6 +61,45 @@ fn make<D: Disk>(members: &mut Members<D>, change: Change) -> Answer
     }
 }
 
+/// Makes what was planned for a line of this cluster, which is as it was then, as `change_placement` does. That the placement stands then is
+/// answered with it and its version.
+///
+/// Refused: `Full` where the list has no room for the placement and the ends of tenures; `Disk` with the node and the shard whose disk couldn't
+/// be taken; or want of memory. The cluster is then as it was, and each disk that was taken for the line is given back as it was.
+pub fn make_change<D: Disk, X: Disks<D = D>>(
+    members: &mut Members<D>,
+    alloc: Global,
+    disks: &mut X,
+    change: Change,
+) -> Answer
+    requires planned { IsPlanned members.old change }
+    requires may { MayChange members.old (X.held disks.old) }
+    ensures may { MayChange members.new (X.held disks.new) }
+    ensures changed { (a : Line) → is_step_act a ≡ true → IsChange members.old (kept_in members.old) a change → IsChanged D.state (kept_in members.old) a (depot_by X.held X.counted X.all_faults disks.old) members.old result (depot_by X.held X.counted X.all_faults disks.new) members.new }
+    ensures placed { MakesPlanned D.state (depot_by X.held X.counted X.all_faults disks.old) members.old change.next result (depot_by X.held X.counted X.all_faults disks.new) members.new }
+{
+    if !members
+        .net
+        .replicas
+        .has_room(2 + 2 * change.left.len() as u64)
+    {
+        return Answer::Full;
+    }
+    if members.past.try_reserve(1).is_err() {
+        return Answer::Memory;
+    }
+    match gain(
+        alloc,
+        disks,
+        change.new.as_slice(),
+        &mut members.net.replicas,
+    ) {
+        Ok(()) => make(members, change),
+        Err(Untaken::Disk(slot)) => untaken(alloc, &change.next, slot),
+        Err(Untaken::Memory) => Answer::Memory,
+    }
+}
+
 /// Serves the line of an `add`, `drain`, `cancel`, `remove` or `replace`: the placement that the planning rules lead to stands
 /// then, with a replica at Boot over the disk of each slot that had none, the tenures of replicas that it takes away are ended, and it is
 /// answered with its version. The placement before it is kept. Nodes that are stopped stay so, also one that is named again.
@@ -81,28 +121,8 @@ pub fn change_placement<D: Disk, X: Disks<D = D>>(
     ensures may { MayChange members.new (X.held disks.new) }
     ensures changed { IsChanged D.state (kept_in members.old) act.now (depot_by X.held X.counted X.all_faults disks.old) members.old result (depot_by X.held X.counted X.all_faults disks.new) members.new }
 {
-    let change = match planned(alloc, members, act) {
-        Ok(change) => change,
-        Err(refused) => return refused,
-    };
-    if !members
-        .net
-        .replicas
-        .has_room(2 + 2 * change.left.len() as u64)
-    {
-        return Answer::Full;
-    }
-    if members.past.try_reserve(1).is_err() {
-        return Answer::Memory;
-    }
-    match gain(
-        alloc,
-        disks,
-        change.new.as_slice(),
-        &mut members.net.replicas,
-    ) {
-        Ok(()) => make(members, change),
-        Err(Untaken::Disk(slot)) => untaken(alloc, &change.next, slot),
-        Err(Untaken::Memory) => Answer::Memory,
+    match plan_change(members, alloc, act) {
+        Ok(change) => make_change(members, alloc, disks, change),
+        Err(refused) => refused,
     }
 }

@@ -4,8 +4,12 @@ ghost use Rattle.std.specs.Prelude.{◌≡◌, ◌≤◌, ◌-◌, ◌++◌, fal
 use m3_model::Memory;
 use std::alloc::Global;
 
-// The flags of so many nodes: those that are there keep theirs, and each further one runs.
-pub(crate) fn with_nodes(alloc: Global, stopped: &[bool], nodes: usize) -> Result<Vec<bool>, Memory>
+/// The flags of so many nodes: those that are there keep theirs, and each further one runs.
+///
+/// # Errors
+///
+/// Want of memory.
+pub fn with_nodes(alloc: Global, stopped: &[bool], nodes: usize) -> Result<Vec<bool>, Memory>
     requires { length stopped.now ≤ nodes }
     ensures { IfOk result (λ flags. flags.items ≡ stopped.now ++ replicate (nodes - length stopped.now) false) }
 {

@@ -74,8 +74,13 @@ fn take_all<D: Disk, X: Disks<D = D>>(
     Ok(())
 }
 
-// The same; where one is refused, the replicas are as they were, and the disks that were taken are back.
-pub(crate) fn gain<D: Disk, X: Disks<D = D>>(
+/// Takes the disk of each of the slots, in their order, and puts a replica over it there that didn't begin.
+///
+/// # Errors
+///
+/// The first slot whose disk couldn't be taken, by a fault of the disks' own, or want of memory. The replicas are as they were, and each disk
+/// that was taken is given back as it was.
+pub fn gain<D: Disk, X: Disks<D = D>>(
     alloc: Global,
     disks: &mut X,
     slots: &[Slot],

@@ -3,10 +3,15 @@
 
 pub mod change;
 mod events;
-mod flags;
-mod lending;
-mod plan;
-mod slots;
-mod untaken;
+pub mod flags;
+pub mod lending;
+pub mod plan;
+pub mod slots;
+pub mod untaken;
 
-pub use change::change_placement;
+pub use change::{change_placement, make_change};
+pub use flags::with_nodes;
+pub use lending::gain;
+pub use plan::{Change, plan_change};
+pub use slots::slots_of;
+pub use untaken::Untaken;

@@ -17,9 +17,9 @@ use node_calls::of_replica_exchange::Slot;
 use placement_lines::next_placement;
 use std::alloc::Global;
 
-// What a line is to make.
+/// What a line is to make: the placement that comes next, and all that the cluster needs for it but its new replicas.
 #[derive(Drop)]
-pub(crate) struct Change {
+pub struct Change {
     pub(crate) next: Placement,
     // A copy of it, for the answer.
     pub(crate) printed: Placement,
@@ -58,10 +58,23 @@ fn fitted<D: Disk>(alloc: Global, members: &Members<D>, next: Placement) -> Resu
     })
 }
 
-// What the line of this act is to make, or the answer that refuses it.
-pub(crate) fn planned<D: Disk>(
-    alloc: Global,
+impl Change {
+    /// The placement that comes next.
+    pub fn next(&self) -> &Placement
+        ensures { result.now ≡ self.now.next }
+    {
+        &self.next
+    }
+}
+
+/// What the line of an `add`, `drain`, `cancel`, `remove` or `replace` is to make, by the planning rules. Nothing changes.
+///
+/// # Errors
+///
+/// The answer: as the planning rules say, or want of memory.
+pub fn plan_change<D: Disk>(
     members: &Members<D>,
+    alloc: Global,
     act: &Act,
 ) -> Result<Change, Answer>
     requires lawful { IsLawful members.now.net.state.place }

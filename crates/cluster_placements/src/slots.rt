@@ -12,8 +12,12 @@ use node_calls::of_replica_calls::Replicas;
 use node_calls::of_replica_exchange::Slot;
 use std::alloc::Global;
 
-// The slots of a placement's replicas, by shard.
-pub(crate) fn slots_of(alloc: Global, place: &Placement) -> Result<Vec<Slot>, Memory>
+/// The slots of a placement's replicas, by shard.
+///
+/// # Errors
+///
+/// Want of memory.
+pub fn slots_of(alloc: Global, place: &Placement) -> Result<Vec<Slot>, Memory>
     requires { length place.now.shards ≤ 2 ^ 32 }
     ensures { IfOk result (λ slots. slots.items ≡ slots_of place.now) }
 {

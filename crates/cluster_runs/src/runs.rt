@@ -2,6 +2,7 @@
 ghost use Rattle.std.specs.Prelude.{◌≢◌};
 ghost use Rattle.m3_outside.specs.Slots.{Out};
 ghost use Rattle.m3_outside.specs.declared.slot.DiskSlot.{DiskSlot};
+ghost use Rattle.cluster_tracks.specs.first_cluster.Depots.{IsForReplicas};
 ghost use Rattle.served_cluster.specs.Owned.{MayServeCluster};
 
 use cluster_words::{act_of, spell_placement, spell_reply};
@@ -67,15 +68,15 @@ fn tell<X: Disks>(
     Ok(())
 }
 
-/// What a new cluster over these disks answers to words, each answer ended by a colon. The disks are given back.
+/// What a new cluster over these disks answers to words, each answer ended by a colon. The disks of replicas, which alone it takes, are given back.
 pub fn run<X: Disks>(
     alloc: Global,
     disks: &mut X,
     words: &str,
     out: &mut String,
 ) -> Result<(), Memory>
-    requires free { (slot : DiskSlot) → X.held disks.old slot ≢ Out }
-    ensures free { (slot : DiskSlot) → X.held disks.new slot ≢ Out }
+    requires free { (slot : DiskSlot) → IsForReplicas slot → X.held disks.old slot ≢ Out }
+    ensures free { (slot : DiskSlot) → IsForReplicas slot → X.held disks.new slot ≢ Out }
 {
     let mut cluster = Cluster::new();
     let told = tell(alloc, &mut cluster, disks, words, out);

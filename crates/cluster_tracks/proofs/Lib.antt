@@ -24,4 +24,6 @@ pub mod InitLemmas
 pub mod PlacementLemmas
 pub mod LineLemmas
 pub use Rattle.placement_tracks.proofs.act_lines_proofs.StandLemmas
+pub use Rattle.placement_tracks.proofs.cluster_members_proofs as cluster_members_proofs
 pub use Rattle.placement_tracks.proofs.first_cluster_proofs as first_cluster_proofs
+pub use Rattle.placement_tracks.proofs.told_runs_proofs as told_runs_proofs

@@ -33,7 +33,7 @@ use Rattle.placement_tracks.specs.session_net.Runs.{IsStepped, Step, slot_at, st
 use Rattle.placement_tracks.specs.cluster_members.declared.members.Members.{Members}
 use Rattle.placement_tracks.specs.first_cluster.Bare.{AreBare, IsBare}
 use Rattle.placement_tracks.specs.first_cluster.Depots.{disk_slot_of}
-use Rattle.placement_tracks.specs.first_cluster.Lending.{IsNewlyTaken}
+use Rattle.placement_tracks.specs.first_cluster.Lending.{IsLeftAt, IsNewlyTaken}
 use Rattle.placement_tracks.proofs.first_cluster_proofs.BareLemmas.{given_bare}
 use Rattle.placement_tracks.proofs.first_cluster_proofs.SlotLists.{in_or_out}
 use Rattle.placement_tracks.specs.told_by.Makes.{IsAssigned}
@@ -48,7 +48,7 @@ use Rattle.transcripts.specs.Record.{line_of}
 use Rattle.placement_tracks.proofs.call_lines_proofs.ServeLemmas.{delivered_so}
 use Rattle.placement_tracks.specs.act_lines.Opens.{IsGivenNow, IsLow, OpensLow}
 use Rattle.placement_tracks.specs.act_lines.Stands.{ClusterStands}
-use Rattle.placement_tracks.specs.cluster_placements.Lending.{HaveGained, HaveReturned, IsLeftAt, IsUntakenAt}
+use Rattle.placement_tracks.specs.cluster_placements.Lending.{HaveGained, HaveReturned, IsUntakenAt}
 use Rattle.placement_tracks.specs.cluster_placements.Slots.{left_slots, new_slots}
 use Rattle.placement_tracks.specs.cluster_placements.Steps.{IsAsItWas, IsChanged, IsPlaced, MayChange, kept_in, step_events}
 use Rattle.placement_tracks.proofs.cluster_placements_proofs.PlacedLemmas.{new_free}

@@ -9,6 +9,10 @@ pub mod Quiet
 pub mod Acts
 pub mod Slots
 pub mod Lines
+pub use Rattle.cluster_core.specs as cluster_core
+pub use Rattle.cluster_upkeep.specs as cluster_upkeep
+pub use Rattle.placement_core.specs as placement_core
+pub use Rattle.placement_tracks.specs.act_lines as act_lines
 pub use Rattle.placement_tracks.specs.cluster_members as cluster_members
 pub use Rattle.placement_tracks.specs.cluster_placements as cluster_placements
 pub use Rattle.placement_tracks.specs.event_trail as event_trail
@@ -17,4 +21,5 @@ pub use Rattle.placement_tracks.specs.node_calls as node_calls
 pub use Rattle.placement_tracks.specs.replica_calls as replica_calls
 pub use Rattle.placement_tracks.specs.replica_exchange as replica_exchange
 pub use Rattle.placement_tracks.specs.session_net as session_net
+pub use Rattle.placement_tracks.specs.told_by as told_by
 pub use Rattle.transcripts.specs as transcripts

@@ -34,15 +34,17 @@ use Rattle.cluster_members.specs.session_net.Ready.{IsReady}
 use Rattle.cluster_members.specs.session_net.Runs.{IsStepped, Step, slot_at, steps_of}
 use Rattle.cluster_members.proofs.session_net_proofs.ReadyLemmas.{AreQuiet, IsQuiet, ready_after, quiet_both, quiet_none, there_after}
 use Rattle.first_cluster.specs.Begins.{Said, begin_of, begins_of, HaveBegun, HaveSomeBegun}
-use Rattle.first_cluster.specs.Depots.{AreOut, disk_slot_of}
-use Rattle.first_cluster.specs.First.{IsDiskAnswer, IsRefusedInit, opening_of}
+use Rattle.first_cluster.specs.Depots.{AreOut, IsForReplicas, disk_slot_of}
+use Rattle.first_cluster.specs.First.{IsDiskAnswer, IsRefusedInit, IsSomePlan, opening_of}
 use Rattle.first_cluster.specs.Lending.{AreOpened, HasTaken, IsGivenBack, IsLent, IsUnopened, IsUntouched, MayHaveTaken, first_begin, first_tenure}
 use Rattle.first_cluster.specs.Slots.{AreApart, slots_in, slots_of, start_at, starts_of}
+use Rattle.first_cluster.specs.declared.plan.Plan.{Plan}
 use Rattle.first_cluster.specs.declared.start.Start.{Start}
 use Rattle.first_cluster.specs.declared.unopened.Unopened.TheVariants as unopened
 use Rattle.first_cluster.proofs.BeginLemmas.{same_member, steps_once}
-use Rattle.first_cluster.proofs.PlacedSlots.{from_start, start_slot}
+use Rattle.first_cluster.proofs.PlacedSlots.{from_start, slots_same, start_slot}
 use Rattle.first_cluster.proofs.SlotLists.{in_or_out}
+use Rattle.first_cluster.proofs.TakeAll.{lent_new}
 
 -- ---- all were taken, and some begun
 
@@ -121,6 +123,26 @@ opened_room events state starts is few = let long : length events ≡ 2 = ap len
 pub few_enough : {n : ℕ} → n ≤ 320 → n ≤ 1024
 few_enough {n} few = omega (arith, few)
 
+-- replicas that didn't begin may be given back, as some that did
+pub lent_may : {D : Type 0} (state : D → DiskState) (slots : List Slot) (old new : Depot D) (members : MemberMap D) → HasTaken state slots old members new → MayHaveTaken state slots old members new unopened.Memory
+lent_may state slots old new members had = record {
+  each = λ s. elim (in_or_out slots s) as (λ _. IsUntouched old members new s ⊎ ((IsIn slots s × IsLent state old members new s) ⊎ IsGivenBack state old members new s)) [
+    | inl i ↦ inr (inl (i, lent_new state s old new members (had.taken s i)))
+    | inr out ↦ inl (had.others s out)
+  ];
+  later = had.later;
+  cause = tt;
+}
+
+-- the plan's slots are those of its placement
+pub planned_slots : (plan : Plan) → IsSomePlan plan → plan.slots.items ≡ slots_of plan.state.place
+planned_slots plan of = of.is.slots ∙ ap slots_in of.is.starts ∙ slots_same plan.state.place
+
+-- the replicas over the disks that were taken for a first cluster were begun
+pub lent_opened : {D : Type 0} (state : D → DiskState) (slots : List Slot) (starts : List Start) (meta : MetaState) (old new : Depot D) (mid replicas : Tracked D) → HasTaken state slots old mid.members new → mid.events ≡ opening_of meta → starts ≡ starts_of meta.place → HaveBegun state starts mid replicas
+    → AreOpened state slots (starts_of meta.place) (opening_of meta) old new replicas
+lent_opened state slots starts meta old new mid replicas had list are begun = opened_by state slots (starts_of meta.place) (opening_of meta) old new mid replicas had list (subst (λ xs. HaveBegun state xs mid replicas) are begun)
+
 -- ---- what a first cluster's fields are bounded by
 
 pub few_spaces : (r : Rules) → r ≡ record { now = 0; spaces = [] } → length r.spaces ≤ MOST_NAMESPACES
@@ -157,7 +179,7 @@ refused_by state rf shards seed nodes place slots slot old new _ first same un h
 
 -- ---- whose disks are out
 
-pub first_out : {D : Type 0} (state : D → DiskState) (slots : List Slot) (starts : List Start) (events : List Event) (old new : Depot D) (replicas : Tracked D) → ((disk_slot : DiskSlot) → old.held disk_slot ≢ Out) → AreOpened state slots starts events old new replicas
+pub first_out : {D : Type 0} (state : D → DiskState) (slots : List Slot) (starts : List Start) (events : List Event) (old new : Depot D) (replicas : Tracked D) → ((disk_slot : DiskSlot) → IsForReplicas disk_slot → old.held disk_slot ≢ Out) → AreOpened state slots starts events old new replicas
     → AreOut slots replicas.members new.held
 first_out {D} state slots starts events old new replicas free opened = record {
   only = λ s out. none_at s out;
@@ -165,9 +187,9 @@ first_out {D} state slots starts events old new replicas free opened = record {
     | inl i ↦ ((opened.taken).taken s i).held
     | inr out ↦ absurd (let bad : None ≡ Some m = sym (none_at s out) ∙ there in cc)
   ];
-  there = λ s gone held. elim (in_or_out slots s) as (λ _. ⊥) [
+  there = λ s low gone held. elim (in_or_out slots s) as (λ _. ⊥) [
     | inl i ↦ there_after state made replicas (begins_of opened.begun.said starts) s opened.begun.ran (λ none. (let was = (opened.taken).taken s i in let bad : Some (first_member was.disk) ≡ None = sym was.stands ∙ none in cc)) gone
-    | inr out ↦ free (disk_slot_of s) (sym ((opened.taken).others s out).held ∙ held)
+    | inr out ↦ free (disk_slot_of s) low (sym ((opened.taken).others s out).held ∙ held)
   ];
 }
   where

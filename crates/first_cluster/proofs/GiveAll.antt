@@ -9,18 +9,19 @@ use Rattle.m3_outside.specs.DiskState.{DiskState}
 use Rattle.m3_outside.specs.Slots.{Here, Out, OthersStay}
 use Rattle.m3_outside.specs.declared.slot.DiskSlot.{DiskSlot}
 use Rattle.cluster_members.specs.replica_exchange.declared.member.Member.{Member}
+use Rattle.cluster_members.specs.replica_calls.Calls.{first_member}
 use Rattle.cluster_members.specs.replica_calls.Slots.{MemberMap, slot_cmp}
 use Rattle.cluster_members.specs.session_net.Runs.{slot_at}
 use Rattle.cluster_members.specs.replica_exchange.declared.slot.Slot.{Slot}
 use Rattle.m3_outside.specs.Depots.{Depot}
-use Rattle.first_cluster.specs.Depots.{AreOut, count_at, disk_slot_of, risen}
+use Rattle.first_cluster.specs.Depots.{AreOut, IsForReplicas, count_at, disk_slot_of, risen}
 use Rattle.first_cluster.specs.Slots.{AreApart}
-use Rattle.first_cluster.specs.Lending.{IsUntouched, IsLent, IsGivenBack, HasReturned, MayNotOpen, IsKept, IsBack, HasGivenBack, MayHaveTaken, IsUnopened}
+use Rattle.first_cluster.specs.Lending.{AreAsTheyWere, HasTaken, IsLeftAt, IsUntouched, IsLent, IsGivenBack, HasReturned, MayNotOpen, IsKept, IsBack, HasGivenBack, MayHaveTaken, IsUnopened}
 use Rattle.first_cluster.specs.declared.unopened.Unopened.{Unopened}
 use Rattle.first_cluster.specs.declared.unopened.Unopened.TheVariants as unopened
 use Rattle.first_cluster.proofs.ListLemmas.{take_at}
 use Rattle.first_cluster.proofs.SlotCases.{other_disk_slot, get-remove_here, get-remove_other}
-use Rattle.first_cluster.proofs.SlotLists.{slot_or_other}
+use Rattle.first_cluster.proofs.SlotLists.{in_or_out, slot_or_other}
 use Rattle.first_cluster.proofs.TakeAll.{rose_to}
 
 clash : {X : Type 0} (o : Option X) (x : X) → o ≡ None → o ≡ Some x → ⊥
@@ -236,12 +237,30 @@ all_returned {D = D} state slots old mid new members left why may given = record
     })
     of_back s before (inr back) = absurd (clash (get members s) back.member before.no_member back.was)
 
+-- where none of the replicas whose disks were taken began, the disks are back as they were
+pub all_as_they_were : {D : Type 0} (state : D → DiskState) (slots : List Slot) (old mid new : Depot D) (members left : MemberMap D) → HasTaken state slots old members mid → HasGivenBack state slots mid members new left → AreAsTheyWere state old new
+all_as_they_were {D = D} state slots old mid new members left had given = record { each = λ s. at s (in_or_out slots s) (given.each s); later = omega (arith, had.later, given.later) }
+  where
+    at : (s : Slot) → (IsIn slots s ⊎ ¬ IsIn slots s) → (IsKept mid members new left s ⊎ IsBack state members new left s) → IsLeftAt state old new s
+    at s (inl i) (inl kept) = absurd (clash (get left s) (first_member (had.taken s i).disk) (given.gone s i) (kept.member ∙ (had.taken s i).stands))
+    at s (inl i) (inr back) =
+        let was = had.taken s i in
+        let same : back.member ≡ first_member was.disk = same_some (get members s) back.member (first_member was.disk) back.was was.stands in
+        inr (record {
+          disk = was.disk;
+          given = was.given;
+          held = back.held ∙ ap (λ m. Here (m.machine.disk)) same;
+          counted = back.counted ∙ ap (λ m. (state m.machine.disk).faults) same ∙ was.disk_faults;
+        })
+    at s (inr out) (inl kept) = inl (record { held = kept.held ∙ (had.others s out).held; counted = kept.counted ∙ (had.others s out).counted })
+    at s (inr out) (inr back) = absurd (clash (get members s) back.member (had.others s out).no_member back.was)
+
 -- ---- at the end
 
--- no replica is left, so no disk is out
+-- no replica is left, so no disk is out, but the meta disk may be
 pub none_out : {D : Type 0} (state : D → DiskState) (slots : List Slot) (old new : Depot D) (members left : MemberMap D) → AreOut slots members old.held → HasGivenBack state slots old members new left
-    → (disk_slot : DiskSlot) → new.held disk_slot ≢ Out
-none_out {D = D} state slots old new members left own given disk_slot out = by_slot (given.each at)
+    → (disk_slot : DiskSlot) → IsForReplicas disk_slot → new.held disk_slot ≢ Out
+none_out {D = D} state slots old new members left own given disk_slot low out = by_slot (given.each at)
   where
     at : Slot
     at = slot_at disk_slot.node disk_slot.shard
@@ -250,7 +269,7 @@ none_out {D = D} state slots old new members left own given disk_slot out = by_s
     nowhere m there same = clash (get members at) m (own.only at (λ i. clash (get left at) m (given.gone at i) (same ∙ there))) there
 
     kept_in : (o : Option (Member D)) → get members at ≡ o → IsKept old members new left at → ⊥
-    kept_in None e kept = own.there at e (sym kept.held ∙ out)
+    kept_in None e kept = own.there at low e (sym kept.held ∙ out)
     kept_in (Some m) e kept = nowhere m e kept.member
 
     by_slot : (IsKept old members new left at ⊎ IsBack state members new left at) → ⊥

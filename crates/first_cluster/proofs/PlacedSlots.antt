@@ -2,6 +2,7 @@
 use Rattle.std.proofs.Common.{◌≡◌, ◌<◌, ◌≤◌, ◌+◌, ◌*◌, ℕ, zero, suc, List, [], ◌∷◌, ◌++◌, length, take, get_or, map, refl, sym, ap, ap₂, subst, ◌∙◌, inl, inr, arith, append_assoc, length-append}
 use Rattle.std.proofs.lemmas.List.{length-map, map-append}
 use Rattle.m3_model.specs.Members.{IsIn}
+use Rattle.m3_model.specs.declared.limits.TheConstants.{MOST_NODES}
 use Rattle.m3_model.specs.declared.placement.Assignment.{Assignment}
 use Rattle.m3_model.specs.declared.placement.Placement.{Placement}
 use Rattle.m3_model.proofs.MemberLemmas.{IsIn-append_cases, IsIn-append_left, IsIn-append_right, IsIn-map, map-IsIn}
@@ -15,6 +16,8 @@ use Rattle.cluster_members.specs.cluster_core.declared.event.Event.TheVariants a
 use Rattle.placement_core.proofs.ListLemmas.{Any-from_IsIn, at_within}
 use Rattle.cluster_members.specs.replica_exchange.declared.slot.Slot.{Slot}
 use Rattle.cluster_members.specs.session_net.Runs.{slot_at}
+use Rattle.m3_outside.specs.declared.slot.DiskSlot.{DiskSlot}
+use Rattle.first_cluster.specs.Depots.{IsForReplicas, disk_slot_of}
 use Rattle.first_cluster.specs.Slots.{slots_from, slots_of, slots_in, start_at, starts_from, starts_of}
 use Rattle.first_cluster.specs.declared.start.Start.{Start}
 use Rattle.first_cluster.proofs.ListLemmas.{append_nil, take_at, take_whole}
@@ -152,6 +155,10 @@ node_low place rf shards nodes first s i =
     let of_it = start_from 0 place.shards start.0 start.1 in
     let low = (first.each_shard of_it.shard of_it.there).to_nodes of_it.assignment of_it.assigned in
     subst (λ n. n < length place.instances) (of_it.node_is ∙ ap (λ (x : Slot). x.node) start.2) low
+
+-- so its disk isn't the meta disk
+pub no_meta : (s : Slot) → s.node < MOST_NODES → IsForReplicas (disk_slot_of s)
+no_meta s low same = let node : s.node ≡ 255 = ap (λ (d : DiskSlot). d.node) same in omega (arith, low, node)
 
 -- and its shard is one of the shards
 pub shard_low : (place : Placement) (s : Slot) → IsIn (slots_of place) s → s.shard < length place.shards

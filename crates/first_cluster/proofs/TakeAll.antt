@@ -16,6 +16,7 @@ use Rattle.first_cluster.specs.Slots.{AreApart}
 use Rattle.first_cluster.specs.Lending.{IsUntouched, IsLent, IsGivenBack, MayNotOpen, IsFree, IsNewlyTaken, HasTaken, KeepsOthers, MayHaveTaken}
 use Rattle.first_cluster.specs.declared.unopened.Unopened.{Unopened}
 use Rattle.first_cluster.specs.declared.unopened.Unopened.TheVariants as unopened
+use Rattle.placement_core.proofs.ListLemmas.{IsIn-from_index}
 use Rattle.first_cluster.proofs.ListLemmas.{not_before, parted, take_at}
 use Rattle.first_cluster.proofs.SlotLists.{slot_or_other, in_or_out}
 
@@ -49,11 +50,11 @@ taken_none state depot members is = record {
 away_from : (done later : List Slot) (s : Slot) → AreApart (done ++ s ∷ later) → ¬ IsIn done s
 away_from done later s apart i = not_before (λ a b. a ≢ b) done later s apart i refl
 
-pub next_free : {D : Type 0} (state : D → DiskState) (done later : List Slot) (s : Slot) (old now : Depot D) (members : MemberMap D) → AreApart (done ++ s ∷ later) → ((t : Slot) → old.held (disk_slot_of t) ≢ Out)
+pub next_free : {D : Type 0} (state : D → DiskState) (done later : List Slot) (s : Slot) (old now : Depot D) (members : MemberMap D) → AreApart (done ++ s ∷ later) → old.held (disk_slot_of s) ≢ Out
     → HasTaken state done old members now → IsFree now.held members s
 next_free state done later s old now members apart free had =
     let rest = had.others s (away_from done later s apart) in
-    record { not_out = λ out. free s (sym rest.held ∙ out); no_member = rest.no_member }
+    record { not_out = λ out. free (sym rest.held ∙ out); no_member = rest.no_member }
 
 -- one more was taken
 pub taken_more : {D : Type 0} (state : D → DiskState) (done later : List Slot) (s : Slot) (old now new : Depot D) (members after : MemberMap D) → AreApart (done ++ s ∷ later) → HasTaken state done old members now
@@ -169,9 +170,9 @@ taken_but {D = D} state done later s old now new members after why apart had ref
 apart_at : (slots : List Slot) (i : ℕ) (d : Slot) → i < length slots → AreApart slots → AreApart (take i slots ++ get_or slots i d ∷ drop (suc i) slots)
 apart_at slots i d low apart = subst AreApart (parted slots i d low) apart
 
-pub free_at : {D : Type 0} (state : D → DiskState) (slots : List Slot) (i : ℕ) (d : Slot) (old now : Depot D) (members : MemberMap D) → i < length slots → AreApart slots → ((t : Slot) → old.held (disk_slot_of t) ≢ Out)
+pub free_at : {D : Type 0} (state : D → DiskState) (slots : List Slot) (i : ℕ) (d : Slot) (old now : Depot D) (members : MemberMap D) → i < length slots → AreApart slots → ((t : Slot) → IsIn slots t → old.held (disk_slot_of t) ≢ Out)
     → HasTaken state (take i slots) old members now → IsFree now.held members (get_or slots i d)
-free_at state slots i d old now members low apart free had = next_free state (take i slots) (drop (suc i) slots) (get_or slots i d) old now members (apart_at slots i d low apart) free had
+free_at state slots i d old now members low apart free had = next_free state (take i slots) (drop (suc i) slots) (get_or slots i d) old now members (apart_at slots i d low apart) (free (get_or slots i d) (IsIn-from_index slots i d low)) had
 
 pub taken_at : {D : Type 0} (state : D → DiskState) (slots : List Slot) (i : ℕ) (d : Slot) (old now new : Depot D) (members after : MemberMap D) → i < length slots → AreApart slots → HasTaken state (take i slots) old members now
     → IsNewlyTaken state now after new (get_or slots i d) → KeepsOthers (get_or slots i d) now members new after → HasTaken state (take (i + 1) slots) old after new

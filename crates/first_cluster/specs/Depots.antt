@@ -1,5 +1,5 @@
 -- Which disks of a run the replicas of a cluster have.
-use Rattle.std.specs.Prelude.{◌≡◌, ◌≢◌, ◌+◌, ◌-◌, ℕ, ⊤, List, [], ◌∷◌, Option, Some, None}
+use Rattle.std.specs.Prelude.{◌≡◌, ◌≢◌, ◌+◌, ◌-◌, ◌^◌, ℕ, ⊤, List, [], ◌∷◌, Option, Some, None}
 use Rattle.std.specs.FinMap.{get}
 use Rattle.m3_model.specs.Members.{IsIn}
 use Rattle.m3_outside.specs.Causes.{RoseBy}
@@ -22,15 +22,23 @@ depot_by held counted faults disks = record { held = held disks; counted = count
 abbrev pub disk_slot_of : Slot → DiskSlot
 disk_slot_of s = record { node = s.node; shard = s.shard }
 
--- replicas stand at these slots alone; their disks are out, and those of all other slots are not
+-- the slot of the meta disk
+abbrev pub meta_slot : DiskSlot
+meta_slot = record { node = 255; shard = 2 ^ 32 - 1 }
+
+-- any other slot
+abbrev pub IsForReplicas : DiskSlot → Type 0
+IsForReplicas disk_slot = disk_slot ≢ meta_slot
+
+-- replicas stand at these slots alone; their disks are out, and those of all other slots are not, but the meta disk may be
 pub record AreOut {D : Type 0} (slots : List Slot) (members : MemberMap D) (held : DiskSlot → Held D) : Type 0 where
   pub only : (s : Slot) → ¬ IsIn slots s → get members s ≡ None
   pub lent : (s : Slot) (m : Member D) → get members s ≡ Some m → held (disk_slot_of s) ≡ Out
-  pub there : (s : Slot) → get members s ≡ None → held (disk_slot_of s) ≢ Out
+  pub there : (s : Slot) → IsForReplicas (disk_slot_of s) → get members s ≡ None → held (disk_slot_of s) ≢ Out
 
--- before `init` no disk is out
+-- before `init` no disk is out, but the meta disk may be
 abbrev pub OwnedBy : {D : Type 0} {G : Ghosts D} → Option (Members D G) → (DiskSlot → Held D) → Type 0
-OwnedBy None held = (disk_slot : DiskSlot) → held disk_slot ≢ Out
+OwnedBy None held = (disk_slot : DiskSlot) → IsForReplicas disk_slot → held disk_slot ≢ Out
 OwnedBy (Some m) held = AreOut m.slots.items m.net.replicas.members held
 
 -- the count of a slot's disk: where a replica has it, that of the disk, and else the one in the slot

@@ -20,8 +20,9 @@ use Rattle.cluster_members.specs.cluster_core.declared.event.Event.TheVariants a
 use Rattle.cluster_members.specs.replica_exchange.declared.slot.Slot.{Slot}
 use Rattle.cluster_members.specs.session_net.Runs.{slot_at}
 use Rattle.cluster_members.specs.declared.members.Members.{Members}
-use Rattle.first_cluster.specs.Lending.{AreOpened, HasReturned}
+use Rattle.first_cluster.specs.Lending.{AreOpened, HasReturned, HasTaken}
 use Rattle.first_cluster.specs.Slots.{slots_in, slots_of, starts_of}
+use Rattle.first_cluster.specs.declared.first.Lent.{Lent}
 use Rattle.first_cluster.specs.declared.plan.Plan.{Plan}
 
 -- the events that open a list: its placement and its rules
@@ -55,6 +56,40 @@ pub record IsFirst {D : Type 0} {G : Ghosts D} (state : D → DiskState) (rf sha
   pub bag : m.net.bag ≡ []
   pub past : m.past.items ≡ []
   pub stopped : m.stopped.items ≡ replicate (length m.net.state.place.instances) false
+
+-- the plan of a cluster on some nodes
+pub record IsSomePlan (plan : Plan) : Type 0 where
+  pub rf : ℕ
+  pub shards : ℕ
+  pub seed : ℕ
+  pub nodes : List (List ℕ × List ℕ)
+  pub is : IsPlan rf shards seed nodes plan
+
+-- The cluster before its replicas begin, with the starts of these: over the disk of each slot stands one that did no step, behind the events that open the list.
+pub record IsLent {D : Type 0} {G : Ghosts D} (state : D → DiskState) (rf shards seed : ℕ) (nodes : List (List ℕ × List ℕ)) (old new : Depot D) (lent : Lent D G) : Type 0 where
+  pub initial : IsInitial rf shards nodes lent.members.net.state.place
+  pub place : IsFirstPlacement rf shards nodes lent.members.net.state.place
+  pub lawful : IsLawful lent.members.net.state.place
+  pub rules : lent.members.net.state.rules ≡ record { now = 0; spaces = [] }
+  pub seed_is : lent.members.net.state.seed ≡ seed
+  pub slots : lent.members.slots.items ≡ slots_of lent.members.net.state.place
+  pub starts : lent.starts.items ≡ starts_of lent.members.net.state.place
+  pub printed : lent.printed ≡ lent.members.net.state.place
+  pub taken : HasTaken state lent.members.slots.items old lent.members.net.replicas.members new
+  pub events : lent.members.net.replicas.events ≡ opening_of lent.members.net.state
+  pub fates : lent.members.net.fates ≡ fates_of []
+  pub bag : lent.members.net.bag ≡ []
+  pub past : lent.members.past.items ≡ []
+  pub stopped : lent.members.stopped.items ≡ replicate (length lent.members.net.state.place.instances) false
+
+-- the same, on some nodes and over some disks
+pub record IsSomeLent {D : Type 0} {G : Ghosts D} (state : D → DiskState) (now : Depot D) (lent : Lent D G) : Type 0 where
+  pub rf : ℕ
+  pub shards : ℕ
+  pub seed : ℕ
+  pub nodes : List (List ℕ × List ℕ)
+  pub first : Depot D
+  pub is : IsLent state rf shards seed nodes first now lent
 
 -- a disk of one of the placement's slots couldn't be taken
 pub record IsDiskUntaken {D : Type 0} (rf shards seed : ℕ) (nodes : List (List ℕ × List ℕ)) (name : List ℕ) (shard : ℕ) (old new : Depot D) : Type 0 where

@@ -143,3 +143,26 @@ pub record HasGivenBack {D : Type 0} (state : D → DiskState) (slots : List Slo
   pub others : (s : Slot) → ¬ IsIn slots s → get left s ≡ get members s
   pub later : old.faults ≤ new.faults
   pub rose : AreApart slots → RoseBy (risen state old members slots) old.faults new.faults
+
+-- ---- disks that are as they were
+
+-- the slot is as it was
+pub record IsSameAt {D : Type 0} (old new : Depot D) (s : Slot) : Type 0 where
+  pub held : new.held (disk_slot_of s) ≡ old.held (disk_slot_of s)
+  pub counted : new.counted (disk_slot_of s) ≡ old.counted (disk_slot_of s)
+
+-- the slot's disk was taken, and given back as it was
+pub record IsReturned {D : Type 0} (state : D → DiskState) (old new : Depot D) (s : Slot) : Type 0 where
+  pub disk : D
+  pub given : MayGive (λ d. IsEmpty (state d)) (old.held (disk_slot_of s)) disk
+  pub held : new.held (disk_slot_of s) ≡ Here disk
+  pub counted : new.counted (disk_slot_of s) ≡ old.counted (disk_slot_of s)
+
+-- its disk lies where it lay, or is back
+abbrev pub IsLeftAt : {D : Type 0} → (D → DiskState) → Depot D → Depot D → Slot → Type 0
+IsLeftAt state old new s = IsSameAt old new s ⊎ IsReturned state old new s
+
+-- so all are, and the count of faults didn't fall
+pub record AreAsTheyWere {D : Type 0} (state : D → DiskState) (old new : Depot D) : Type 0 where
+  pub each : (s : Slot) → IsLeftAt state old new s
+  pub later : old.faults ≤ new.faults

@@ -1,19 +1,23 @@
 //! What a cluster begins with.
-ghost use Rattle.std.specs.Prelude.{◌≡◌, ◌≢◌, ◌<◌, length, IfOk, IfErr};
+ghost use Rattle.std.specs.Prelude.{◌≡◌, ◌≢◌, ◌<◌, length, IfOk, IfErr, ℕ, List, OnOk, OnErr};
+ghost use Rattle.std.specs.FinMap as finite;
 ghost use Rattle.m3_model.specs.Limits.{IsInit};
+ghost use Rattle.m3_outside.specs.Depots.{Depot};
 ghost use Rattle.m3_outside.specs.Slots.{Out};
 ghost use Rattle.m3_outside.specs.declared.slot.DiskSlot.{DiskSlot};
 ghost use Rattle.cluster_members.specs.session_net.Ready.{IsReady};
-ghost use Rattle.first_cluster.specs.Depots.{AreOut, depot_by};
-ghost use Rattle.first_cluster.specs.First.{IsFirst, IsDiskAnswer, IsRefusedInit};
+ghost use Rattle.first_cluster.specs.Depots.{AreOut, depot_by, IsForReplicas};
+ghost use Rattle.first_cluster.specs.First.{IsFirst, IsDiskAnswer, IsRefusedInit, IsLent, IsPlan, IsSomeLent, IsSomePlan};
+ghost use Rattle.first_cluster.specs.Lending.{AreAsTheyWere, HasReturned};
 
-use crate::lending::opened;
-use crate::plan::planned;
+use crate::lending::{begun, give_all, lent};
+use crate::plan::{Plan, plan_first};
+use crate::start::Start;
 use crate::unopened::Unopened;
 use cluster_members::Members;
 use cluster_members::of_replica_exchange::Slot;
 use cluster_members::of_session_net::Net;
-use m3_model::{Answer, Duplicate, Placement, Seq, Text};
+use m3_model::{Answer, Duplicate, Memory, Placement, Seq, Text};
 use m3_outside::{Disk, Disks};
 use net_plan::Fates;
 use placement_plan::PlaceErr;
@@ -34,6 +38,99 @@ fn untaken(alloc: Global, place: &Placement, slot: Slot) -> Answer
     }
 }
 
+/// A first cluster whose replicas didn't begin yet, with the starts of these and a copy of its placement.
+#[derive(Drop)]
+pub struct Lent<D: Disk> {
+    pub members: Members<D>,
+    pub starts: Vec<Start>,
+    pub printed: Placement,
+}
+
+/// The cluster of the plan, with a replica that did no step over the disk of each slot, and the list of events opened by its placement
+/// and by its rules.
+///
+/// # Errors
+///
+/// The answer: a disk that couldn't be taken, or want of memory. No disk of a replica is out then.
+pub fn lend_first<D: Disk, X: Disks<D = D>>(
+    alloc: Global,
+    disks: &mut X,
+    plan: Plan,
+) -> Result<Lent<D>, Answer>
+    requires planned { IsSomePlan plan }
+    requires free { (slot : DiskSlot) → IsForReplicas slot → X.held disks.old slot ≢ Out }
+    ensures state { IfOk result (λ lent. lent.members.net.state ≡ plan.state) }
+    ensures lent { IfOk result (λ lent. (rf shards seed : ℕ) (nodes : List (List ℕ × List ℕ)) → IsPlan rf shards seed nodes plan → IsLent D.state rf shards seed nodes (depot_by X.held X.counted X.all_faults disks.old) (depot_by X.held X.counted X.all_faults disks.new) lent) }
+    ensures refused { IfErr result (λ answer. (rf shards seed : ℕ) (nodes : List (List ℕ × List ℕ)) → IsPlan rf shards seed nodes plan → IsRefusedInit D.state rf shards seed nodes (depot_by X.held X.counted X.all_faults disks.old) (depot_by X.held X.counted X.all_faults disks.new) answer) }
+{
+    let replicas = match lent(alloc, disks, &plan) {
+        Ok(replicas) => replicas,
+        Err(Unopened::Disk(slot)) => return Err(untaken(alloc, &plan.state.place, slot)),
+        Err(Unopened::Memory) => return Err(Answer::Memory),
+    };
+    let net = Net {
+        state: plan.state,
+        replicas,
+        fates: Fates::empty(alloc),
+        bag: plan.bag,
+    };
+    let members = Members {
+        net,
+        past: Vec::new(alloc),
+        slots: plan.slots,
+        stopped: plan.stopped,
+    };
+    Ok(Lent {
+        members,
+        starts: plan.starts,
+        printed: plan.printed,
+    })
+}
+
+/// Has each replica of a first cluster begin with the tenure that the placement gives it, and gives a copy of the placement. A replica
+/// that refuses that for another reason than want of memory stays, closed.
+///
+/// # Errors
+///
+/// Want of memory. No disk of a replica is out then.
+pub fn begin_first<D: Disk, X: Disks<D = D>>(
+    disks: &mut X,
+    lent: Lent<D>,
+) -> Result<(Members<D>, Placement), Memory>
+    requires lent { IsSomeLent D.state (depot_by X.held X.counted X.all_faults disks.old) lent }
+    ensures state { IfOk result (λ made. made.0.net.state ≡ lent.members.net.state) }
+    ensures members { IfOk result (λ made. (rf shards seed : ℕ) (nodes : List (List ℕ × List ℕ)) (first : Depot D) → IsLent D.state rf shards seed nodes first (depot_by X.held X.counted X.all_faults disks.old) lent → IsFirst D.state rf shards seed nodes first (depot_by X.held X.counted X.all_faults disks.new) made.0) }
+    ensures ready { IfOk result (λ made. IsReady made.0.net.state made.0.net.replicas made.0.net.bag) }
+    ensures placement { IfOk result (λ made. made.1 ≡ made.0.net.state.place) }
+    ensures same { OnOk result (disks.new ≡ disks.old) }
+    ensures returned { OnErr result ((rf shards seed : ℕ) (nodes : List (List ℕ × List ℕ)) (first : Depot D) → IsLent D.state rf shards seed nodes first (depot_by X.held X.counted X.all_faults disks.old) lent → HasReturned D.state first finite.empty (depot_by X.held X.counted X.all_faults disks.new)) }
+{
+    let Lent {
+        mut members,
+        starts,
+        printed,
+    } = lent;
+    let standing = &mut members;
+    let slots = standing.slots.as_slice();
+    let starts = starts.as_slice();
+    match begun(disks, slots, starts, &mut standing.net.replicas) {
+        Ok(()) => Ok((members, printed)),
+        Err(why) => Err(why),
+    }
+}
+
+/// Gives the disks of a first cluster back as they were taken, since its replicas didn't begin. Takes no memory.
+pub fn give_back<D: Disk, X: Disks<D = D>>(disks: &mut X, lent: Lent<D>)
+    requires lent { IsSomeLent D.state (depot_by X.held X.counted X.all_faults disks.old) lent }
+    ensures returned { (rf shards seed : ℕ) (nodes : List (List ℕ × List ℕ)) (first : Depot D) → IsLent D.state rf shards seed nodes first (depot_by X.held X.counted X.all_faults disks.old) lent → HasReturned D.state first finite.empty (depot_by X.held X.counted X.all_faults disks.new) }
+    ensures as_they_were { (rf shards seed : ℕ) (nodes : List (List ℕ × List ℕ)) (first : Depot D) → IsLent D.state rf shards seed nodes first (depot_by X.held X.counted X.all_faults disks.old) lent → AreAsTheyWere D.state first (depot_by X.held X.counted X.all_faults disks.new) }
+{
+    let Lent { mut members, .. } = lent;
+    let standing = &mut members;
+    let slots = standing.slots.as_slice();
+    give_all(disks, slots, &mut standing.net.replicas);
+}
+
 /// The cluster that `init` makes: each shard on the nodes that its plan names, with a replica on each over the disk of its slot,
 /// and the list of events opened by its placement and by the rules of moment 0; and a copy of its placement. Each replica is
 /// begun with the tenure that the placement gives it; one that refuses that stays, closed. All memory but what the machines take
@@ -52,34 +149,24 @@ pub fn first_members<D: Disk, X: Disks<D = D>>(
     nodes: Seq<(Text, Text)>,
 ) -> Result<(Members<D>, Placement), Answer>
     requires limits { IsInit rf shards seed nodes }
-    requires free { (slot : DiskSlot) → X.held disks.old slot ≢ Out }
+    requires free { (slot : DiskSlot) → IsForReplicas slot → X.held disks.old slot ≢ Out }
     ensures members { IfOk result (λ made. IsFirst D.state rf shards seed nodes (depot_by X.held X.counted X.all_faults disks.old) (depot_by X.held X.counted X.all_faults disks.new) made.0) }
     ensures ready { IfOk result (λ made. IsReady made.0.net.state made.0.net.replicas made.0.net.bag) }
     ensures owned { IfOk result (λ made. AreOut made.0.slots.items made.0.net.replicas.members (X.held disks.new)) }
     ensures placement { IfOk result (λ made. made.1 ≡ made.0.net.state.place) }
     ensures refused { IfErr result (IsRefusedInit D.state rf shards seed nodes (depot_by X.held X.counted X.all_faults disks.old) (depot_by X.held X.counted X.all_faults disks.new)) }
 {
-    let plan = match planned(alloc, rf, shards, seed, nodes) {
+    let plan = match plan_first(alloc, rf, shards, seed, nodes) {
         Ok(plan) => plan,
         Err(PlaceErr::Group { shard }) => return Err(Answer::Group { shard }),
         Err(_) => return Err(Answer::Memory),
     };
-    let replicas = match opened(alloc, disks, &plan) {
-        Ok(replicas) => replicas,
-        Err(Unopened::Disk(slot)) => return Err(untaken(alloc, &plan.state.place, slot)),
-        Err(Unopened::Memory) => return Err(Answer::Memory),
+    let lent = match lend_first(alloc, disks, plan) {
+        Ok(lent) => lent,
+        Err(refused) => return Err(refused),
     };
-    let net = Net {
-        state: plan.state,
-        replicas,
-        fates: Fates::empty(alloc),
-        bag: plan.bag,
-    };
-    let members = Members {
-        net,
-        past: Vec::new(alloc),
-        slots: plan.slots,
-        stopped: plan.stopped,
-    };
-    Ok((members, plan.printed))
+    match begin_first(disks, lent) {
+        Ok(made) => Ok(made),
+        Err(_) => Err(Answer::Memory),
+    }
 }

@@ -1,5 +1,5 @@
 //! Replicas over the disks of their slots, and the disks given back.
-ghost use Rattle.std.specs.Prelude.{◌≡◌, ◌≢◌, ◌≤◌, ◌*◌, ℕ, Some, length, IfOk, OnOk, IfErr};
+ghost use Rattle.std.specs.Prelude.{◌≡◌, ◌≢◌, ◌*◌, ℕ, Some, length, IfOk, OnOk, OnErr, IfErr};
 ghost use Rattle.std.specs.FinMap as finite;
 ghost use Rattle.m3_model.specs.Members.{IsIn};
 ghost use Rattle.m3_outside.specs.Slots.{Out};
@@ -9,10 +9,12 @@ ghost use Rattle.cluster_members.specs.cluster_core.Replicas.{replica, fresh};
 ghost use Rattle.cluster_members.specs.replica_exchange.MachineCalls.{HasRoom};
 ghost use Rattle.cluster_members.specs.replica_exchange.declared.member.Member.{Member as Replica};
 ghost use Rattle.cluster_members.specs.replica_exchange.declared.slot.Slot.{Slot as AtSlot};
+ghost use Rattle.m3_outside.specs.Depots.{Depot};
+ghost use Rattle.first_cluster.specs.Begins.{HaveBegun};
 ghost use Rattle.first_cluster.specs.Depots.{depot_by, disk_slot_of};
 ghost use Rattle.first_cluster.specs.First.{opening_of};
-ghost use Rattle.first_cluster.specs.Lending.{IsFree, IsDiskTaken, KeepsOthers, HasTaken, MayHaveTaken, AreOpened, IsUnopened, HasGivenBack, first_tenure};
-ghost use Rattle.first_cluster.specs.Slots.{AreApart, slots_in, starts_of};
+ghost use Rattle.first_cluster.specs.Lending.{IsFree, IsDiskTaken, KeepsOthers, HasReturned, HasTaken, MayHaveTaken, IsUnopened, HasGivenBack, first_tenure};
+ghost use Rattle.first_cluster.specs.Slots.{AreApart, slots_in, slots_of};
 ghost use Rattle.first_cluster.specs.declared.start.Start.{Start as AtStart};
 
 use crate::begins::begin_all;
@@ -81,7 +83,7 @@ fn take_all<D: Disk, X: Disks<D = D>>(
     requires apart { AreApart slots.now }
     requires none { replicas.old.members ≡ finite.empty }
     requires new { (n s : ℕ) → replica n s replicas.old.events ≡ fresh }
-    requires free { (s : AtSlot) → X.held disks.old (disk_slot_of s) ≢ Out }
+    requires free { (s : AtSlot) → IsIn slots.now s → X.held disks.old (disk_slot_of s) ≢ Out }
     ensures ok { OnOk result (HasTaken D.state slots.now (depot_by X.held X.counted X.all_faults disks.old) replicas.new.members (depot_by X.held X.counted X.all_faults disks.new)) }
     ensures err { IfErr result (MayHaveTaken D.state slots.now (depot_by X.held X.counted X.all_faults disks.old) replicas.new.members (depot_by X.held X.counted X.all_faults disks.new)) }
     ensures list { replicas.new.events ≡ replicas.old.events }
@@ -106,32 +108,6 @@ pub fn give_all<D: Disk, X: Disks<D = D>>(disks: &mut X, slots: &[Slot], replica
     }
 }
 
-// Takes the disks of the slots and begins the replicas over them.
-fn open_all<D: Disk, X: Disks<D = D>>(
-    alloc: Global,
-    disks: &mut X,
-    slots: &[Slot],
-    starts: &[Start],
-    replicas: &mut Replicas<D>,
-) -> Result<(), Unopened>
-    requires apart { AreApart slots.now }
-    requires slots { slots.now ≡ slots_in starts.now }
-    requires first { (s : AtStart) → IsIn starts.now s → s.tenure ≡ first_tenure }
-    requires tenures { (s : AtStart) → IsIn starts.now s → HasTenure replicas.old.events s.slot.node s.slot.shard s.tenure }
-    requires room { HasRoom (2 * length starts.now) replicas.old.events }
-    requires none { replicas.old.members ≡ finite.empty }
-    requires new { (n s : ℕ) → replica n s replicas.old.events ≡ fresh }
-    requires free { (s : AtSlot) → X.held disks.old (disk_slot_of s) ≢ Out }
-    ensures ok { OnOk result (AreOpened D.state slots.now starts.now replicas.old.events (depot_by X.held X.counted X.all_faults disks.old) (depot_by X.held X.counted X.all_faults disks.new) replicas.new) }
-    ensures err { IfErr result (MayHaveTaken D.state slots.now (depot_by X.held X.counted X.all_faults disks.old) replicas.new.members (depot_by X.held X.counted X.all_faults disks.new)) }
-{
-    take_all(alloc, disks, slots, replicas)?;
-    match begin_all(replicas, starts) {
-        Ok(()) => Ok(()),
-        Err(_) => Err(Unopened::Memory),
-    }
-}
-
 // No replicas yet, and the list that such a cluster opens.
 fn listed<D: Disk>(alloc: Global, state: &MetaState) -> Replicas<D>
     requires { IsLawful state.now.place }
@@ -141,29 +117,53 @@ fn listed<D: Disk>(alloc: Global, state: &MetaState) -> Replicas<D>
     Replicas::new(alloc, trail)
 }
 
-// Replicas over the disks of the plan's slots, begun for the first time behind the events that open the list. One that refuses
-// that for another reason than want of memory stays, closed. Refused: a slot whose disk couldn't be taken, by a fault of the
-// disks' own, or want of memory; no disk is out then.
-pub(crate) fn opened<D: Disk, X: Disks<D = D>>(
+// Replicas over the disks of the plan's slots, which didn't begin, behind the events that open the list. Refused: a slot whose disk
+// couldn't be taken, by a fault of the disks' own, or want of memory; no disk is out then.
+pub(crate) fn lent<D: Disk, X: Disks<D = D>>(
     alloc: Global,
     disks: &mut X,
     plan: &Plan,
 ) -> Result<Replicas<D>, Unopened>
     requires lawful { IsLawful plan.now.state.place }
-    requires starts { plan.now.starts.items ≡ starts_of plan.now.state.place }
-    requires slots { plan.now.slots.items ≡ slots_in plan.now.starts.items }
-    requires first { (s : AtStart) → IsIn (starts_of plan.now.state.place) s → s.tenure ≡ first_tenure }
-    requires few { length (starts_of plan.now.state.place) ≤ 1024 }
-    requires free { (s : AtSlot) → X.held disks.old (disk_slot_of s) ≢ Out }
-    ensures ok { IfOk result (AreOpened D.state plan.now.slots.items plan.now.starts.items (opening_of plan.now.state) (depot_by X.held X.counted X.all_faults disks.old) (depot_by X.held X.counted X.all_faults disks.new)) }
+    requires slots { plan.now.slots.items ≡ slots_of plan.now.state.place }
+    requires free { (s : AtSlot) → IsIn plan.now.slots.items s → X.held disks.old (disk_slot_of s) ≢ Out }
+    ensures ok { IfOk result (λ replicas. HasTaken D.state plan.now.slots.items (depot_by X.held X.counted X.all_faults disks.old) replicas.members (depot_by X.held X.counted X.all_faults disks.new)) }
+    ensures list { IfOk result (λ replicas. replicas.events ≡ opening_of plan.now.state) }
     ensures err { IfErr result (IsUnopened D.state plan.now.slots.items (depot_by X.held X.counted X.all_faults disks.old) (depot_by X.held X.counted X.all_faults disks.new)) }
 {
     let mut replicas = listed(alloc, &plan.state);
     let slots = plan.slots.as_slice();
-    match open_all(alloc, disks, slots, plan.starts.as_slice(), &mut replicas) {
+    match take_all(alloc, disks, slots, &mut replicas) {
         Ok(()) => Ok(replicas),
         Err(why) => {
             give_all(disks, slots, &mut replicas);
+            Err(why)
+        }
+    }
+}
+
+// Begins the replicas of the starts over the disks that were taken for them. One that refuses that for another reason than want of
+// memory stays, closed. For want of memory no disk is out.
+pub(crate) fn begun<D: Disk, X: Disks<D = D>>(
+    disks: &mut X,
+    slots: &[Slot],
+    starts: &[Start],
+    replicas: &mut Replicas<D>,
+) -> Result<(), Memory>
+    requires apart { AreApart slots.now }
+    requires slots { slots.now ≡ slots_in starts.now }
+    requires first { (s : AtStart) → IsIn starts.now s → s.tenure ≡ first_tenure }
+    requires tenures { (s : AtStart) → IsIn starts.now s → HasTenure replicas.old.events s.slot.node s.slot.shard s.tenure }
+    requires room { HasRoom (2 * length starts.now) replicas.old.events }
+    requires taken { (first : Depot D) × HasTaken D.state slots.now first replicas.old.members (depot_by X.held X.counted X.all_faults disks.old) }
+    ensures ok { OnOk result (HaveBegun D.state starts.now replicas.old replicas.new) }
+    ensures same { OnOk result (disks.new ≡ disks.old) }
+    ensures err { OnErr result ((first : Depot D) → HasTaken D.state slots.now first replicas.old.members (depot_by X.held X.counted X.all_faults disks.old) → HasReturned D.state first finite.empty (depot_by X.held X.counted X.all_faults disks.new)) }
+{
+    match begin_all(replicas, starts) {
+        Ok(()) => Ok(()),
+        Err(why) => {
+            give_all(disks, slots, replicas);
             Err(why)
         }
     }

@@ -6,10 +6,11 @@ mod begins;
 pub mod first;
 pub mod laws;
 pub mod lending;
-mod plan;
+pub mod plan;
 pub mod start;
 mod unopened;
 
-pub use first::first_members;
+pub use first::{Lent, begin_first, first_members, give_back, lend_first};
 pub use lending::give_all;
+pub use plan::{Plan, plan_first};
 pub use start::Start;

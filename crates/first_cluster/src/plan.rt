@@ -13,9 +13,9 @@ use net_plan::Bag;
 use placement_plan::PlaceErr;
 use std::alloc::Global;
 
-// What a cluster is to be.
+/// What a first cluster is to be.
 #[derive(Drop)]
-pub(crate) struct Plan {
+pub struct Plan {
     pub(crate) state: MetaState,
     pub(crate) starts: Vec<Start>,
     pub(crate) slots: Vec<Slot>,
@@ -67,9 +67,21 @@ fn none_stopped(alloc: Global, nodes: usize) -> Result<Vec<bool>, Memory>
     Ok(stopped)
 }
 
-// What `init` is to make of these nodes. Refused `Group` of shard 0 where these are in fewer than `rf` isolation groups; and for
-// want of memory.
-pub(crate) fn planned(
+impl Plan {
+    /// The state that it begins with.
+    pub fn state(&self) -> &MetaState
+        ensures { result.now ≡ self.now.state }
+    {
+        &self.state
+    }
+}
+
+/// What `init` is to make of these nodes, with all memory that it takes but that of its replicas.
+///
+/// # Errors
+///
+/// `Group` of shard 0 exactly where the nodes are in fewer than `rf` isolation groups, unless memory was wanted; and want of memory.
+pub fn plan_first(
     alloc: Global,
     rf: u32,
     shards: u32,

@@ -3,8 +3,11 @@ pub mod GatherLemmas
 pub mod CauseLemmas
 pub mod LineLemmas
 pub mod FaultLemmas
+pub mod StateLemmas
+pub mod MetaLemmas
 pub mod PromiseLemmas
 pub mod FreshLemmas
+pub mod CloseLemmas
 pub mod ExchangeLemmas
 pub mod StreamLemmas
 pub mod RunLemmas

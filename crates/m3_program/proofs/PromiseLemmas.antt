@@ -1,36 +1,110 @@
 -- What a run promises, after the requests that it took.
-use Rattle.std.proofs.Common.{ℕ, ◌+◌, ◌<◌, ◌≤◌, List, [], ◌∷◌, ◌++◌, length, length-append, sym, subst, append-nil, arith, Bool, true}
-use Rattle.std.specs.Prelude.{Option, Some, None}
-use Rattle.std.proofs.lemmas.List.Elements.{All-nil}
+use Rattle.std.proofs.Common.{◌≡◌, ℕ, ◌+◌, ◌-◌, ◌<◌, ◌≤◌, ◌⊎◌, List, [], ◌∷◌, ◌++◌, length, length-append, sym, ap, subst, ◌∙◌, inl, inr, append-nil, arith, refl, Bool, true}
+use Rattle.std.specs.Prelude.{Option, Some, None, Result, Ok, count_by}
+use Rattle.m3_model.specs.declared.rules.MetaState.{MetaState}
+use Rattle.m3_model.specs.declared.turn.Reply.{Reply}
+use Rattle.m3_model.specs.declared.turn.Reply.TheVariants as reply
 use Rattle.m3_model.specs.declared.turn.Request.{Request}
+use Rattle.m3_model.specs.declared.turn.Request.TheVariants as request
 use Rattle.m3_model.specs.declared.turn.Turn.{Turn}
-use Rattle.m3_model.proofs.SplitLemmas.{not_empty}
 use Rattle.m3_model.proofs.Lists.{All-from_each}
+use Rattle.transcripts.specs.Faults.{is_taking}
 use Rattle.transcripts.specs.Kept.{Kept}
-use Rattle.transcripts.specs.Record.{Life}
+use Rattle.transcripts.specs.Placements.{placement_after}
+use Rattle.transcripts.specs.Record.{Life, inner_turns}
 use Rattle.m3_outside.specs.Causes.{RoseBy}
 use Rattle.m3_outside.specs.DiskState.{DiskState, IsLawfulDisk}
 use Rattle.m3_outside.specs.declared.disk.Disk.{Ghosts}
+use Rattle.m3_outside.specs.declared.slot.DiskSlot.{DiskSlot}
 use Rattle.m3_outside.specs.Depots.{Depot}
-use Rattle.served_cluster.specs.Ends.{AreGivenBack}
-use Rattle.served_cluster.specs.Tracks.{faults_of}
-use Rattle.served_cluster.proofs.EndLemmas.{caused_where_tracked, kept_where_tracked, shown_where_tracked}
-use Rattle.served_cluster.specs.Owned.{TracksTurns}
+use Rattle.m3_outside.specs.Slots.{Held, Out}
+use Rattle.saved_cluster.specs.cluster_members.declared.members.Members.{Members}
+use Rattle.saved_cluster.specs.first_cluster.Depots.{IsForReplicas, RisesBy, count_at, disk_slot_of, meta_slot, risen}
+use Rattle.saved_cluster.proofs.first_cluster_proofs.SlotCases.{other_disk_slot}
+use Rattle.saved_cluster.proofs.first_cluster_proofs.SlotLists.{slot_or_other}
+use Rattle.saved_cluster.specs.replica_exchange.declared.slot.Slot.{Slot}
+use Rattle.saved_cluster.specs.session_net.Runs.{slot_at}
+use Rattle.saved_cluster.specs.served_cluster.Ends.{AreGivenBack, is_failed_at, replica_at}
+use Rattle.saved_cluster.specs.served_cluster.Tracks.{faults_of}
+use Rattle.saved_cluster.proofs.served_cluster_proofs.EndLemmas.{caused_where_tracked, kept_where_tracked, shown_where_tracked}
+use Rattle.saved_cluster.specs.served_cluster.Acts.{ServesRequest}
+use Rattle.saved_cluster.specs.served_cluster.Owned.{TracksTurns, place_of}
+use Rattle.saved_cluster.specs.served_cluster.Plans.{state_of}
+use Rattle.saved_cluster.specs.Saved.{ElapsesBy, IsSaved, MayClose, MayServeSaved, ServesRequestSome, TracksRequest}
+use Rattle.saved_cluster.specs.declared.saved.SavedCluster.{SavedCluster}
+use Rattle.saved_cluster.specs.States.{kept_of}
+use Rattle.saved_cluster.specs.declared.lost.Lost.{Lost}
+use Rattle.saved_cluster.proofs.OutLemmas.{meta_at}
 use Rattle.m3_program.specs.Exchanges.{Exchange, turns_of}
-use Rattle.m3_program.specs.Faults.{Counts, IsOfRun, counts_of, one_for}
+use Rattle.m3_program.specs.Faults.{IsOfRun, counts_of, one_for}
 use Rattle.m3_program.specs.Runs.{HasCauses}
-use Rattle.m3_program.specs.Streams.{AreExchangesServed, Progress, PromisesSo, Stage}
+use Rattle.m3_program.specs.Saved.{LeaveState}
+use Rattle.m3_program.specs.Streams.{HaveServed, IsFresh, Opening, Progress, PromisesSo, Stage, StandsAfter, opening_at}
+use Rattle.m3_program.proofs.MetaLemmas.{counted_stays, lost_leaves, saved_leaves}
+use Rattle.m3_program.proofs.StateLemmas.{leave_nothing, leave_on}
 
 -- ---- while the disks are out
 
--- after these exchanges, whatever request was taken and not served
-pub promised : {D : Type 0} {G : Ghosts D} (state : D → DiskState) (first : Depot D) (now : Stage D G) (xs : List Exchange) (unanswered : Option Request) → Progress state first xs now → PromisesSo state first now xs unanswered
-promised state first now xs unanswered p = λ tells empty. record { more = []; few = omega arith; tracks = subst (λ ts. TracksTurns state tells first now.depot ts now.cluster) (sym (append-nil (turns_of xs))) (p.tracks tells empty) }
+-- a cluster that may serve may be closed
+pub may_close : {D : Type 0} {G : Ghosts D} (state : D → DiskState) (c : SavedCluster D G) (held : DiskSlot → Held D) → MayServeSaved state c held → MayClose c held
+may_close state c held may = record { cluster = may.cluster; meta_out = may.meta_out }
 
--- after these exchanges and one more request that was served
-pub promised_more : {D : Type 0} {G : Ghosts D} (state : D → DiskState) (tells : Bool) (first : Depot D) (now : Stage D G) (xs : List Exchange) (turn : Turn) (request : Request) → TracksTurns state tells first now.depot (turns_of xs ++ turn ∷ []) now.cluster
-    → AreExchangesServed state tells first now xs (Some request)
-promised_more state tells first now xs turn request t = record { more = turn ∷ []; few = omega arith; tracks = t }
+-- before the first turn
+pub begins_so : {D : Type 0} {G : Ghosts D} (state : D → DiskState) (now : Stage D G) → IsFresh state now → StandsAfter state (opening_at now) [] now
+begins_so state now fresh = record { leave = leave_nothing (state_of now.saved.cluster); saved = fresh.saved; counted = refl; tracks = fresh.tracks }
+
+-- nothing more was served after these turns
+pub stood : {D : Type 0} {G : Ghosts D} (state : D → DiskState) (first : Opening D) (now : Stage D G) (turns : List Turn) (unanswered : Option Request) → StandsAfter state first turns now → HaveServed state first now turns unanswered
+stood state first now turns unanswered s = record {
+  leaves = saved_leaves (state now.saved.meta) first.start (state_of now.saved.cluster) turns unanswered s.leave s.saved;
+  counted = s.counted;
+  tracked = λ tells may. record { more = []; few = omega arith; tracks = subst (λ ts. TracksTurns state tells first.depot now.depot ts now.saved.cluster) (sym (append-nil turns)) (s.tracks tells may) };
+}
+
+-- after these exchanges, whatever request was taken and not served
+pub promised : {D : Type 0} {G : Ghosts D} (state : D → DiskState) (first : Opening D) (now : Stage D G) (xs : List Exchange) (unanswered : Option Request) → Progress state first xs now → PromisesSo state first now xs unanswered
+promised state first now xs unanswered p = stood state first now (turns_of xs) unanswered p.stands
+
+-- what came of a request that was served, whether or not it got a reply
+pub record Serving {D : Type 0} {G : Ghosts D} (state : D → DiskState) (old : Stage D G) (asked : Request) (answered : Result Reply Lost) (new : Stage D G) : Type 0 where
+  pub out : old.depot.held meta_slot ≡ Out
+  pub served : ServesRequestSome state old.depot old.saved.cluster asked answered new.depot new.saved.cluster
+  pub tracks : (tells : Bool) (first : Depot D) (turns : List Turn) → TracksTurns state tells first old.depot turns old.saved.cluster → TracksRequest state tells first new.depot turns asked answered new.saved
+  pub any_moment : (state old.saved.meta).tells ≡ true → ElapsesBy (state_of old.saved.cluster) (kept_of old.saved.cluster) asked (state old.saved.meta) (state new.saved.meta)
+  pub tells : (state new.saved.meta).tells ≡ (state old.saved.meta).tells
+
+module _ {D : Type 0} {G : Ghosts D} (state : D → DiskState) (old new : Stage D G) where
+  counted_so : (asked : Request) (said : Reply) → old.depot.held meta_slot ≡ Out → ServesRequest state old.depot old.saved.cluster asked said new.depot new.saved.cluster → new.depot.counted meta_slot ≡ old.depot.counted meta_slot
+  counted_so (request.One a) (reply.One b) out h = counted_stays state old.depot old.saved.cluster a b new.depot new.saved.cluster h out
+  counted_so _ _ out h = absurd h
+
+  -- it may have been served, and got no reply
+  pub lost_so : (first : Opening D) (turns : List Turn) (asked : Request) (answered : Result Reply Lost) → StandsAfter state first turns old → Serving state old asked answered new → HaveServed state first new turns (Some asked)
+  lost_so first turns asked answered was s = record {
+    leaves = lost_leaves (state old.saved.meta) (state new.saved.meta) first.start (state_of old.saved.cluster) turns (kept_of old.saved.cluster) asked s.tells was.leave was.saved s.any_moment;
+    counted = counted_so asked s.served.0 s.out s.served.2 ∙ was.counted;
+    tracked = λ tells may.
+        let next = s.tracks tells first.depot turns (was.tracks tells may) in
+        record { more = record { request = asked; reply = next.0 } ∷ []; few = omega arith; tracks = next.2 };
+  }
+
+  led_so : (start : Option MetaState) (turns : List Turn) (asked : Request) (said : Reply) → LeaveState start turns (state_of old.saved.cluster) → ServesRequest state old.depot old.saved.cluster asked said new.depot new.saved.cluster
+      → placement_after (place_of old.saved.cluster) (inner_turns (record { request = asked; reply = said } ∷ [])) ≡ place_of new.saved.cluster → LeaveState start (turns ++ record { request = asked; reply = said } ∷ []) (state_of new.saved.cluster)
+  led_so start turns (request.One a) (reply.One b) leave h stands = leave_on state start turns old.depot new.depot old.saved.cluster new.saved.cluster a b h stands leave
+  led_so start turns _ _ leave h stands = absurd h
+
+  -- it was served, and got this reply
+  pub served_so : (first : Opening D) (turns : List Turn) (asked : Request) (said : Reply) → StandsAfter state first turns old → Serving state old asked (Ok said) new
+      → placement_after (place_of old.saved.cluster) (inner_turns (record { request = asked; reply = said } ∷ [])) ≡ place_of new.saved.cluster → IsSaved (state_of new.saved.cluster) (state new.saved.meta)
+      → StandsAfter state first (turns ++ record { request = asked; reply = said } ∷ []) new
+  served_so first turns asked said was s stands saved = record {
+    leave = led_so first.start turns asked said was.leave (subst (λ r. ServesRequest state old.depot old.saved.cluster asked r new.depot new.saved.cluster) (sym s.served.1) s.served.2) stands;
+    saved = saved;
+    counted = counted_so asked s.served.0 s.out s.served.2 ∙ was.counted;
+    tracks = λ tells may.
+        let next = s.tracks tells first.depot turns (was.tracks tells may) in
+        subst (λ r. TracksTurns state tells first.depot new.depot (turns ++ record { request = asked; reply = r } ∷ []) new.saved.cluster) (sym next.1) next.2;
+  }
 
 -- ---- when the disks are given back
 
@@ -39,53 +113,78 @@ abbrev pub first_life : List Turn → Option Request → Life
 first_life turns unanswered = record { past = []; present = record { start = None; turns = turns; unanswered = unanswered } }
 
 -- what the reads had to keep, also where a turn more was served
-pub kept_closed : {D : Type 0} {G : Ghosts D} (state : D → DiskState) (first : Depot D) (mid : Stage D G) (turns more : List Turn) (unanswered : Option Request) → TracksTurns state true first mid.depot (turns ++ more) mid.cluster
+pub kept_closed : {D : Type 0} {G : Ghosts D} (state : D → DiskState) (first : Depot D) (mid : Stage D G) (turns more : List Turn) (unanswered : Option Request) → TracksTurns state true first mid.depot (turns ++ more) mid.saved.cluster
     → Kept (first_life turns unanswered)
-kept_closed state first mid turns more unanswered tracks = kept_where_tracked state mid.cluster.members first mid.depot turns more mid.cluster.calls unanswered tracks
+kept_closed state first mid turns more unanswered tracks = kept_where_tracked state mid.saved.cluster.members first mid.depot turns more mid.saved.cluster.calls unanswered tracks
 
 -- a line of these turns is one of a request that was taken
 line_taken : (turns more : List Turn) (unanswered : Option Request) (line : ℕ) → length more ≤ one_for unanswered → line < length (turns ++ more) → line < length turns + one_for unanswered
 line_taken turns more unanswered line few low = let all = length-append turns more in omega (arith, few, low, all)
 
--- the causes, shown by the counts
-pub causes_closed : {D : Type 0} {G : Ghosts D} (state : D → DiskState) → ((d : D) → IsLawfulDisk (state d)) → (tells : Bool) (first : Depot D) (mid : Stage D G) (now : Counts) (turns more : List Turn) (unanswered : Option Request)
-    → length more ≤ one_for unanswered → AreGivenBack state mid.depot mid.cluster.members now.all now.of_disk → TracksTurns state tells first mid.depot (turns ++ more) mid.cluster → HasCauses tells (counts_of first) now (first_life turns unanswered)
-causes_closed state lawful tells first mid now turns more unanswered few back tracks =
-    let members = mid.cluster.members in
-    let calls = mid.cluster.calls in
-    let shown = shown_where_tracked state lawful members tells first mid.depot (turns ++ more) calls now.all now.of_disk tracks back in
-    record {
-      faults = faults_of tracks;
-      counted = record {
-        of_run = All-from_each (IsOfRun tells (first_life turns unanswered).present) (faults_of tracks)
-            (λ f i. record { in_run = line_taken turns more unanswered f.line few (shown.of_lines f i); undamaged = λ e. shown.undamaged e f i });
-        of_taking = shown.of_taking;
-        of_disks = shown.of_disks;
-        of_all = shown.of_all;
-      };
-      caused = caused_where_tracked state members tells first mid.depot turns more calls unanswered tracks;
-    }
+-- What is counted at the end of a run that began so: of the disks of replicas what these did, and of the meta disk, which was out, no less than before.
+pub record Closes {D : Type 0} {G : Ghosts D} (state : D → DiskState) (before : Depot D) (first : Opening D) (mid : Stage D G) (last : Depot D) : Type 0 where
+  pub same : (disk_slot : DiskSlot) → first.depot.counted disk_slot ≡ before.counted disk_slot
+  pub opened : before.faults ≤ first.depot.faults
+  pub no_replica : replica_at mid.saved.cluster.members meta_at ≡ None
+  pub counted : (s : Slot) → IsForReplicas (disk_slot_of s) → last.counted (disk_slot_of s) ≡ count_at state mid.depot (replica_at mid.saved.cluster.members s) s
+  pub meta_later : first.depot.counted meta_slot ≤ last.counted meta_slot
+  pub rose : RisesBy state mid.depot mid.saved.cluster.members last.faults
+  pub later : mid.depot.faults ≤ last.faults
 
--- ---- a run without a request
+rose_later : (n a b c : ℕ) → RoseBy n a b → b ≤ c → RoseBy n a c
+rose_later n a b c rose on = omega (arith, rose, on)
 
--- nothing was read
-pub kept_nothing : Kept (first_life [] None)
-kept_nothing p at = absurd (not_empty p.lines p.line at.after at.in_run)
+rose_before : (n a b c : ℕ) → a ≤ b → RoseBy n b c → RoseBy n a c
+rose_before n a b c on rose = omega (arith, rose, on)
 
--- a count rose by nothing
-rose_none : (n : ℕ) → RoseBy 0 n n
-rose_none n = omega arith
+-- it rose by so much, and later by more
+rose_between : (n m a b c : ℕ) → RoseBy n a b → RoseBy m b c → RoseBy n a c
+rose_between n m a b c one two = omega (arith, one, two)
 
--- and nothing is caused
-pub causes_nothing : (tells : Bool) (now : Counts) → HasCauses tells now now (first_life [] None)
-causes_nothing tells now = record {
-  faults = [];
-  counted = record { of_run = All-nil (IsOfRun tells (first_life [] None).present); of_taking = rose_none now.all; of_disks = λ slot. rose_none (now.of_disk slot); of_all = λ low each. omega arith };
-  caused = record {
-    different = tt;
-    delivered = λ p. [];
-    each = λ p at. absurd (not_empty p.lines p.line at.after at.in_run);
-    once = λ p q at there a b i j same. absurd i;
-    whole = λ before line after e. absurd (not_empty before line after e);
-  };
-}
+-- the count of all faults rose also as the meta disk was given back
+pub rises_on : {D : Type 0} {G : Ghosts D} (state : D → DiskState) (depot : Depot D) (members : Option (Members D G)) (between more last : ℕ) → RisesBy state depot members between → RoseBy more between last → RisesBy state depot members last
+rises_on state depot None between more last rises rose = tt
+rises_on state depot (Some m) between more last rises rose = λ apart. rose_between (risen state depot m.net.replicas.members m.slots.items) more depot.faults between last (rises apart) rose
+
+module _ {D : Type 0} {G : Ghosts D} (state : D → DiskState) (before : Depot D) (first : Opening D) (mid : Stage D G) (last : Depot D) (c : Closes state before first mid last) (kept : mid.depot.counted meta_slot ≡ first.depot.counted meta_slot) where
+  -- what the disk of the slot counts, be it a replica's or not
+  abbrev count_in : DiskSlot → ℕ
+  count_in disk_slot = count_at state mid.depot (replica_at mid.saved.cluster.members (slot_at disk_slot.node disk_slot.shard)) (slot_at disk_slot.node disk_slot.shard)
+
+  given_back : AreGivenBack state mid.depot mid.saved.cluster.members last.faults count_in
+  given_back = record { later = c.later; counted = λ s. refl; rose = c.rose }
+
+  -- that of the meta disk is what it was
+  meta_in : count_in meta_slot ≡ first.depot.counted meta_slot
+  meta_in = ap (λ o. count_at state mid.depot o meta_at) c.no_replica ∙ kept
+
+  counts_on : (disk_slot : DiskSlot) → count_in disk_slot ≤ last.counted disk_slot
+  counts_on disk_slot = by (slot_or_other (slot_at disk_slot.node disk_slot.shard) meta_at)
+    where
+      by : (slot_at disk_slot.node disk_slot.shard ≡ meta_at) ⊎ ¬ (slot_at disk_slot.node disk_slot.shard ≡ meta_at) → count_in disk_slot ≤ last.counted disk_slot
+      by (inl same) = subst (λ (t : Slot). count_in (disk_slot_of t) ≤ last.counted (disk_slot_of t)) (sym same) (let is = meta_in in let on = c.meta_later in omega (arith, is, on))
+      by (inr other) = let is = c.counted (slot_at disk_slot.node disk_slot.shard) (other_disk_slot (slot_at disk_slot.node disk_slot.shard) meta_at other) in omega (arith, is)
+
+  -- the causes, shown by the counts
+  pub causes_closed : ((d : D) → IsLawfulDisk (state d)) → (tells : Bool) (turns more : List Turn) (unanswered : Option Request) → length more ≤ one_for unanswered → TracksTurns state tells first.depot mid.depot (turns ++ more) mid.saved.cluster
+      → HasCauses tells (counts_of before) (counts_of last) (first_life turns unanswered)
+  causes_closed lawful tells turns more unanswered few tracks =
+      let members = mid.saved.cluster.members in
+      let calls = mid.saved.cluster.calls in
+      let shown = shown_where_tracked state lawful members tells first.depot mid.depot (turns ++ more) calls last.faults count_in tracks given_back in
+      record {
+        faults = faults_of tracks;
+        counted = record {
+          of_run = All-from_each (IsOfRun tells (first_life turns unanswered).present) (faults_of tracks)
+              (λ f i. record { in_run = line_taken turns more unanswered f.line few (shown.of_lines f i); undamaged = λ e. shown.undamaged e f i });
+          of_taking = rose_before (count_by (λ f. is_taking f.kind) (faults_of tracks)) before.faults first.depot.faults last.faults c.opened shown.of_taking;
+          of_disks = λ disk_slot.
+              let n = count_by (is_failed_at disk_slot) (faults_of tracks) in
+              subst (λ k. RoseBy n k (last.counted disk_slot)) (c.same disk_slot) (rose_later n (first.depot.counted disk_slot) (count_in disk_slot) (last.counted disk_slot) (shown.of_disks disk_slot) (counts_on disk_slot));
+          of_all = λ low each.
+              let all = shown.of_all low (λ disk_slot. let on = counts_on disk_slot in let below = each disk_slot in omega (arith, on, below)) in
+              let opened = c.opened in
+              omega (arith, all, opened);
+        };
+        caused = caused_where_tracked state members tells first.depot mid.depot turns more calls unanswered tracks;
+      }

@@ -1,26 +1,31 @@
 -- What is known of a run so far, where its source and its sink tell, and how it ends.
-use Rattle.std.proofs.Common.{◌≡◌, ℕ, ◌+◌, ◌<◌, ◌≤◌, List, [], ◌++◌, length, length-append, refl, sym, ap, ◌∙◌, subst, append_assoc, append-nil, arith, true}
+use Rattle.std.proofs.Common.{◌≡◌, ℕ, ◌+◌, ◌<◌, ◌≤◌, List, [], ◌++◌, length, length-append, refl, sym, ap, ◌∙◌, subst, append_assoc, append-nil, arith}
 use Rattle.m3_model.specs.declared.limits.TheConstants.{INPUT_END}
 use Rattle.std.specs.Prelude.{Option, Some, None}
 use Rattle.std.specs.Io.KnownBytes.{Appends, Consumes, IsAtEnd}
 use Rattle.m3_outside.specs.DiskState.{DiskState, IsLawfulDisk}
 use Rattle.m3_outside.specs.declared.disk.Disk.{Ghosts}
-use Rattle.m3_model.proofs.SplitLemmas.{not_empty}
 use Rattle.m3_outside.specs.Depots.{Depot}
-use Rattle.served_cluster.specs.Ends.{AreGivenBack}
+use Rattle.m3_outside.specs.Slots.{Here}
+use Rattle.saved_cluster.specs.first_cluster.Depots.{meta_slot}
+use Rattle.saved_cluster.specs.served_cluster.Plans.{state_of}
+use Rattle.saved_cluster.specs.Openings.{IsOpened}
+use Rattle.saved_cluster.specs.declared.saved.SavedCluster.{SavedCluster}
 use Rattle.m3_program.specs.declared.status.Status.{Status}
 use Rattle.m3_program.specs.declared.status.Status.TheVariants as status
 use Rattle.m3_program.specs.Causes.{EndsStep}
 use Rattle.m3_program.specs.Exchanges.{Exchange, replies_text, turns_of}
-use Rattle.m3_program.specs.Faults.{Counts, counts_of}
-use Rattle.m3_program.specs.Runs.{AreWholeLines, Course, HasRun, IsCutOff, lines_of}
-use Rattle.m3_program.specs.Streams.{Stage, IsFresh, StreamState, TakesOn, Cuts, Finishes, Halted, HaltsLast, HasServed}
+use Rattle.m3_program.specs.Openings.{IsUnopened, Opened, Unopened}
+use Rattle.m3_program.specs.Runs.{AreWholeLines, Course, IsCutOff, Runs, lines_of}
+use Rattle.m3_program.specs.Streams.{Opening, Stage, IsFresh, opening_at, StreamState, TakesOn, Cuts, Finishes, Halted, HaltsLast, HasServed}
 use Rattle.m3_program.specs.Writing.{WritesUntil}
-use Rattle.m3_program.proofs.PromiseLemmas.{causes_closed, causes_nothing, kept_closed, kept_nothing, promised}
+use Rattle.m3_program.proofs.CloseLemmas.{causes_of_first, kept_of_first}
+use Rattle.m3_program.proofs.FreshLemmas.{is_found, none_found}
+use Rattle.m3_program.proofs.PromiseLemmas.{Closes, promised}
 use Rattle.m3_program.proofs.StreamLemmas.{both_made, halted_of, stream_begins, stream_course, takes_all}
 
 -- these bytes were read, these are left, and the replies to these exchanges were written after what stood there
-pub record Heard {D : Type 0} {G : Ghosts D} (state : D → DiskState) (first : Depot D) (input before : List ℕ) (left written : Option (List ℕ)) (n : ℕ) (now : Stage D G) (line : List ℕ) : Type 0 where
+pub record Heard {D : Type 0} {G : Ghosts D} (state : D → DiskState) (first : Opening D) (input before : List ℕ) (left written : Option (List ℕ)) (n : ℕ) (now : Stage D G) (line : List ℕ) : Type 0 where
   pub got : List ℕ
   pub rest : List ℕ
   pub told : List ℕ
@@ -32,15 +37,15 @@ pub record Heard {D : Type 0} {G : Ghosts D} (state : D → DiskState) (first : 
   pub count : length got ≡ n
   pub stream : StreamState state first exchanges got now line
 
-abbrev pub Known : {D : Type 0} {G : Ghosts D} → (D → DiskState) → Depot D → Option (List ℕ) → Option (List ℕ) → Option (List ℕ) → Option (List ℕ) → ℕ → Stage D G → List ℕ → Type 0
+abbrev pub Known : {D : Type 0} {G : Ghosts D} → (D → DiskState) → Opening D → Option (List ℕ) → Option (List ℕ) → Option (List ℕ) → Option (List ℕ) → ℕ → Stage D G → List ℕ → Type 0
 Known state first left0 written0 left written n now line = (input before : List ℕ) → left0 ≡ Some input → written0 ≡ Some before → Heard state first input before left written n now line
 
 -- what a run tells at its end, before its disks are given back
-abbrev pub Told : {D : Type 0} {G : Ghosts D} → (D → DiskState) → Depot D → Stage D G → Status → List ℕ → List ℕ → Option (List ℕ) → Option (List ℕ) → Type 0
+abbrev pub Told : {D : Type 0} {G : Ghosts D} → (D → DiskState) → Opening D → Stage D G → Status → List ℕ → List ℕ → Option (List ℕ) → Option (List ℕ) → Type 0
 Told state first now s input before left written = (rest told : List ℕ) × (left ≡ Some rest) × (written ≡ Some (before ++ told)) × HasServed state first now s input rest told
 
 -- A run that ended within its last piece, when this was written before, and this text was made for the lines of the piece; not how it ended, and what of the text was written.
-pub record Stopped {D : Type 0} {G : Ghosts D} (state : D → DiskState) (first : Depot D) (now : Stage D G) (input before : List ℕ) (left written : Option (List ℕ)) (text : List ℕ) : Type 0 where
+pub record Stopped {D : Type 0} {G : Ghosts D} (state : D → DiskState) (first : Opening D) (now : Stage D G) (input before : List ℕ) (left written : Option (List ℕ)) (text : List ℕ) : Type 0 where
   pub earlier : List ℕ
   pub piece : List ℕ
   pub rest : List ℕ
@@ -76,10 +81,10 @@ at_end None rest h e = cc
 at_end (Some xs) rest h e = let same : xs ≡ rest = cc in sym same ∙ h
 
 -- all whole lines of what was taken were answered
-whole_of : {D : Type 0} {G : Ghosts D} {state : D → DiskState} {first : Depot D} {xs : List Exchange} {taken : List ℕ} {now : Stage D G} {line : List ℕ} → StreamState state first xs taken now line → AreWholeLines taken xs
+whole_of : {D : Type 0} {G : Ghosts D} {state : D → DiskState} {first : Opening D} {xs : List Exchange} {taken : List ℕ} {now : Stage D G} {line : List ℕ} → StreamState state first xs taken now line → AreWholeLines taken xs
 whole_of {D} {G} {state} {first} {xs} {taken} {now} {line} t = record { open_line = line; are = t.read; no_end = t.no_end }
 
-pub known_begins : {D : Type 0} {G : Ghosts D} (state : D → DiskState) (left written : Option (List ℕ)) (now : Stage D G) (line : List ℕ) → IsFresh state now.cluster → line ≡ [] → Known state now.depot left written left written 0 now line
+pub known_begins : {D : Type 0} {G : Ghosts D} (state : D → DiskState) (left written : Option (List ℕ)) (now : Stage D G) (line : List ℕ) → IsFresh state now → line ≡ [] → Known state (opening_at now) left written left written 0 now line
 known_begins state left written now line fresh empty = λ input before p q. record {
   got = [];
   rest = input;
@@ -90,10 +95,10 @@ known_begins state left written now line fresh empty = λ input before p q. reco
   written_is = q ∙ ap Some (sym (append-nil before));
   told_is = refl;
   count = refl;
-  stream = subst (λ l. StreamState state now.depot [] [] now l) (sym empty) (stream_begins state now fresh);
+  stream = subst (λ l. StreamState state (opening_at now) [] [] now l) (sym empty) (stream_begins state now fresh);
 }
 
-pub known_more : {D : Type 0} {G : Ghosts D} (state : D → DiskState) (first : Depot D) (left0 written0 l l2 w w2 : Option (List ℕ)) (n k m : ℕ) (old new : Stage D G) (line line2 piece text : List ℕ)
+pub known_more : {D : Type 0} {G : Ghosts D} (state : D → DiskState) (first : Opening D) (left0 written0 l l2 w w2 : Option (List ℕ)) (n k m : ℕ) (old new : Stage D G) (line line2 piece text : List ℕ)
     → Known state first left0 written0 l w n old line → Consumes l l2 piece → length piece ≡ k → n + k ≡ m → Appends w w2 text → TakesOn state old line piece text new line2 → Known state first left0 written0 l2 w2 m new line2
 known_more state first left0 written0 l l2 w w2 n k m old new line line2 piece text known took size sum wrote takes = λ input before p q.
     let h = known input before p q in
@@ -113,7 +118,7 @@ known_more state first left0 written0 l l2 w w2 n k m old new line line2 piece t
     }
 
 -- it stopped within a piece
-pub known_cuts : {D : Type 0} {G : Ghosts D} (state : D → DiskState) (first : Depot D) (left0 written0 l l2 w : Option (List ℕ)) (n : ℕ) (old new : Stage D G) (line piece text : List ℕ)
+pub known_cuts : {D : Type 0} {G : Ghosts D} (state : D → DiskState) (first : Opening D) (left0 written0 l l2 w : Option (List ℕ)) (n : ℕ) (old new : Stage D G) (line piece text : List ℕ)
     → Known state first left0 written0 l w n old line → Consumes l l2 piece → n + length piece ≤ INPUT_END → length piece ≤ 65536 → Cuts state old line piece text new
     → (input before : List ℕ) → left0 ≡ Some input → written0 ≡ Some before → Stopped state first new input before l2 w text
 known_cuts state first left0 written0 l l2 w n old new line piece text known took few short cuts input before p q =
@@ -140,11 +145,11 @@ known_cuts state first left0 written0 l l2 w n old new line piece text known too
     }
 
 -- all that was taken is the input
-heard_all : {D : Type 0} {G : Ghosts D} (state : D → DiskState) (first : Depot D) (input before : List ℕ) (l w : Option (List ℕ)) (n : ℕ) (now : Stage D G) (line : List ℕ) → (h : Heard state first input before l w n now line) → IsAtEnd l → input ≡ h.got
+heard_all : {D : Type 0} {G : Ghosts D} (state : D → DiskState) (first : Opening D) (input before : List ℕ) (l w : Option (List ℕ)) (n : ℕ) (now : Stage D G) (line : List ℕ) → (h : Heard state first input before l w n now line) → IsAtEnd l → input ≡ h.got
 heard_all state first input before l w n now line h ended = h.parts ∙ ap (λ r. h.got ++ r) (at_end l h.rest ended h.left_is) ∙ append-nil h.got
 
 -- it stopped within the last line
-pub known_stops : {D : Type 0} {G : Ghosts D} (state : D → DiskState) (first : Depot D) (left0 written0 l w : Option (List ℕ)) (n : ℕ) (old new : Stage D G) (line text : List ℕ)
+pub known_stops : {D : Type 0} {G : Ghosts D} (state : D → DiskState) (first : Opening D) (left0 written0 l w : Option (List ℕ)) (n : ℕ) (old new : Stage D G) (line text : List ℕ)
     → Known state first left0 written0 l w n old line → n ≤ INPUT_END → IsAtEnd l → HaltsLast state old line text new
     → (input before : List ℕ) → left0 ≡ Some input → written0 ≡ Some before → Stopped state first new input before l w text
 known_stops state first left0 written0 l w n old new line text known few ended stops input before p q =
@@ -171,7 +176,7 @@ known_stops state first left0 written0 l w n old new line text known few ended s
     }
 
 -- it came to the end
-pub known_finishes : {D : Type 0} {G : Ghosts D} (state : D → DiskState) (first : Depot D) (left0 written0 l w w2 : Option (List ℕ)) (n : ℕ) (old new : Stage D G) (line text : List ℕ)
+pub known_finishes : {D : Type 0} {G : Ghosts D} (state : D → DiskState) (first : Opening D) (left0 written0 l w w2 : Option (List ℕ)) (n : ℕ) (old new : Stage D G) (line text : List ℕ)
     → Known state first left0 written0 l w n old line → n < INPUT_END → IsAtEnd l → Appends w w2 text → Finishes state old line text new
     → (input before : List ℕ) → left0 ≡ Some input → written0 ≡ Some before → Told state first new status.Done input before l w2
 known_finishes state first left0 written0 l w w2 n old new line text known below ended wrote finishes input before p q =
@@ -197,7 +202,7 @@ known_finishes state first left0 written0 l w w2 n old new line text known below
     )
 
 -- the source failed when so much was taken
-pub known_fault : {D : Type 0} {G : Ghosts D} (state : D → DiskState) (first : Depot D) (left0 written0 l w : Option (List ℕ)) (n : ℕ) (now : Stage D G) (line : List ℕ) → Known state first left0 written0 l w n now line → n ≤ INPUT_END
+pub known_fault : {D : Type 0} {G : Ghosts D} (state : D → DiskState) (first : Opening D) (left0 written0 l w : Option (List ℕ)) (n : ℕ) (now : Stage D G) (line : List ℕ) → Known state first left0 written0 l w n now line → n ≤ INPUT_END
     → (input before : List ℕ) → left0 ≡ Some input → written0 ≡ Some before → Told state first now status.ReadFault input before l w
 known_fault state first left0 written0 l w n now line known few input before p q =
     let h = known input before p q in
@@ -211,7 +216,7 @@ known_fault state first left0 written0 l w n now line known few input before p q
     )
 
 -- it took as much as may be taken
-pub known_limit : {D : Type 0} {G : Ghosts D} (state : D → DiskState) (first : Depot D) (left0 written0 l w : Option (List ℕ)) (n : ℕ) (now : Stage D G) (line : List ℕ) → Known state first left0 written0 l w n now line → n ≡ INPUT_END
+pub known_limit : {D : Type 0} {G : Ghosts D} (state : D → DiskState) (first : Opening D) (left0 written0 l w : Option (List ℕ)) (n : ℕ) (now : Stage D G) (line : List ℕ) → Known state first left0 written0 l w n now line → n ≡ INPUT_END
     → (input before : List ℕ) → left0 ≡ Some input → written0 ≡ Some before → Told state first now status.TooLong input before l w
 known_limit state first left0 written0 l w n now line known full input before p q =
     let h = known input before p q in
@@ -228,43 +233,16 @@ known_limit state first left0 written0 l w n now line known full input before p 
 all_written : (told : List ℕ) (xs : List Exchange) → told ≡ replies_text xs → IsCutOff told xs
 all_written told xs is = record { before = xs; last = []; parts = sym (append-nil xs); few = omega arith; part = []; rest = []; of_last = refl; are = is ∙ sym (append-nil (replies_text xs)) }
 
--- the words couldn't be read, and no line was
-pub told_of_nothing : {D : Type 0} (state : D → DiskState) (first : Depot D) (left written : Option (List ℕ)) (input before : List ℕ) → left ≡ Some input → written ≡ Some before
-    → (rest told : List ℕ) × (left ≡ Some rest) × (written ≡ Some (before ++ told)) × HasRun state first (counts_of first) [] None status.Memory input rest told
-told_of_nothing state first left written input before p q = (
-  input,
-  [],
-  p,
-  q ∙ ap Some (sym (append-nil before)),
-  record {
-    ran = record {
-      taken = [];
-      parts = refl;
-      few = omega arith;
-      course = record {
-        exchanges = [];
-        unanswered = None;
-        each = λ earlier x after e. absurd (not_empty earlier x after e);
-        of_input = record { later = lines_of input; lines_are = refl; next = tt };
-        of_taken = record { later = []; lines_are = refl; next = tt };
-      };
-      got_to = all_written [] [] refl;
-    };
-    kept = λ empty. kept_nothing;
-    causes = λ tells empty. causes_nothing tells (counts_of first);
-  },
-)
-
 -- the course of a run that stopped
-abbrev stopped_course : {D : Type 0} {G : Ghosts D} (state : D → DiskState) (first : Depot D) (now : Stage D G) (input before : List ℕ) (left written : Option (List ℕ)) (text : List ℕ) → (h : Stopped state first now input before left written text) → Course None input (h.earlier ++ h.piece)
+abbrev stopped_course : {D : Type 0} {G : Ghosts D} (state : D → DiskState) (first : Opening D) (now : Stage D G) (input before : List ℕ) (left written : Option (List ℕ)) (text : List ℕ) → (h : Stopped state first now input before left written text) → Course first.start input (h.earlier ++ h.piece)
 stopped_course state first now input before left written text h =
     record { exchanges = h.exchanges ++ h.more; unanswered = h.halted.unanswered; each = h.halted.each; of_input = h.halted.of_input; of_taken = h.halted.of_taken }
 
-pub step_told : {D : Type 0} {G : Ghosts D} (state : D → DiskState) (first : Depot D) (now : Stage D G) (s : Status) (a b x y u v : ℕ) → EndsStep s a b x y u v
+pub step_told : {D : Type 0} {G : Ghosts D} (state : D → DiskState) (first : Opening D) (now : Stage D G) (s : Status) (a b x y u v m n : ℕ) → EndsStep s a b x y u v m n
     → (input before : List ℕ) (left written written2 : Option (List ℕ)) (text : List ℕ) → (s ≡ status.ReadFault → Told state first now status.ReadFault input before left written2)
     → Stopped state first now input before left written text → WritesUntil s written text written2 → Told state first now s input before left written2
-step_told state first now status.ReadFault a b x y u v k input before left written written2 text fault h wrote = fault refl
-step_told state first now status.WriteFault a b x y u v k input before left written written2 text fault h wrote = (
+step_told state first now status.ReadFault a b x y u v m n k input before left written written2 text fault h wrote = fault refl
+step_told state first now status.WriteFault a b x y u v m n k input before left written written2 text fault h wrote = (
   h.rest,
   h.told ++ wrote.0,
   h.left_is,
@@ -293,7 +271,23 @@ step_told state first now status.WriteFault a b x y u v k input before left writ
     promises = h.halted.promises;
   },
 )
-step_told state first now status.Memory a b x y u v k input before left written written2 text fault h wrote = (
+step_told state first now status.DiskFault a b x y u v m n k input before left written written2 text fault h wrote = (
+  h.rest,
+  h.told ++ text,
+  h.left_is,
+  appended_on before h.told written written2 text h.written_is wrote,
+  record {
+    ran = record {
+      taken = h.earlier ++ h.piece;
+      parts = h.parts;
+      few = h.few;
+      course = stopped_course state first now input before left written text h;
+      got_to = both_made h.exchanges h.more h.told text h.told_is h.made;
+    };
+    promises = h.halted.promises;
+  },
+)
+step_told state first now status.Memory a b x y u v m n k input before left written written2 text fault h wrote = (
   h.rest,
   h.told ++ text,
   h.left_is,
@@ -309,20 +303,33 @@ step_told state first now status.Memory a b x y u v k input before left written 
     promises = h.halted.promises;
   },
 )
-step_told state first now _ a b x y u v k input before left written written2 text fault h wrote = absurd k
+step_told state first now _ a b x y u v m n k input before left written written2 text fault h wrote = absurd k
+
+-- the words couldn't be read, or the cluster wasn't opened, and nothing was read or written
+pub told_unopened : {D : Type 0} (state : D → DiskState) (first now : Depot D) (s : Status) (left written : Option (List ℕ)) → IsUnopened state first now s → (input before : List ℕ) → left ≡ Some input → written ≡ Some before
+    → (rest told : List ℕ) × (left ≡ Some rest) × (written ≡ Some (before ++ told)) × Runs state first now [] s input rest told
+told_unopened state first now s left written unopened input before p q = (input, [], p, q ∙ ap Some (sym (append-nil before)), Unopened unopened (refl, refl))
 
 -- the disks are given back
-pub told_closes : {D : Type 0} {G : Ghosts D} (state : D → DiskState) → ((d : D) → IsLawfulDisk (state d)) → (first : Depot D) (mid : Stage D G) (last : Counts) (s : Status) → AreGivenBack state mid.depot mid.cluster.members last.all last.of_disk
-    → (input before : List ℕ) (left written : Option (List ℕ)) → Told state first mid s input before left written
-    → (rest told : List ℕ) × (left ≡ Some rest) × (written ≡ Some (before ++ told)) × HasRun state first last [] None s input rest told
-told_closes state lawful first mid last s back input before left written (rest, told, l, w, run) = (
-  rest,
-  told,
-  l,
-  w,
-  record {
-    ran = run.ran;
-    kept = λ empty. let served = run.promises true (λ e. empty) in kept_closed state first mid (turns_of run.ran.course.exchanges) served.more run.ran.course.unanswered served.tracks;
-    causes = λ tells empty. let served = run.promises tells empty in causes_closed state lawful tells first mid last (turns_of run.ran.course.exchanges) served.more run.ran.course.unanswered served.few back served.tracks;
-  },
-)
+pub told_closes : {D : Type 0} {G : Ghosts D} (state : D → DiskState) → ((d : D) → IsLawfulDisk (state d)) → (before now : Depot D) (c : SavedCluster D G) → IsOpened state before now c → (mid : Stage D G) (last : Depot D) (s : Status)
+    → (state_of c.cluster ≡ None → Closes state before (record { start = state_of c.cluster; depot = now }) mid last) → last.held meta_slot ≡ Here mid.saved.meta
+    → (input written0 : List ℕ) (left written : Option (List ℕ)) → Told state (record { start = state_of c.cluster; depot = now }) mid s input written0 left written
+    → (rest told : List ℕ) × (left ≡ Some rest) × (written ≡ Some (written0 ++ told)) × Runs state before last [] s input rest told
+told_closes state lawful before now c opened mid last s closes back input written0 left written (rest, told, l, w, run) =
+    let start = state_of c.cluster in
+    let turns = turns_of run.ran.course.exchanges in
+    let unanswered = run.ran.course.unanswered in
+    let served = run.promises in (
+      rest,
+      told,
+      l,
+      w,
+      Opened start (record {
+        found = is_found state before now c opened;
+        none_found = none_found state before now c opened;
+        ran = run.ran;
+        meta = record { disk = mid.saved.meta; back = back; leaves = served.leaves };
+        kept = λ empty. kept_of_first state before now c opened mid turns unanswered served empty;
+        causes = λ tells is_first. causes_of_first state lawful before now c opened mid last closes turns unanswered served tells is_first;
+      }),
+    )

@@ -9,12 +9,11 @@ use Rattle.m3_model.proofs.MemberLemmas.{IsIn-append_cases}
 use Rattle.m3_model.proofs.SplitLemmas.{not_empty}
 use Rattle.m3_outside.specs.DiskState.{DiskState}
 use Rattle.m3_outside.specs.declared.disk.Disk.{Ghosts}
-use Rattle.m3_outside.specs.Depots.{Depot}
 use Rattle.m3_program.specs.Exchanges.{Exchange, replies_text}
 use Rattle.m3_program.specs.Runs.{Course, IsNext, TakesLines, lines_of, lines_text}
-use Rattle.m3_program.specs.Streams.{Stage, IsFresh, Advances, MayMean, PromisesSo, Drops, NoNewline, StreamState, CutShort, Halted, Finished, TakesOn, Cuts, Finishes, HaltsLast}
+use Rattle.m3_program.specs.Streams.{Opening, Stage, IsFresh, opening_at, Advances, MayMean, PromisesSo, Drops, NoNewline, StreamState, CutShort, Halted, Finished, TakesOn, Cuts, Finishes, HaltsLast}
 use Rattle.m3_program.proofs.LineLemmas.{lines_of-line, lines_of-last, lines_of-lines}
-use Rattle.m3_program.proofs.PromiseLemmas.{promised}
+use Rattle.m3_program.proofs.PromiseLemmas.{begins_so, promised}
 
 whole_push : (xs : List Exchange) (x : Exchange) → ((y : Exchange) → IsIn xs y → NoNewline y.line) → NoNewline x.line → (y : Exchange) → IsIn (xs ++ x ∷ []) y → NoNewline y.line
 whole_push xs x whole last y m = elim (IsIn-append_cases xs (x ∷ []) y m) as (λ _. NoNewline y.line) [
@@ -33,7 +32,7 @@ pub both_made : (xs ys : List Exchange) (text text2 : List ℕ) → text ≡ rep
 both_made xs ys text text2 is is2 = ap (λ l. l ++ text2) is ∙ ap (λ l. replies_text xs ++ l) is2 ∙ sym (replies_both xs ys)
 
 -- what was read, whatever comes after it
-abbrev pub reads_at : {D : Type 0} {G : Ghosts D} (state : D → DiskState) (first : Depot D) (xs : List Exchange) (taken tail : List ℕ) (now : Stage D G) (line : List ℕ) (unanswered : Option Request) → StreamState state first xs taken now line
+abbrev pub reads_at : {D : Type 0} {G : Ghosts D} (state : D → DiskState) (first : Opening D) (xs : List Exchange) (taken tail : List ℕ) (now : Stage D G) (line : List ℕ) (unanswered : Option Request) → StreamState state first xs taken now line
     → IsNext unanswered (lines_of (line ++ tail)) → TakesLines (taken ++ tail) xs unanswered
 reads_at state first xs taken tail now line unanswered t next = record {
   later = lines_of (line ++ tail);
@@ -42,7 +41,7 @@ reads_at state first xs taken tail now line unanswered t next = record {
 }
 
 -- the course of a run so far, whatever is left of its input
-abbrev pub stream_course : {D : Type 0} {G : Ghosts D} (state : D → DiskState) (first : Depot D) (xs : List Exchange) (input taken left : List ℕ) (now : Stage D G) (line : List ℕ) → StreamState state first xs taken now line → input ≡ taken ++ left → Course None input taken
+abbrev pub stream_course : {D : Type 0} {G : Ghosts D} (state : D → DiskState) (first : Opening D) (xs : List Exchange) (input taken left : List ℕ) (now : Stage D G) (line : List ℕ) → StreamState state first xs taken now line → input ≡ taken ++ left → Course first.start input taken
 stream_course state first xs input taken left now line t is = record {
   exchanges = xs;
   unanswered = None;
@@ -52,7 +51,7 @@ stream_course state first xs input taken left now line t is = record {
 }
 
 -- a run that was cut short, with what is left of its input
-pub halted_of : {D : Type 0} {G : Ghosts D} (state : D → DiskState) (first : Depot D) (xs : List Exchange) (now : Stage D G) (taken left : List ℕ) → CutShort state first xs now taken → Halted state first xs now (taken ++ left) taken
+pub halted_of : {D : Type 0} {G : Ghosts D} (state : D → DiskState) (first : Opening D) (xs : List Exchange) (now : Stage D G) (taken left : List ℕ) → CutShort state first xs now taken → Halted state first xs now (taken ++ left) taken
 halted_of state first xs now taken left cut = record {
   unanswered = cut.unanswered;
   each = cut.each;
@@ -62,7 +61,7 @@ halted_of state first xs now taken left cut = record {
 }
 
 -- nothing more is done, and this request was taken at most
-cut_at : {D : Type 0} {G : Ghosts D} (state : D → DiskState) (first : Depot D) (xs : List Exchange) (taken piece : List ℕ) (old new : Stage D G) (line : List ℕ) (unanswered : Option Request) → StreamState state first xs taken old line
+cut_at : {D : Type 0} {G : Ghosts D} (state : D → DiskState) (first : Opening D) (xs : List Exchange) (taken piece : List ℕ) (old new : Stage D G) (line : List ℕ) (unanswered : Option Request) → StreamState state first xs taken old line
     → ((left : List ℕ) → IsNext unanswered (lines_of (line ++ (piece ++ left)))) → PromisesSo state first new xs unanswered → CutShort state first xs new (taken ++ piece)
 cut_at state first xs taken piece old new line unanswered t next promises = record {
   unanswered = unanswered;
@@ -72,7 +71,7 @@ cut_at state first xs taken piece old new line unanswered t next promises = reco
 }
 
 -- it took more, and did nothing with it
-cut_more : {D : Type 0} {G : Ghosts D} (state : D → DiskState) (first : Depot D) (xs : List Exchange) (now : Stage D G) (taken more : List ℕ) → CutShort state first xs now taken → CutShort state first xs now (taken ++ more)
+cut_more : {D : Type 0} {G : Ghosts D} (state : D → DiskState) (first : Opening D) (xs : List Exchange) (now : Stage D G) (taken more : List ℕ) → CutShort state first xs now taken → CutShort state first xs now (taken ++ more)
 cut_more state first xs now taken more cut = record {
   unanswered = cut.unanswered;
   each = cut.each;
@@ -125,7 +124,7 @@ takes_line state old new line rest text whole line2 none is empty goes = λ firs
     )
 
 -- a line that ends, in the input
-line_in : {D : Type 0} {G : Ghosts D} (state : D → DiskState) (first : Depot D) (xs : List Exchange) (taken left : List ℕ) (now : Stage D G) (line rest whole : List ℕ) → NoNewline rest → whole ≡ line ++ rest
+line_in : {D : Type 0} {G : Ghosts D} (state : D → DiskState) (first : Opening D) (xs : List Exchange) (taken left : List ℕ) (now : Stage D G) (line rest whole : List ℕ) → NoNewline rest → whole ≡ line ++ rest
     → StreamState state first xs taken now line → lines_of (line ++ ((rest ++ 10 ∷ []) ++ left)) ≡ whole ∷ lines_of left
 line_in state first xs taken left now line rest whole none is t =
     ap lines_of (sym (append_assoc line (rest ++ 10 ∷ []) left) ∙ ap (λ l. l ++ left) (sym (append_assoc line rest (10 ∷ []))) ∙ ap (λ l. (l ++ 10 ∷ []) ++ left) (sym is))
@@ -176,15 +175,15 @@ cuts_behind state a b line line2 piece more text f =
     subst (λ l. Cuts state a line (piece ++ more) l b) (append-nil text) (cuts_after state a b b line line2 piece [] more text [] f (cuts_silently state b line2 []))
 
 -- before anything is read
-pub stream_begins : {D : Type 0} {G : Ghosts D} (state : D → DiskState) (now : Stage D G) → IsFresh state now.cluster → StreamState state now.depot [] [] now []
+pub stream_begins : {D : Type 0} {G : Ghosts D} (state : D → DiskState) (now : Stage D G) → IsFresh state now → StreamState state (opening_at now) [] [] now []
 stream_begins state now fresh = record {
-  progress = record { each = λ before x after e. absurd (not_empty before x after e); tracks = λ tells empty. fresh.tracks tells now.depot empty };
+  progress = record { each = λ before x after e. absurd (not_empty before x after e); stands = begins_so state now fresh };
   read = refl;
   whole = λ x m. absurd m;
   no_end = λ m. m;
 }
 
-last_in : {D : Type 0} {G : Ghosts D} (state : D → DiskState) (first : Depot D) (xs : List Exchange) (taken : List ℕ) (now : Stage D G) (line : List ℕ) → 0 < length line → StreamState state first xs taken now line
+last_in : {D : Type 0} {G : Ghosts D} (state : D → DiskState) (first : Opening D) (xs : List Exchange) (taken : List ℕ) (now : Stage D G) (line : List ℕ) → 0 < length line → StreamState state first xs taken now line
     → lines_of taken ≡ map (λ x. x.line) xs ++ line ∷ []
 last_in state first xs taken now line some t = ap lines_of t.read ∙ lines_of-lines xs line t.whole ∙ ap (λ ls. map (λ x. x.line) xs ++ ls) (lines_of-last line t.no_end some)
 

@@ -3,6 +3,8 @@ pub mod Joining
 pub mod Exchanges
 pub mod Faults
 pub mod FaultLaws
+pub mod Openings
+pub mod Saved
 pub mod Runs
 pub mod Causes
 pub mod Writing

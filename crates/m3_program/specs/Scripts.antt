@@ -1,5 +1,5 @@
 -- What a run of a script promises.
-use Rattle.std.specs.Prelude.{◌≡◌, ◌⊎◌, List, [], ◌∷◌, ◌++◌, map, ℕ, Option, None, Bool, true, false, IsTrue}
+use Rattle.std.specs.Prelude.{◌≡◌, ◌⊎◌, List, [], ◌∷◌, ◌++◌, map, ℕ, Option, None, Some, Bool, false, IsTrue}
 use Rattle.std.specs.List.{flat_map}
 use Rattle.m3_model.specs.declared.answer.Answer.TheVariants as answer
 use Rattle.m3_model.specs.declared.placement.Placement.{Placement}
@@ -13,12 +13,15 @@ use Rattle.transcripts.specs.Kept.{Kept}
 use Rattle.transcripts.specs.Record.{IsAnsweredBy, Life, Record}
 use Rattle.m3_outside.specs.DiskState.{DiskState}
 use Rattle.m3_outside.specs.Depots.{Depot}
+use Rattle.saved_cluster.specs.first_cluster.Depots.{meta_slot}
 use Rattle.load_gen.specs.Script.{script}
 use Rattle.load_gen.specs.Summaries.{summary_line}
 use Rattle.m3_program.specs.Exchanges.{known_place}
-use Rattle.m3_program.specs.Faults.{AreEmpty, Counts, counts_of}
+use Rattle.m3_program.specs.Faults.{AreEmpty, counts_of}
 use Rattle.m3_program.specs.Joining.{is_put_off_by}
-use Rattle.m3_program.specs.Runs.{HasCauses}
+use Rattle.m3_program.specs.Openings.{MayOpen}
+use Rattle.m3_program.specs.Runs.{HasCauses, IsFirstRun}
+use Rattle.m3_program.specs.Saved.{IsFound, LeavesMeta}
 use Rattle.m3_program.specs.declared.status.Status.{Status}
 use Rattle.m3_program.specs.declared.status.Status.TheVariants as status
 
@@ -52,32 +55,48 @@ IsPart place (Served turn) = (is_put_off_by place turn.request ≡ false) × IsA
 abbrev pub AreParts : Option MetaState → List Part → Type 0
 AreParts start parts = (before : List Part) (part : Part) (after : List Part) → parts ≡ before ++ part ∷ after → IsPart (known_place start (turns_of_parts before)) part
 
--- The course of a run of a number's script that opened with this state: what came of its requests in their order, as far as it got.
+-- the next request is the one that was taken and got no reply, if there is one
+abbrev pub IsTaken : Option Request → List Request → Type 0
+IsTaken None later = Unit {0}
+IsTaken (Some request) [] = ⊥
+IsTaken (Some request) (next ∷ later) = next ≡ request
+
+-- The course of a run of a number's script that opened with this state: what came of its requests in their order, as far as it got; the next one was taken and got no reply, or none was.
 pub record Play (start : Option MetaState) (number : ℕ) : Type 0 where
   pub parts : List Part
   pub later : List Request
+  pub unanswered : Option Request
   pub of_script : script number ≡ map request_of parts ++ later
+  pub taken : IsTaken unanswered later
   pub each : AreParts start parts
 
--- how far a run got that ended so: to the end of the script, and then its summary is written, or a front of that; or memory was wanted before
+-- how far a run got that ended so: to the end of the script, and then its summary is written, or a front of that; or the meta disk failed or memory was wanted before
 abbrev pub PlayedTo : Status → List Part → List Request → List ℕ → Type 0
 PlayedTo status.Done parts later written = (later ≡ []) × (written ≡ summary_line (map reply_of parts))
 PlayedTo status.WriteFault parts later written = (later ≡ []) × (lost : List ℕ) × (summary_line (map reply_of parts) ≡ written ++ lost)
+PlayedTo status.DiskFault parts later written = written ≡ []
 PlayedTo status.Memory parts later written = written ≡ []
 PlayedTo _ parts later written = ⊥
 
 -- the record of the run
-abbrev pub record_of_parts : Option MetaState → List Part → Record
-record_of_parts start parts = record { start = start; turns = turns_of_parts parts; unanswered = None }
+abbrev pub record_of_parts : Option MetaState → List Part → Option Request → Record
+record_of_parts start parts unanswered = record { start = start; turns = turns_of_parts parts; unanswered = unanswered }
 
 -- the life that the run and the earlier ones on the same disks make
-abbrev pub life_of_parts : List Record → Option MetaState → List Part → Life
-life_of_parts past start parts = record { past = past; present = record_of_parts start parts }
+abbrev pub life_of_parts : List Record → Option MetaState → List Part → Option Request → Life
+life_of_parts past start parts unanswered = record { past = past; present = record_of_parts start parts unanswered }
 
--- What a run of a number's script did that ended so and wrote this, over disks that were so when it began and whose faults are counted so now: the answers have their
--- causes, of which more is said where the disks tell what they hold and were empty; and there the reads keep what they must.
-pub record HasGenerated {D : Type 0} (state : D → DiskState) (first : Depot D) (now : Counts) (past : List Record) (start : Option MetaState) (number : ℕ) (ended : Status) (written : List ℕ) : Type 0 where
+-- What a run of a number's script did that ended so and wrote this, whose cluster was opened over disks that were so, with the last state that the meta disk had, and that left them so: the same
+-- as of a run that reads lines.
+pub record HasGenerated {D : Type 0} (state : D → DiskState) (first now : Depot D) (past : List Record) (start : Option MetaState) (number : ℕ) (ended : Status) (written : List ℕ) : Type 0 where
+  pub found : IsFound state first start
+  pub none_found : AreEmpty state first.held → start ≡ None
   pub course : Play start number
   pub played_to : PlayedTo ended course.parts course.later written
-  pub kept : AreEmpty state first.held → Kept (life_of_parts past start course.parts)
-  pub causes : (tells : Bool) → (tells ≡ true → AreEmpty state first.held) → HasCauses tells (counts_of first) now (life_of_parts past start course.parts)
+  pub meta : LeavesMeta state (now.held meta_slot) start (turns_of_parts course.parts) course.unanswered
+  pub kept : AreEmpty state first.held → Kept (life_of_parts past start course.parts course.unanswered)
+  pub causes : (tells : Bool) → IsFirstRun tells state first start → HasCauses tells (counts_of first) (counts_of now) (life_of_parts past start course.parts course.unanswered)
+
+-- what any run of it did: where its cluster wasn't opened, nothing was written
+abbrev pub Generates : {D : Type 0} → (D → DiskState) → Depot D → Depot D → List Record → ℕ → Status → List ℕ → Type 0
+Generates state first now past number ended written = MayOpen state first now ended (λ start. HasGenerated state first now past start number ended written) (written ≡ [])

@@ -1,16 +1,18 @@
-ghost use Rattle.std.specs.Prelude.{◌≡◌, ℕ, List, ◌++◌, Option, OnOk, OnErr};
+ghost use Rattle.std.specs.Prelude.{◌≡◌, ℕ, List, ◌++◌, Option, OnOk, OnErr, IfErr, IsErrOf};
 ghost use Rattle.std.specs.Option.{option_copied};
-ghost use Rattle.served_cluster.specs.Owned.{MayServeCluster};
+ghost use Rattle.m3_outside.specs.Causes.{CountsFaults};
+ghost use Rattle.saved_cluster.specs.Saved.{MayClose, MayServeSaved};
+ghost use Rattle.saved_cluster.specs.declared.lost.Lost.TheVariants as lost;
 ghost use Rattle.m3_program.specs.Exchanges.{is_blank, reply_line};
 ghost use Rattle.m3_program.specs.Streams.{Advances, Drops, stage};
 
 use crate::joining::is_put_off_by;
 use line_fields::LineErr;
 use m3_json::read_line;
-use m3_model::{Answer, Memory, Placement, Reply};
+use m3_model::{Answer, Placement, Reply};
 use m3_outside::Disks;
 use m3_replies::print_reply;
-use served_cluster::Cluster;
+use saved_cluster::{Lost, SavedCluster};
 use std::alloc::Global;
 
 fn is_blank(line: &[u8]) -> bool
@@ -26,18 +28,25 @@ fn put_reply(
     replies: &mut Vec<u8>,
     reply: &Reply,
     place: Option<&Placement>,
-) -> Result<(), Memory>
+) -> Result<(), Lost>
     ensures ok { OnOk result (replies.new.items ≡ replies.old.items ++ reply_line (option_copied place.entry) reply.now) }
     ensures err { OnErr result (replies.new.items ≡ replies.old.items) }
+    ensures want { IfErr result (λ e. e ≡ lost.Memory) }
 {
-    let text = print_reply(alloc, reply, place)?;
+    let text = match print_reply(alloc, reply, place) {
+        Ok(text) => text,
+        Err(_) => return Err(Lost::Memory),
+    };
     let len = replies.len();
-    replies.extend_from_slice(text.as_str().as_bytes())?;
+    match replies.extend_from_slice(text.as_str().as_bytes()) {
+        Ok(()) => {}
+        Err(_) => return Err(Lost::Memory),
+    }
     match replies.push(b'\n') {
         Ok(()) => Ok(()),
         Err(_) => {
             replies.truncate(len);
-            Err(Memory)
+            Err(Lost::Memory)
         }
     }
 }
@@ -46,22 +55,24 @@ fn put_reply(
 ///
 /// # Errors
 ///
-/// Want of memory. Then nothing is appended, and the request may have been served.
+/// The meta disk failed, or memory was wanted. Then nothing is appended, and the request may have been served.
 pub fn answer_line<X: Disks>(
     alloc: Global,
-    cluster: &mut Cluster<X::D>,
+    cluster: &mut SavedCluster<X::D>,
     disks: &mut X,
     replies: &mut Vec<u8>,
     line: &[u8],
-) -> Result<(), Memory>
-    requires owned { MayServeCluster cluster.old (X.held disks.old) }
+) -> Result<(), Lost>
+    requires may { MayServeSaved X.D.state cluster.old (X.held disks.old) }
     ensures ok { OnOk result ((text : List ℕ) × (replies.new.items ≡ replies.old.items ++ text)
         × Advances X.D.state (stage cluster.old (X.held disks.old) (X.counted disks.old) (X.all_faults disks.old)) line.now text
         (stage cluster.new (X.held disks.new) (X.counted disks.new) (X.all_faults disks.new))) }
     ensures err { OnErr result (Drops X.D.state (stage cluster.old (X.held disks.old) (X.counted disks.old) (X.all_faults disks.old)) line.now
         (stage cluster.new (X.held disks.new) (X.counted disks.new) (X.all_faults disks.new))) }
     ensures nothing { OnErr result (replies.new.items ≡ replies.old.items) }
-    ensures owned { MayServeCluster cluster.new (X.held disks.new) }
+    ensures may { OnOk result (MayServeSaved X.D.state cluster.new (X.held disks.new)) }
+    ensures close { MayClose cluster.new (X.held disks.new) }
+    ensures meta { CountsFaults (IsErrOf result lost.Meta) (X.D.state cluster.old.meta).faults (X.D.state cluster.new.meta).faults }
 {
     if is_blank(line) {
         return Ok(());
@@ -73,8 +84,10 @@ pub fn answer_line<X: Disks>(
                 let later = Reply::One(Answer::Later);
                 return put_reply(alloc, replies, &later, cluster.place());
             }
-            let reply = cluster.serve(alloc, disks, request);
-            put_reply(alloc, replies, &reply, cluster.place())
+            match cluster.serve(alloc, disks, request) {
+                Ok(reply) => put_reply(alloc, replies, &reply, cluster.place()),
+                Err(lost) => Err(lost),
+            }
         }
         Err(LineErr::Form) => {
             put_reply(alloc, replies, &Reply::One(Answer::Form), cluster.place())
@@ -82,6 +95,6 @@ pub fn answer_line<X: Disks>(
         Err(LineErr::Later) => {
             put_reply(alloc, replies, &Reply::One(Answer::Later), cluster.place())
         }
-        Err(LineErr::Memory) => Err(Memory),
+        Err(LineErr::Memory) => Err(Lost::Memory),
     }
 }

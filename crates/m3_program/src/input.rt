@@ -1,6 +1,8 @@
-ghost use Rattle.std.specs.Prelude.{◌≡◌, ◌<◌, ◌≤◌, ℕ, List, [], ◌∷◌, ◌++◌, length, OnOk, OnErr, IfErr};
+ghost use Rattle.std.specs.Prelude.{◌≡◌, ◌<◌, ◌≤◌, ℕ, List, [], ◌∷◌, ◌++◌, length, OnOk, OnErr, IfErr, IsErrOf};
 ghost use Rattle.std.specs.Io.KnownBytes.{Appends};
-ghost use Rattle.served_cluster.specs.Owned.{MayServeCluster};
+ghost use Rattle.m3_outside.specs.Causes.{CountsFaults};
+ghost use Rattle.saved_cluster.specs.Saved.{MayClose, MayServeSaved};
+ghost use Rattle.saved_cluster.specs.declared.lost.Lost.TheVariants as lost;
 ghost use Rattle.m3_program.specs.Streams.{NoNewline, TakesOn, Cuts, stage};
 ghost use Rattle.m3_program.specs.Writing.{Gathers, WritesUntil};
 ghost use Rattle.m3_program.specs.Causes.{EndsLine};
@@ -8,37 +10,38 @@ ghost use Rattle.m3_program.specs.Causes.{EndsLine};
 use crate::exchange::answer_line;
 use crate::output::{write_all, write_before_end, write_full};
 use crate::status::Status;
-use m3_model::Memory;
 use m3_outside::{Disks, Sink};
 use memchr::memchr;
-use served_cluster::Cluster;
+use saved_cluster::{Lost, SavedCluster};
 use std::alloc::Global;
 
 /// Takes the rest of a line, up to its newline, and appends what is to be written for it: `line` is what was taken of it before.
 fn serve_rest<X: Disks>(
     alloc: Global,
-    cluster: &mut Cluster<X::D>,
+    cluster: &mut SavedCluster<X::D>,
     disks: &mut X,
     replies: &mut Vec<u8>,
     line: &mut Vec<u8>,
     rest: &[u8],
-) -> Result<(), Memory>
+) -> Result<(), Lost>
     requires whole { NoNewline rest.now }
-    requires owned { MayServeCluster cluster.old (X.held disks.old) }
+    requires may { MayServeSaved X.D.state cluster.old (X.held disks.old) }
     ensures ok { OnOk result ((text : List ℕ) × (replies.new.items ≡ replies.old.items ++ text)
         × TakesOn X.D.state (stage cluster.old (X.held disks.old) (X.counted disks.old) (X.all_faults disks.old)) line.old.items (rest.now ++ 10 ∷ []) text
         (stage cluster.new (X.held disks.new) (X.counted disks.new) (X.all_faults disks.new)) line.new.items) }
     ensures err { OnErr result (Cuts X.D.state (stage cluster.old (X.held disks.old) (X.counted disks.old) (X.all_faults disks.old)) line.old.items (rest.now ++ 10 ∷ []) []
         (stage cluster.new (X.held disks.new) (X.counted disks.new) (X.all_faults disks.new))) }
     ensures nothing { OnErr result (replies.new.items ≡ replies.old.items) }
-    ensures owned { MayServeCluster cluster.new (X.held disks.new) }
+    ensures may { OnOk result (MayServeSaved X.D.state cluster.new (X.held disks.new)) }
+    ensures close { MayClose cluster.new (X.held disks.new) }
+    ensures meta { CountsFaults (IsErrOf result lost.Meta) (X.D.state cluster.old.meta).faults (X.D.state cluster.new.meta).faults }
 {
     if line.as_slice().is_empty() {
         return answer_line(alloc, cluster, disks, replies, rest);
     }
     match line.extend_from_slice(rest) {
         Ok(()) => {}
-        Err(_) => return Err(Memory),
+        Err(_) => return Err(Lost::Memory),
     }
     match answer_line(alloc, cluster, disks, replies, line.as_slice()) {
         Ok(()) => {
@@ -50,17 +53,17 @@ fn serve_rest<X: Disks>(
 }
 
 /// Takes a piece of the input: whole lines are served, and what begins a further line goes to `line`. The replies are held,
-/// and written whenever they have 65,536 bytes or more, and before it ends for want of memory.
+/// and written whenever they have 65,536 bytes or more, and before it ends for another cause than the sink.
 fn serve_lines<K: Sink, X: Disks>(
     alloc: Global,
-    cluster: &mut Cluster<X::D>,
+    cluster: &mut SavedCluster<X::D>,
     disks: &mut X,
     out: &mut K,
     replies: &mut Vec<u8>,
     line: &mut Vec<u8>,
     piece: &[u8],
 ) -> Result<(), Status>
-    requires owned { MayServeCluster cluster.old (X.held disks.old) }
+    requires may { MayServeSaved X.D.state cluster.old (X.held disks.old) }
     ensures ok { OnOk result ((text : List ℕ) × Gathers (K.written out.old) replies.old.items text (K.written out.new) replies.new.items
         × TakesOn X.D.state (stage cluster.old (X.held disks.old) (X.counted disks.old) (X.all_faults disks.old)) line.old.items piece.now text
         (stage cluster.new (X.held disks.new) (X.counted disks.new) (X.all_faults disks.new)) line.new.items) }
@@ -68,15 +71,16 @@ fn serve_lines<K: Sink, X: Disks>(
         × Cuts X.D.state (stage cluster.old (X.held disks.old) (X.counted disks.old) (X.all_faults disks.old)) line.old.items piece.now text
         (stage cluster.new (X.held disks.new) (X.counted disks.new) (X.all_faults disks.new))) }
     ensures few { length replies.old.items < 65536 → OnOk result (length replies.new.items < 65536) }
-    ensures owned { MayServeCluster cluster.new (X.held disks.new) }
-    ensures later { (K.faulted out.old ≤ K.faulted out.new) × (K.stalled out.old ≤ K.stalled out.new) }
-    ensures cause { IfErr result (λ s. EndsLine s (K.faulted out.old) (K.faulted out.new) (K.stalled out.old) (K.stalled out.new)) }
+    ensures may { OnOk result (MayServeSaved X.D.state cluster.new (X.held disks.new)) }
+    ensures close { MayClose cluster.new (X.held disks.new) }
+    ensures later { (K.faulted out.old ≤ K.faulted out.new) × (K.stalled out.old ≤ K.stalled out.new) × ((X.D.state cluster.old.meta).faults ≤ (X.D.state cluster.new.meta).faults) }
+    ensures cause { IfErr result (λ s. EndsLine s (K.faulted out.old) (K.faulted out.new) (K.stalled out.old) (K.stalled out.new) (X.D.state cluster.old.meta).faults (X.D.state cluster.new.meta).faults) }
 {
     let mut rest = piece;
     while let Some(end) = memchr(b'\n', rest) {
         match serve_rest(alloc, cluster, disks, replies, line, &rest[..end]) {
             Ok(()) => {}
-            Err(_) => return Err(write_before_end(out, replies.as_slice())),
+            Err(why) => return Err(write_before_end(out, replies.as_slice(), why)),
         }
         match write_full(out, replies) {
             Ok(()) => {}
@@ -86,29 +90,30 @@ fn serve_lines<K: Sink, X: Disks>(
     }
     match line.extend_from_slice(rest) {
         Ok(()) => Ok(()),
-        Err(_) => Err(write_before_end(out, replies.as_slice())),
+        Err(_) => Err(write_before_end(out, replies.as_slice(), Lost::Memory)),
     }
 }
 
 /// Takes a piece of the input as `serve_lines` does, and writes all replies to its lines.
 pub fn serve_piece<K: Sink, X: Disks>(
     alloc: Global,
-    cluster: &mut Cluster<X::D>,
+    cluster: &mut SavedCluster<X::D>,
     disks: &mut X,
     out: &mut K,
     line: &mut Vec<u8>,
     piece: &[u8],
 ) -> Result<(), Status>
-    requires owned { MayServeCluster cluster.old (X.held disks.old) }
+    requires may { MayServeSaved X.D.state cluster.old (X.held disks.old) }
     ensures ok { OnOk result ((text : List ℕ) × Appends (K.written out.old) (K.written out.new) text
         × TakesOn X.D.state (stage cluster.old (X.held disks.old) (X.counted disks.old) (X.all_faults disks.old)) line.old.items piece.now text
         (stage cluster.new (X.held disks.new) (X.counted disks.new) (X.all_faults disks.new)) line.new.items) }
     ensures err { IfErr result (λ s. (text : List ℕ) × WritesUntil s (K.written out.old) text (K.written out.new)
         × Cuts X.D.state (stage cluster.old (X.held disks.old) (X.counted disks.old) (X.all_faults disks.old)) line.old.items piece.now text
         (stage cluster.new (X.held disks.new) (X.counted disks.new) (X.all_faults disks.new))) }
-    ensures owned { MayServeCluster cluster.new (X.held disks.new) }
-    ensures later { (K.faulted out.old ≤ K.faulted out.new) × (K.stalled out.old ≤ K.stalled out.new) }
-    ensures cause { IfErr result (λ s. EndsLine s (K.faulted out.old) (K.faulted out.new) (K.stalled out.old) (K.stalled out.new)) }
+    ensures may { OnOk result (MayServeSaved X.D.state cluster.new (X.held disks.new)) }
+    ensures close { MayClose cluster.new (X.held disks.new) }
+    ensures later { (K.faulted out.old ≤ K.faulted out.new) × (K.stalled out.old ≤ K.stalled out.new) × ((X.D.state cluster.old.meta).faults ≤ (X.D.state cluster.new.meta).faults) }
+    ensures cause { IfErr result (λ s. EndsLine s (K.faulted out.old) (K.faulted out.new) (K.stalled out.old) (K.stalled out.new) (X.D.state cluster.old.meta).faults (X.D.state cluster.new.meta).faults) }
 {
     let mut replies = Vec::new(alloc);
     match serve_lines(alloc, cluster, disks, out, &mut replies, line, piece) {

@@ -1,11 +1,14 @@
-ghost use Rattle.std.specs.Prelude.{◌≡◌, ◌<◌, ◌≤◌, ℕ, List, [], length, take, OnOk, OnErr, IfErr};
+ghost use Rattle.std.specs.Prelude.{◌≡◌, ◌<◌, ◌≤◌, ◌⊎◌, ℕ, List, [], length, take, OnOk, OnErr, IfErr};
 ghost use Rattle.std.specs.Io.KnownBytes.{Appends};
+ghost use Rattle.m3_outside.specs.Causes.{Rose};
+ghost use Rattle.saved_cluster.specs.declared.lost.Lost.TheVariants as lost;
 ghost use Rattle.m3_program.specs.Causes.{EndsLine};
 ghost use Rattle.m3_program.specs.Writing.{Gathers, WritesUntil};
 ghost use Rattle.m3_program.specs.declared.status.Status.TheVariants as status;
 
 use crate::status::Status;
 use m3_outside::Sink;
+use saved_cluster::Lost;
 
 /// With so many bytes, what is held is written before the piece of the input is served to its end.
 const FULL: usize = 65536;
@@ -16,7 +19,7 @@ pub fn write_all<K: Sink>(out: &mut K, bytes: &[u8]) -> Result<(), Status>
     ensures err { OnErr result ((n : ℕ) × Appends (K.written out.old) (K.written out.new) (take n bytes.now)) }
     ensures by { IfErr result (λ s. s ≡ status.WriteFault) }
     ensures later { (K.faulted out.old ≤ K.faulted out.new) × (K.stalled out.old ≤ K.stalled out.new) }
-    ensures cause { IfErr result (λ s. EndsLine s (K.faulted out.old) (K.faulted out.new) (K.stalled out.old) (K.stalled out.new)) }
+    ensures cause { OnErr result (Rose (K.faulted out.old) (K.faulted out.new) ⊎ Rose (K.stalled out.old) (K.stalled out.new)) }
 {
     let mut at = 0;
     while at < bytes.len() {
@@ -33,14 +36,15 @@ pub fn write_all<K: Sink>(out: &mut K, bytes: &[u8]) -> Result<(), Status>
     Ok(())
 }
 
-/// Writes all of the bytes before the run ends for want of memory, and answers how it ends: by a write fault where the sink fails.
-pub fn write_before_end<K: Sink>(out: &mut K, bytes: &[u8]) -> Status
+/// Writes all of the bytes before the run ends for this cause, and answers how it ends: by a write fault where the sink fails.
+pub fn write_before_end<K: Sink>(out: &mut K, bytes: &[u8], why: Lost) -> Status
     ensures written { WritesUntil result (K.written out.old) bytes.now (K.written out.new) }
     ensures later { (K.faulted out.old ≤ K.faulted out.new) × (K.stalled out.old ≤ K.stalled out.new) }
-    ensures cause { EndsLine result (K.faulted out.old) (K.faulted out.new) (K.stalled out.old) (K.stalled out.new) }
+    ensures cause { (meta_before meta_now : ℕ) → (why ≡ lost.Meta → Rose meta_before meta_now)
+        → EndsLine result (K.faulted out.old) (K.faulted out.new) (K.stalled out.old) (K.stalled out.new) meta_before meta_now }
 {
     match write_all(out, bytes) {
-        Ok(()) => Status::Memory,
+        Ok(()) => Status::of_lost(why),
         Err(status) => status,
     }
 }
@@ -53,7 +57,7 @@ pub fn write_full<K: Sink>(out: &mut K, replies: &mut Vec<u8>) -> Result<(), Sta
     ensures held { length replies.old.items < 65536 → replies.new.items ≡ replies.old.items }
     ensures by { IfErr result (λ s. s ≡ status.WriteFault) }
     ensures later { (K.faulted out.old ≤ K.faulted out.new) × (K.stalled out.old ≤ K.stalled out.new) }
-    ensures cause { IfErr result (λ s. EndsLine s (K.faulted out.old) (K.faulted out.new) (K.stalled out.old) (K.stalled out.new)) }
+    ensures cause { OnErr result (Rose (K.faulted out.old) (K.faulted out.new) ⊎ Rose (K.stalled out.old) (K.stalled out.new)) }
 {
     if replies.len() < FULL {
         return Ok(());

@@ -1,16 +1,18 @@
-ghost use Rattle.std.specs.Prelude.{◌≡◌, ◌<◌, ◌≤◌, ◌+◌, ℕ, List, [], ◌++◌, Some, None, map, length, string_bytes, IfOk, OnOk, IfErr, IsErrOf};
+ghost use Rattle.std.specs.Prelude.{◌≡◌, ◌<◌, ◌≤◌, ◌+◌, ◌⊎◌, ℕ, List, [], ◌++◌, Some, None, map, length, string_bytes, IfOk, OnOk, IfErr, IsErrOf};
 ghost use Rattle.std.specs.Io.KnownBytes.{Appends, Consumes, IsAtEnd};
 ghost use Rattle.m3_model.specs.declared.limits.TheConstants.{INPUT_END};
 ghost use Rattle.m3_outside.specs.Slots.{Out};
 ghost use Rattle.m3_outside.specs.declared.slot.DiskSlot.{DiskSlot};
-ghost use Rattle.served_cluster.specs.Owned.{MayServeCluster};
+ghost use Rattle.saved_cluster.specs.first_cluster.Depots.{depot_by, meta_slot};
+ghost use Rattle.saved_cluster.specs.Saved.{MayClose, MayServeSaved};
 ghost use Rattle.command_words.specs.Tasks.{task_of};
 ghost use Rattle.command_words.specs.declared.task.Task.TheVariants as task;
-ghost use Rattle.m3_program.specs.Streams.{TakesOn, Cuts, Finishes, HaltsLast, HasServed, IsFresh, stage};
+ghost use Rattle.m3_program.specs.Openings.{IsUnopened};
+ghost use Rattle.m3_program.specs.Streams.{TakesOn, Cuts, Finishes, HaltsLast, HasServed, IsFresh, opening_at, stage};
 ghost use Rattle.m3_program.specs.Writing.{WritesUntil};
 ghost use Rattle.m3_program.specs.Causes.{EndsLine, EndsStep, EndsReading, EndsScript, EndsTask};
-ghost use Rattle.m3_program.specs.Runs.{HasRun};
-ghost use Rattle.m3_program.specs.Scripts.{HasGenerated};
+ghost use Rattle.m3_program.specs.Runs.{Runs};
+ghost use Rattle.m3_program.specs.Scripts.{Generates};
 ghost use Rattle.m3_program.specs.declared.status.Status.TheVariants as status;
 
 use crate::exchange::answer_line;
@@ -21,7 +23,7 @@ use crate::status::Status;
 use command_words::{Task, WordsErr, task_of};
 use m3_model::limits::INPUT_END;
 use m3_outside::{Disks, Sink, Source};
-use served_cluster::Cluster;
+use saved_cluster::SavedCluster;
 use std::alloc::Global;
 
 /// How much is taken at once.
@@ -30,14 +32,14 @@ const PIECE: usize = 65536;
 /// Takes what one read gives, and writes the replies to the lines that it ends; 0 is the end of the input.
 fn serve_read<S: Source, K: Sink, X: Disks>(
     alloc: Global,
-    cluster: &mut Cluster<X::D>,
+    cluster: &mut SavedCluster<X::D>,
     disks: &mut X,
     line: &mut Vec<u8>,
     source: &mut S,
     out: &mut K,
     buf: &mut [u8],
 ) -> Result<usize, Status>
-    requires owned { MayServeCluster cluster.old (X.held disks.old) }
+    requires may { MayServeSaved X.D.state cluster.old (X.held disks.old) }
     ensures ok { IfOk result (λ n. (piece text : List ℕ) × Consumes (S.left source.old) (S.left source.new) piece × (length piece ≡ n) × (n ≤ length buf.old)
         × Appends (K.written out.old) (K.written out.new) text
         × TakesOn X.D.state (stage cluster.old (X.held disks.old) (X.counted disks.old) (X.all_faults disks.old)) line.old.items piece text
@@ -50,9 +52,10 @@ fn serve_read<S: Source, K: Sink, X: Disks>(
     ensures at_fault { IsErrOf result status.ReadFault → Consumes (S.left source.old) (S.left source.new) [] × Appends (K.written out.old) (K.written out.new) []
         × TakesOn X.D.state (stage cluster.old (X.held disks.old) (X.counted disks.old) (X.all_faults disks.old)) line.old.items [] []
         (stage cluster.new (X.held disks.new) (X.counted disks.new) (X.all_faults disks.new)) line.new.items }
-    ensures owned { MayServeCluster cluster.new (X.held disks.new) }
-    ensures later { (S.faulted source.old ≤ S.faulted source.new) × (K.faulted out.old ≤ K.faulted out.new) × (K.stalled out.old ≤ K.stalled out.new) }
-    ensures cause { IfErr result (λ s. EndsStep s (S.faulted source.old) (S.faulted source.new) (K.faulted out.old) (K.faulted out.new) (K.stalled out.old) (K.stalled out.new)) }
+    ensures may { OnOk result (MayServeSaved X.D.state cluster.new (X.held disks.new)) }
+    ensures close { MayClose cluster.new (X.held disks.new) }
+    ensures later { (S.faulted source.old ≤ S.faulted source.new) × (K.faulted out.old ≤ K.faulted out.new) × (K.stalled out.old ≤ K.stalled out.new) × ((X.D.state cluster.old.meta).faults ≤ (X.D.state cluster.new.meta).faults) }
+    ensures cause { IfErr result (λ s. EndsStep s (S.faulted source.old) (S.faulted source.new) (K.faulted out.old) (K.faulted out.new) (K.stalled out.old) (K.stalled out.new) (X.D.state cluster.old.meta).faults (X.D.state cluster.new.meta).faults) }
 {
     match source.read(buf) {
         Err(_) => Err(Status::ReadFault),
@@ -66,21 +69,21 @@ fn serve_read<S: Source, K: Sink, X: Disks>(
 /// Takes a last line without a newline, and writes its reply.
 fn serve_last<K: Sink, X: Disks>(
     alloc: Global,
-    cluster: &mut Cluster<X::D>,
+    cluster: &mut SavedCluster<X::D>,
     disks: &mut X,
     out: &mut K,
     line: &[u8],
 ) -> Result<(), Status>
-    requires owned { MayServeCluster cluster.old (X.held disks.old) }
+    requires may { MayServeSaved X.D.state cluster.old (X.held disks.old) }
     ensures ok { OnOk result ((text : List ℕ) × Appends (K.written out.old) (K.written out.new) text
         × Finishes X.D.state (stage cluster.old (X.held disks.old) (X.counted disks.old) (X.all_faults disks.old)) line.now text
         (stage cluster.new (X.held disks.new) (X.counted disks.new) (X.all_faults disks.new))) }
     ensures err { IfErr result (λ s. (text : List ℕ) × WritesUntil s (K.written out.old) text (K.written out.new)
         × HaltsLast X.D.state (stage cluster.old (X.held disks.old) (X.counted disks.old) (X.all_faults disks.old)) line.now text
         (stage cluster.new (X.held disks.new) (X.counted disks.new) (X.all_faults disks.new))) }
-    ensures owned { MayServeCluster cluster.new (X.held disks.new) }
-    ensures later { (K.faulted out.old ≤ K.faulted out.new) × (K.stalled out.old ≤ K.stalled out.new) }
-    ensures cause { IfErr result (λ s. EndsLine s (K.faulted out.old) (K.faulted out.new) (K.stalled out.old) (K.stalled out.new)) }
+    ensures close { MayClose cluster.new (X.held disks.new) }
+    ensures later { (K.faulted out.old ≤ K.faulted out.new) × (K.stalled out.old ≤ K.stalled out.new) × ((X.D.state cluster.old.meta).faults ≤ (X.D.state cluster.new.meta).faults) }
+    ensures cause { IfErr result (λ s. EndsLine s (K.faulted out.old) (K.faulted out.new) (K.stalled out.old) (K.stalled out.new) (X.D.state cluster.old.meta).faults (X.D.state cluster.new.meta).faults) }
 {
     if line.is_empty() {
         return Ok(());
@@ -88,7 +91,7 @@ fn serve_last<K: Sink, X: Disks>(
     let mut replies = Vec::new(alloc);
     match answer_line(alloc, cluster, disks, &mut replies, line) {
         Ok(()) => write_all(out, replies.as_slice()),
-        Err(_) => Err(Status::Memory),
+        Err(why) => Err(Status::of_lost(why)),
     }
 }
 
@@ -106,19 +109,20 @@ fn room_after(taken: u64) -> usize
 /// Reads lines, serves each and writes its reply, to the end of the input. The cluster keeps the disks that it has.
 fn serve_all<S: Source, K: Sink, X: Disks>(
     alloc: Global,
-    cluster: &mut Cluster<X::D>,
+    cluster: &mut SavedCluster<X::D>,
     disks: &mut X,
     source: &mut S,
     out: &mut K,
 ) -> Status
-    requires fresh { IsFresh X.D.state cluster.old }
-    requires owned { MayServeCluster cluster.old (X.held disks.old) }
+    requires fresh { IsFresh X.D.state (stage cluster.old (X.held disks.old) (X.counted disks.old) (X.all_faults disks.old)) }
+    requires may { MayServeSaved X.D.state cluster.old (X.held disks.old) }
     ensures told { (input before : List ℕ) → S.left source.old ≡ Some input → K.written out.old ≡ Some before
         → (left written : List ℕ) × (S.left source.new ≡ Some left) × (K.written out.new ≡ Some (before ++ written))
-        × HasServed X.D.state (record { held = X.held disks.old; counted = X.counted disks.old; faults = X.all_faults disks.old })
+        × HasServed X.D.state (opening_at (stage cluster.old (X.held disks.old) (X.counted disks.old) (X.all_faults disks.old)))
         (stage cluster.new (X.held disks.new) (X.counted disks.new) (X.all_faults disks.new)) result input left written }
-    ensures owned { MayServeCluster cluster.new (X.held disks.new) }
-    ensures cause { EndsReading result (S.faulted source.old) (S.faulted source.new) (K.faulted out.old) (K.faulted out.new) (K.stalled out.old) (K.stalled out.new) }
+    ensures close { MayClose cluster.new (X.held disks.new) }
+    ensures later { (X.D.state cluster.old.meta).faults ≤ (X.D.state cluster.new.meta).faults }
+    ensures cause { EndsReading result (S.faulted source.old) (S.faulted source.new) (K.faulted out.old) (K.faulted out.new) (K.stalled out.old) (K.stalled out.new) (X.D.state cluster.old.meta).faults (X.D.state cluster.new.meta).faults }
 {
     let mut line = Vec::new(alloc);
     let mut buf = [0u8; PIECE];
@@ -147,7 +151,7 @@ fn serve_all<S: Source, K: Sink, X: Disks>(
     Status::TooLong
 }
 
-/// Reads request lines to the input's end, over a cluster that has no nodes yet, and gives all disks back at the end.
+/// Opens the cluster that the meta disk has, reads request lines to the input's end, and gives all disks back at the end.
 fn run_lines<S: Source, K: Sink, X: Disks>(
     alloc: Global,
     source: &mut S,
@@ -157,27 +161,32 @@ fn run_lines<S: Source, K: Sink, X: Disks>(
     requires none_out { (slot : DiskSlot) → ¬ (X.held disks.old slot ≡ Out) }
     ensures told { (input before : List ℕ) → S.left source.old ≡ Some input → K.written out.old ≡ Some before
         → (left written : List ℕ) × (S.left source.new ≡ Some left) × (K.written out.new ≡ Some (before ++ written))
-        × HasRun X.D.state (record { held = X.held disks.old; counted = X.counted disks.old; faults = X.all_faults disks.old })
-        (record { all = X.all_faults disks.new; of_disk = X.counted disks.new }) [] None result input left written }
+        × Runs X.D.state (depot_by X.held X.counted X.all_faults disks.old) (depot_by X.held X.counted X.all_faults disks.new) [] result input left written }
     ensures none_out { (slot : DiskSlot) → ¬ (X.held disks.new slot ≡ Out) }
-    ensures cause { EndsReading result (S.faulted source.old) (S.faulted source.new) (K.faulted out.old) (K.faulted out.new) (K.stalled out.old) (K.stalled out.new) }
+    ensures cause { ((source.new ≡ source.old) × (out.new ≡ out.old) × IsUnopened X.D.state (depot_by X.held X.counted X.all_faults disks.old) (depot_by X.held X.counted X.all_faults disks.new) result)
+        ⊎ EndsReading result (S.faulted source.old) (S.faulted source.new) (K.faulted out.old) (K.faulted out.new) (K.stalled out.old) (K.stalled out.new) (X.counted disks.old meta_slot) (X.counted disks.new meta_slot) }
 {
-    let mut cluster = Cluster::new();
+    let mut cluster = match SavedCluster::open(alloc, disks) {
+        Ok(cluster) => cluster,
+        Err(why) => return Status::of_opening(why),
+    };
     let status = serve_all(alloc, &mut cluster, disks, source, out);
     cluster.close(disks);
     status
 }
 
-/// Serves the script of a number, over a cluster that has no nodes yet, and gives all disks back at the end.
+/// Opens the cluster that the meta disk has, serves the script of a number, and gives all disks back at the end.
 fn run_script<K: Sink, X: Disks>(alloc: Global, out: &mut K, disks: &mut X, number: u32) -> Status
     requires none_out { (slot : DiskSlot) → ¬ (X.held disks.old slot ≡ Out) }
     ensures told { (before : List ℕ) → K.written out.old ≡ Some before → (written : List ℕ) × (K.written out.new ≡ Some (before ++ written))
-        × HasGenerated X.D.state (record { held = X.held disks.old; counted = X.counted disks.old; faults = X.all_faults disks.old })
-        (record { all = X.all_faults disks.new; of_disk = X.counted disks.new }) [] None number result written }
+        × Generates X.D.state (depot_by X.held X.counted X.all_faults disks.old) (depot_by X.held X.counted X.all_faults disks.new) [] number result written }
     ensures none_out { (slot : DiskSlot) → ¬ (X.held disks.new slot ≡ Out) }
-    ensures cause { EndsScript result (K.faulted out.old) (K.faulted out.new) (K.stalled out.old) (K.stalled out.new) }
+    ensures cause { ((out.new ≡ out.old) × IsUnopened X.D.state (depot_by X.held X.counted X.all_faults disks.old) (depot_by X.held X.counted X.all_faults disks.new) result) ⊎ EndsScript result (K.faulted out.old) (K.faulted out.new) (K.stalled out.old) (K.stalled out.new) (X.counted disks.old meta_slot) (X.counted disks.new meta_slot) }
 {
-    let mut cluster = Cluster::new();
+    let mut cluster = match SavedCluster::open(alloc, disks) {
+        Ok(cluster) => cluster,
+        Err(why) => return Status::of_opening(why),
+    };
     let status = generate(alloc, &mut cluster, disks, out, number);
     cluster.close(disks);
     status
@@ -185,7 +194,8 @@ fn run_script<K: Sink, X: Disks>(alloc: Global, out: &mut K, disks: &mut X, numb
 
 /// The program: the words say what is done. By `run` it reads request lines to the input's end, serves each in order and
 /// writes each reply as a line, before it reads on. By `generate` and a number it serves the number's script, reads nothing,
-/// and writes one line of summary. The nodes' replicas stand over these disks, which are all given back at the end.
+/// and writes one line of summary. The cluster goes on with the last state that the meta disk has, and keeps its state there;
+/// where that can't be read, nothing is served. The nodes' replicas stand over these disks, which are all given back at the end.
 pub fn run<S: Source, K: Sink, X: Disks>(
     alloc: Global,
     words: &[String],
@@ -196,16 +206,15 @@ pub fn run<S: Source, K: Sink, X: Disks>(
     requires none_out { (slot : DiskSlot) → ¬ (X.held disks.old slot ≡ Out) }
     ensures told { task_of (map string_bytes words.now) ≡ Some task.Run → (input before : List ℕ) → S.left source.old ≡ Some input → K.written out.old ≡ Some before
         → (left written : List ℕ) × (S.left source.new ≡ Some left) × (K.written out.new ≡ Some (before ++ written))
-        × HasRun X.D.state (record { held = X.held disks.old; counted = X.counted disks.old; faults = X.all_faults disks.old })
-        (record { all = X.all_faults disks.new; of_disk = X.counted disks.new }) [] None result input left written }
+        × Runs X.D.state (depot_by X.held X.counted X.all_faults disks.old) (depot_by X.held X.counted X.all_faults disks.new) [] result input left written }
     ensures generated { (number : ℕ) → task_of (map string_bytes words.now) ≡ Some (task.Generate number) → (before : List ℕ) → K.written out.old ≡ Some before
         → (written : List ℕ) × (K.written out.new ≡ Some (before ++ written))
-        × HasGenerated X.D.state (record { held = X.held disks.old; counted = X.counted disks.old; faults = X.all_faults disks.old })
-        (record { all = X.all_faults disks.new; of_disk = X.counted disks.new }) [] None number result written }
+        × Generates X.D.state (depot_by X.held X.counted X.all_faults disks.old) (depot_by X.held X.counted X.all_faults disks.new) [] number result written }
     ensures unread { (task_of (map string_bytes words.now) ≡ Some task.Run → ⊥) → source.new ≡ source.old }
     ensures idle { task_of (map string_bytes words.now) ≡ None → (out.new ≡ out.old) × (disks.new ≡ disks.old) }
     ensures none_out { (slot : DiskSlot) → ¬ (X.held disks.new slot ≡ Out) }
-    ensures cause { EndsTask (task_of (map string_bytes words.now)) result (S.faulted source.old) (S.faulted source.new) (K.faulted out.old) (K.faulted out.new) (K.stalled out.old) (K.stalled out.new) }
+    ensures cause { EndsTask (task_of (map string_bytes words.now)) result ((source.new ≡ source.old) × (out.new ≡ out.old) × IsUnopened X.D.state (depot_by X.held X.counted X.all_faults disks.old) (depot_by X.held X.counted X.all_faults disks.new) result)
+        (S.faulted source.old) (S.faulted source.new) (K.faulted out.old) (K.faulted out.new) (K.stalled out.old) (K.stalled out.new) (X.counted disks.old meta_slot) (X.counted disks.new meta_slot) }
 {
     match task_of(alloc, words) {
         Ok(Task::Run) => run_lines(alloc, source, out, disks),

@@ -1,5 +1,9 @@
 ghost use Rattle.std.specs.Prelude.{◌≡◌};
 ghost use Rattle.m3_program.specs.Codes.{code_of};
+ghost use Rattle.m3_program.specs.Openings.{ended_by, ended_for};
+
+use placement_log::OpenErr;
+use saved_cluster::Lost;
 
 /// How a run ends.
 #[derive(Clone, Copy, Debug, PartialEq, Eq)]
@@ -12,11 +16,11 @@ pub enum Status {
     ReadFault,
     /// The sink failed, or took nothing of a piece that isn't empty.
     WriteFault,
-    /// A disk failed at opening, or the meta disk while a line was served.
+    /// A disk failed as the cluster was opened, or the meta disk while a line was served.
     DiskFault,
-    /// The placement log is damaged.
+    /// The placement log of the meta disk was damaged as the cluster was opened.
     Corrupt,
-    /// Want of memory for the words, a line, its reply or the run itself.
+    /// Want of memory for the words, the cluster as it was opened, a line, its reply, or the replicas of an `init`.
     Memory,
     /// 2^32 bytes were taken, and the input's end wasn't reached.
     TooLong,
@@ -36,6 +40,27 @@ impl Status {
             Status::Corrupt => 5,
             Status::Memory => 6,
             Status::TooLong => 8,
+        }
+    }
+
+    /// How a run ends whose cluster isn't opened for this cause.
+    pub(crate) fn of_opening(why: OpenErr) -> Status
+        ensures { result ≡ ended_by why }
+    {
+        match why {
+            OpenErr::Disk => Status::DiskFault,
+            OpenErr::Memory => Status::Memory,
+            OpenErr::Digest { .. } | OpenErr::Form { .. } => Status::Corrupt,
+        }
+    }
+
+    /// How a run ends that can't go on for this cause.
+    pub(crate) fn of_lost(why: Lost) -> Status
+        ensures { result ≡ ended_for why }
+    {
+        match why {
+            Lost::Meta => Status::DiskFault,
+            Lost::Memory => Status::Memory,
         }
     }
 

@@ -16,6 +16,10 @@ pub use nodes::{deliver, set_fates, stop};
 pub mod of_cluster_members {
     pub use cluster_members::{Members, Range};
 }
+/// Of `event_trail`.
+pub mod of_event_trail {
+    pub use cluster_members::of_event_trail::Trail;
+}
 /// Of `replica_calls`.
 pub mod of_replica_calls {
     pub use cluster_members::of_replica_calls::Replicas;

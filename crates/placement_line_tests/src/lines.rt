@@ -28,3 +28,15 @@ fn stories_from_the_start(rt: HostRuntime) -> Result<(), Fail> {
     assert_eq!(rt; wrong.as_str(), "");
     Ok(())
 }
+
+// Before `init` a moment is refused. This story tells otherwise.
+const OTHERWISE: &str = r#"{"op":"now","now":100}
+{"ok":true}"#;
+
+#[test]
+fn a_story_that_tells_otherwise_is_found(rt: HostRuntime) -> Result<(), Fail> {
+    let wrong = first_wrong(rt.alloc(), "", "", &[BEFORE_INIT, OTHERWISE])?;
+    let ended = "Done: {\"code\":3,\"error\":\"order\",\"ok\":false}\n";
+    assert_eq!(rt; wrong.as_str(), ended);
+    Ok(())
+}

@@ -6,6 +6,7 @@ ghost use Rattle.m3_outside.specs.Files.{Files, Stays};
 ghost use Rattle.m3_outside.specs.declared.disk_err.DiskErr.TheVariants.{Failed as DiskFailed};
 ghost use Rattle.meta_bytes.specs.States.{IsMetaState};
 ghost use Rattle.placement_log.specs.MetaHolds.{MetaHolds, KeepsLast, MaySave, Saves, Sweeps, MetaStands, HasRoom, IsReadyToSave, Appended};
+ghost use Rattle.placement_log.specs.States.{MayBeState};
 ghost use Rattle.placement_log.specs.Damage.{MayBeDamaged};
 ghost use Rattle.placement_log.specs.declared.open_err.OpenErr.TheVariants as failures;
 
@@ -64,6 +65,10 @@ impl MetaLog {
         ensures ok { IfOk result (λ r. Told (D.state disk.new) (MetaHolds r.1)) }
         ensures only { IfOk result (λ _. EachImage (D.state disk.new) (λ c. c ≡ (D.state disk.new).files)) }
         ensures stands { IfOk result (λ r. MetaStands r.0 (D.state disk.new)) }
+
+        // Whatever the disk is, it is a state that a cluster may have.
+        ensures state { IfOk result (λ r. MayBeState r.1) }
+
         ensures err { IfErr result (λ e. Told (D.state disk.old) (λ files. MayBeDamaged files e)) }
         ensures any_moment { (D.state disk.old).tells ≡ true → Elapses Stays (D.state disk.old) (D.state disk.new) }
         ensures files { (D.state disk.old).tells ≡ true → (D.state disk.new).files ≡ (D.state disk.old).files }

@@ -6,6 +6,7 @@ ghost use Rattle.m3_outside.specs.DiskCalls.{LeavesFiles};
 ghost use Rattle.commit_log.specs.Contents.{segment_bytes, numbers as numbers_in};
 ghost use Rattle.commit_log.specs.LogEnd.{NoneFrom};
 ghost use Rattle.placement_log.specs.MetaHolds.{MetaHolds};
+ghost use Rattle.placement_log.specs.States.{MayBeState};
 ghost use Rattle.placement_log.specs.Damage.{in_segment, ReadsStates, FindsStates, MayBeBroken, MayBeDamaged};
 ghost use Rattle.placement_log.specs.declared.open_err.OpenErr.TheVariants as failures;
 
@@ -45,6 +46,7 @@ fn read_one<D: Disk>(
     ensures leaves { LeavesFiles (IsErrOf result failures.Disk) (D.state disk.old) (D.state disk.new) }
     ensures ok { (D.state disk.old).tells ≡ true → OnOk result (ReadsStates (segment_bytes number (D.state disk.old).files) last.old last.new) }
     ensures err { (D.state disk.old).tells ≡ true → IfErr result (MayBeBroken number (D.state disk.old).files) }
+    ensures state { MayBeState last.old → MayBeState last.new }
 {
     let front = read_front(alloc, disk, number)?;
     match read_segment(alloc, &front, last) {
@@ -64,6 +66,7 @@ fn read_segments<D: Disk>(
     ensures leaves { LeavesFiles (IsErrOf result failures.Disk) (D.state disk.old) (D.state disk.new) }
     ensures ok { (D.state disk.old).tells ≡ true → OnOk result (FindsStates numbers.now (D.state disk.old).files last.old last.new) }
     ensures err { (D.state disk.old).tells ≡ true → IfErr result (MayBeDamaged (D.state disk.old).files) }
+    ensures state { MayBeState last.old → MayBeState last.new }
 {
     for number in numbers {
         read_one(alloc, disk, *number, last)?;
@@ -84,6 +87,7 @@ pub(crate) struct LogContents {
 pub(crate) fn read_log<D: Disk>(alloc: Global, disk: &mut D) -> Result<LogContents, OpenErr>
     ensures leaves { LeavesFiles (IsErrOf result failures.Disk) (D.state disk.old) (D.state disk.new) }
     ensures ok { (D.state disk.old).tells ≡ true → IfOk result (λ held. MetaHolds held.last (D.state disk.old).files) }
+    ensures state { IfOk result (λ held. MayBeState held.last) }
     ensures fresh { IfOk result (λ held. Told (D.state disk.new) (NoneFrom held.next)) }
     ensures some { IfOk result (λ held. 1 ≤ held.next) }
     ensures few { IfOk result (λ held. held.next ≤ NUMBER_END) }

@@ -2,7 +2,7 @@
 ghost use Rattle.std.specs.Prelude.{ℕ, ◌-◌, ◌≤◌, List, length, take, drop, IfOk, IfErr, OnOk};
 ghost use Rattle.m3_model.specs.declared.limits.TheConstants.{SEGMENT_BYTES};
 ghost use Rattle.commit_log.specs.Reading.{IsFront};
-ghost use Rattle.placement_log.specs.States.{IsPayload};
+ghost use Rattle.placement_log.specs.States.{IsPayload, MayBeState};
 ghost use Rattle.placement_log.specs.Damage.{MayBreakFrom, ReadsStates, MayStop};
 
 use crate::payload::{PayloadErr, read_payload};
@@ -44,6 +44,7 @@ pub(crate) fn read_segment(
     requires { length front.now.bytes.items ≤ SEGMENT_BYTES }
     ensures ok { OnOk result ((file : List ℕ) → IsFront front.now.bytes.items front.now.is_whole file → ReadsStates file last.old last.new) }
     ensures err { IfErr result (λ e. (file : List ℕ) → IsFront front.now.bytes.items front.now.is_whole file → MayStop file e) }
+    ensures state { MayBeState last.old → MayBeState last.new }
 {
     let bytes = front.bytes.as_slice();
     let mut at = 0;

@@ -3,6 +3,7 @@ pub mod ServeLemmas
 pub mod StandLemmas
 pub use Rattle.act_lines.proofs as act_lines_proofs
 pub use Rattle.act_lines.proofs.call_lines_proofs as call_lines_proofs
+pub use Rattle.act_lines.proofs.cluster_members_proofs as cluster_members_proofs
 pub use Rattle.act_lines.proofs.first_cluster_proofs as first_cluster_proofs
 pub use Rattle.act_lines.proofs.replica_machine_proofs as replica_machine_proofs
 pub use Rattle.act_lines.proofs.session_net_proofs as session_net_proofs

@@ -13,11 +13,13 @@ pub mod of_cluster_members {
 }
 /// Of `cluster_placements`.
 pub mod of_cluster_placements {
-    pub use cluster_placements::change_placement;
+    pub use cluster_placements::{Change, Untaken, change_placement, make_change, plan_change};
 }
 /// Of `first_cluster`.
 pub mod of_first_cluster {
-    pub use act_lines::of_first_cluster::{first_members, give_all};
+    pub use act_lines::of_first_cluster::{
+        Lent, begin_first, first_members, give_all, give_back, lend_first, plan_first,
+    };
 }
 /// Of `node_calls`.
 pub mod of_node_calls {

@@ -1,5 +1,5 @@
 -- A cluster is ready: when it begins, and also after an act.
-use Rattle.std.proofs.Common.{◌≡◌, ℕ, List, ◌++◌, sym, ap, subst, ◌∙◌}
+use Rattle.std.proofs.Common.{◌≡◌, ◌<◌, ◌≤◌, arith, ℕ, List, ◌++◌, sym, ap, subst, ◌∙◌}
 use Rattle.std.specs.Prelude.{Option, Some}
 use Rattle.std.specs.List.{Any}
 use Rattle.m3_model.specs.Members.{IsIn}
@@ -27,7 +27,7 @@ use Rattle.cluster_tracks.specs.node_calls.Nodes.{IsFated, KeepsButFates}
 use Rattle.cluster_tracks.specs.first_cluster.Depots.{OwnedBy}
 use Rattle.cluster_tracks.specs.first_cluster.First.{IsFirst}
 use Rattle.cluster_tracks.specs.first_cluster.Slots.{AreApart}
-use Rattle.cluster_tracks.proofs.first_cluster_proofs.PlacedSlots.{node_low, shard_low}
+use Rattle.cluster_tracks.proofs.first_cluster_proofs.PlacedSlots.{node_low, shard_low, no_meta}
 use Rattle.cluster_tracks.proofs.first_cluster_proofs.SlotLists.{slots_apart}
 use Rattle.cluster_tracks.specs.cluster_placements.Slots.{AreSlotsIn}
 use Rattle.cluster_tracks.specs.cluster_placements.Steps.{MayChange}
@@ -83,7 +83,13 @@ fated_ready state m g id list b done fated was = ready_on state m g id (act.Fate
 pub first_ready : {D : Type 0} {G : Ghosts D} (state : D → DiskState) (rf shards seed : ℕ) (nodes : List (List ℕ × List ℕ)) (old now : Depot D) (m : Members D G) → IsFirst state rf shards seed nodes old now m → IsReady m.net.state m.net.replicas m.net.bag → OwnedBy (Some m) now.held
     → AreReady (Some m)
 first_ready state rf shards seed nodes old now m first ready own = (
-  (ready, λ s i none. own.there s none (first.opened.taken.taken s i).held),
+  (
+    ready,
+    λ s i none.
+        let low = node_low m.net.state.place rf shards nodes first.place s (subst (λ xs. IsIn xs s) first.slots i) in
+        let few = first.lawful.limits.few_nodes in
+        own.there s (no_meta s (omega (arith, low, few))) none (first.opened.taken.taken s i).held,
+  ),
   λ place i. absurd (subst (λ ps. IsIn ps place) first.past i),
   record {
     slots = record {

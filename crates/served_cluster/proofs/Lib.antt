@@ -2,4 +2,6 @@ pub mod ActLemmas
 pub mod OwnLemmas
 pub mod KeptLemmas
 pub mod TrackLemmas
+pub mod PlaceLemmas
+pub mod PlanLemmas
 pub use Rattle.cluster_tracks.proofs.EndLemmas

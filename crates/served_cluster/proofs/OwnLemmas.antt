@@ -1,6 +1,6 @@
 -- Whose the disks are that are out.
 use Rattle.std.proofs.Common.{◌≡◌, ℕ, List, refl, sym, subst, ◌∙◌, true, false, inl, inr}
-use Rattle.std.specs.Prelude.{◌≢◌, ◌⊎◌, Option, Some, None}
+use Rattle.std.specs.Prelude.{◌≢◌, ◌⊎◌, Option, Some, None, ◌<◌}
 use Rattle.std.specs.FinMap as finite
 use Rattle.std.specs.Option.{is_some}
 use Rattle.m3_model.specs.Members.{IsIn}
@@ -8,6 +8,7 @@ use Rattle.m3_model.specs.declared.act.Act.{Act}
 use Rattle.m3_model.specs.declared.act.Act.TheVariants as act
 use Rattle.m3_model.specs.declared.answer.Answer.{Answer}
 use Rattle.m3_model.specs.declared.answer.Answer.TheVariants as answer
+use Rattle.m3_model.specs.declared.limits.TheConstants.{MOST_NODES}
 use Rattle.m3_outside.specs.Depots.{Depot}
 use Rattle.m3_outside.specs.DiskState.{DiskState}
 use Rattle.m3_outside.specs.Slots.{Held, Out}
@@ -20,14 +21,17 @@ use Rattle.cluster_tracks.specs.session_net.Runs.{slot_at}
 use Rattle.cluster_tracks.specs.cluster_members.declared.members.Members.{Members}
 use Rattle.placement_acts.specs.Acts.{is_step_act}
 use Rattle.cluster_tracks.specs.first_cluster.First.{IsRefusedInit}
-use Rattle.cluster_tracks.specs.first_cluster.Depots.{AreOut, OwnedBy, disk_slot_of}
+use Rattle.cluster_tracks.specs.first_cluster.Depots.{AreOut, OwnedBy, disk_slot_of, IsForReplicas}
 use Rattle.cluster_tracks.specs.first_cluster.Lending.{HasGivenBack, HasReturned, IsBack, IsGivenBack, IsKept, IsUntouched}
 use Rattle.cluster_tracks.proofs.first_cluster_proofs.GiveAll.{returned_none}
 use Rattle.cluster_tracks.specs.cluster_placements.Steps.{IsChanged, kept_in}
 use Rattle.cluster_tracks.specs.Acts.{Does, IsServedBy, IsStepAnswer, OnMembers, next_call}
+use Rattle.cluster_tracks.proofs.first_cluster_proofs.PlacedSlots.{no_meta}
+use Rattle.cluster_tracks.proofs.first_cluster_proofs.SlotLists.{in_or_out}
 use Rattle.cluster_tracks.specs.Slots.{KeepsSlots}
 use Rattle.cluster_tracks.proofs.SlotLemmas.{acts_keep_slots}
 use Rattle.served_cluster.specs.Acts.{Answers, Serves, is_init}
+use Rattle.served_cluster.specs.Owned.{held_at}
 use Rattle.served_cluster.specs.declared.cluster.Cluster.{Cluster}
 
 -- ---- `init`
@@ -51,17 +55,35 @@ refused_returned state rf shards seed nodes old new _ h = absurd h
 -- ---- disks given back
 
 module _ {D : Type 0} (state : D → DiskState) where
-  -- after an `init` that was refused no disk is out
-  pub none_returned : (old new : Depot D) → ((disk_slot : DiskSlot) → old.held disk_slot ≢ Out) → HasReturned state old finite.empty new → (disk_slot : DiskSlot) → new.held disk_slot ≢ Out
-  none_returned old new none h disk_slot out = by (h.each (slot_at disk_slot.node disk_slot.shard))
+  -- after an `init` that was refused no disk is out, but the meta disk may be
+  pub none_returned : (old new : Depot D) → ((disk_slot : DiskSlot) → IsForReplicas disk_slot → old.held disk_slot ≢ Out) → HasReturned state old finite.empty new → (disk_slot : DiskSlot) → IsForReplicas disk_slot → new.held disk_slot ≢ Out
+  none_returned old new none h disk_slot other out = by (h.each (slot_at disk_slot.node disk_slot.shard))
     where
       by : IsUntouched old finite.empty new (slot_at disk_slot.node disk_slot.shard) ⊎ IsGivenBack state old finite.empty new (slot_at disk_slot.node disk_slot.shard) → ⊥
-      by (inl same) = none disk_slot (sym same.held ∙ out)
+      by (inl same) = none disk_slot other (sym same.held ∙ out)
       by (inr back) = (let clash = sym back.held ∙ out in cc)
 
+  -- the meta disk stays where it is, as disks of nodes are given back
+  pub meta_stays : (slots : List Slot) (old new : Depot D) (members left : MemberMap D) → AreOut slots members old.held → ((s : Slot) → IsIn slots s → s.node < MOST_NODES) → HasGivenBack state slots old members new left
+      → (disk_slot : DiskSlot) → ¬ IsForReplicas disk_slot → new.held disk_slot ≡ old.held disk_slot
+  meta_stays slots old new members left own low h disk_slot is = by (h.each s)
+    where
+      s : Slot
+      s = slot_at disk_slot.node disk_slot.shard
+
+      in_slots : (m : Member D) → finite.get members s ≡ Some m → IsIn slots s
+      in_slots m there = elim (in_or_out slots s) as (λ _. IsIn slots s) [
+        | inl i ↦ i
+        | inr out ↦ absurd (let clash : None ≡ Some m = sym (own.only s out) ∙ there in cc)
+      ]
+
+      by : IsKept old members new left s ⊎ IsBack state members new left s → new.held disk_slot ≡ old.held disk_slot
+      by (inl kept) = kept.held
+      by (inr back) = absurd (is (no_meta s (low s (in_slots back.member back.was))))
+
   -- nor once those of all slots are given back
-  pub none_given_back : (slots : List Slot) (old new : Depot D) (members left : MemberMap D) → AreOut slots members old.held → HasGivenBack state slots old members new left → (disk_slot : DiskSlot) → new.held disk_slot ≢ Out
-  none_given_back slots old new members left own h disk_slot out = by (h.each s)
+  pub none_given_back : (slots : List Slot) (old new : Depot D) (members left : MemberMap D) → AreOut slots members old.held → HasGivenBack state slots old members new left → (disk_slot : DiskSlot) → IsForReplicas disk_slot → new.held disk_slot ≢ Out
+  none_given_back slots old new members left own h disk_slot other out = by (h.each s)
     where
       s : Slot
       s = slot_at disk_slot.node disk_slot.shard
@@ -74,8 +96,23 @@ module _ {D : Type 0} (state : D → DiskState) where
           own.only s away
 
       by : IsKept old members new left s ⊎ IsBack state members new left s → ⊥
-      by (inl kept) = own.there s (none_left (finite.get members s) refl kept.member) (sym kept.held ∙ out)
+      by (inl kept) = own.there s other (none_left (finite.get members s) refl kept.member) (sym kept.held ∙ out)
       by (inr back) = (let clash = sym back.held ∙ out in cc)
+
+  -- each slot has its own disk again
+  pub held_back : (slots : List Slot) (old new : Depot D) (members left : MemberMap D) → AreOut slots members old.held → HasGivenBack state slots old members new left
+      → (s : Slot) → new.held (disk_slot_of s) ≡ held_at old (finite.get members s) s
+  held_back slots old new members left own h s = by (h.each s)
+    where
+      none_left : (o : Option (Member D)) → finite.get members s ≡ o → finite.get left s ≡ finite.get members s → finite.get members s ≡ None
+      none_left None is same = is
+      none_left (Some m) is same =
+          let away : ¬ IsIn slots s = λ i. (let clash : None ≡ Some m = sym (h.gone s i) ∙ same ∙ is in cc) in
+          own.only s away
+
+      by : IsKept old members new left s ⊎ IsBack state members new left s → new.held (disk_slot_of s) ≡ held_at old (finite.get members s) s
+      by (inl kept) = subst (λ o. new.held (disk_slot_of s) ≡ held_at old o s) (sym (none_left (finite.get members s) refl kept.member)) kept.held
+      by (inr back) = subst (λ o. new.held (disk_slot_of s) ≡ held_at old o s) (sym back.was) back.held
 
 -- ---- acts
 
@@ -84,7 +121,7 @@ module _ {D : Type 0} {G : Ghosts D} (state : D → DiskState) (held : DiskSlot 
   owned_on m g keeps own = record {
     only = λ s away. (keeps.same s).1 (own.only s (λ i. away (subst (λ slots. IsIn slots s) (sym keeps.slots) i)));
     lent = λ s r is. by_old s (finite.get m.net.replicas.members s) refl (λ none. (let clash : None ≡ Some r = sym ((keeps.same s).1 none) ∙ is in cc));
-    there = λ s none. own.there s ((keeps.same s).0 none);
+    there = λ s other none. own.there s other ((keeps.same s).0 none);
   }
     where
       by_old : (s : Slot) (o : Option (Member D)) → finite.get m.net.replicas.members s ≡ o → (finite.get m.net.replicas.members s ≡ None → ⊥) → held (disk_slot_of s) ≡ Out

@@ -1,14 +1,23 @@
 -- What a cluster answers an act, and what that leaves of it.
-use Rattle.std.specs.Prelude.{◌≡◌, Bool, true, false}
+use Rattle.std.specs.Prelude.{◌≡◌, ◌+◌, ℕ, List, Bool, true, false, replicate}
+use Rattle.m3_model.specs.declared.limits.TheConstants.{MOST_CLIENTS}
 use Rattle.m3_model.specs.declared.act.Act.{Act}
 use Rattle.m3_model.specs.declared.act.Act.TheVariants as act
 use Rattle.m3_model.specs.declared.answer.Answer.{Answer}
+use Rattle.m3_model.specs.declared.turn.Reply.{Reply}
+use Rattle.m3_model.specs.declared.turn.Reply.TheVariants as reply
+use Rattle.m3_model.specs.declared.turn.Request.{Request}
+use Rattle.m3_model.specs.declared.turn.Request.TheVariants as request
 use Rattle.m3_outside.specs.Depots.{Depot}
 use Rattle.m3_outside.specs.DiskState.{DiskState}
 use Rattle.m3_outside.specs.declared.disk.Disk.{Ghosts}
 use Rattle.cluster_tracks.specs.Numbers.{numbers_by}
 use Rattle.cluster_tracks.specs.Acts.{Does, IsServedBy, OnMembers, next_call}
 use Rattle.served_cluster.specs.declared.cluster.Cluster.{Cluster}
+
+-- the numbers of the next calls where none was made: those of the lines outside `par`, and of each client
+abbrev pub first_numbers : List ℕ
+first_numbers = replicate (MOST_CLIENTS + 1) 0
 
 -- the act makes a cluster
 abbrev pub is_init : Act → Bool
@@ -29,3 +38,8 @@ pub record Answers {D : Type 0} {G : Ghosts D} (state : D → DiskState) (old : 
 pub record Serves {D : Type 0} {G : Ghosts D} (state : D → DiskState) (depot : Depot D) (old : Cluster D G) (a : Act) (answered : Answer) (after : Depot D) (new : Cluster D G) : Type 0 where
   pub members : IsServedBy state old.calls depot old.members a answered after new.members
   pub calls : new.calls ≡ numbers_by a answered old.calls
+
+-- the same of a request; those of several clients aren't served
+abbrev pub ServesRequest : {D : Type 0} {G : Ghosts D} → (D → DiskState) → Depot D → Cluster D G → Request → Reply → Depot D → Cluster D G → Type 0
+ServesRequest state depot old (request.One a) (reply.One b) after new = Serves state depot old a b after new
+ServesRequest state depot old _ _ after new = ⊥

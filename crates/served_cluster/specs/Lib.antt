@@ -1,4 +1,5 @@
 pub mod Owned
+pub mod Plans
 pub mod Acts
 pub use Rattle.cluster_tracks.specs.Ends
 pub use Rattle.cluster_tracks.specs.Tracks

@@ -4,17 +4,18 @@ use Rattle.std.specs.FinMap.{get}
 use Rattle.m3_model.specs.declared.placement.Placement.{Placement}
 use Rattle.m3_outside.specs.Depots.{Depot}
 use Rattle.m3_outside.specs.DiskState.{DiskState}
-use Rattle.m3_outside.specs.Slots.{Held}
+use Rattle.m3_outside.specs.Slots.{Held, Here}
 use Rattle.m3_outside.specs.declared.disk.Disk.{Ghosts}
 use Rattle.m3_outside.specs.declared.slot.DiskSlot.{DiskSlot}
 use Rattle.m3_model.specs.declared.turn.Turn.{Turn}
+use Rattle.cluster_tracks.specs.replica_exchange.declared.member.Member.{Member}
 use Rattle.cluster_tracks.specs.replica_exchange.declared.slot.Slot.{Slot}
 use Rattle.cluster_tracks.specs.session_net.Ready.{IsReady}
 use Rattle.cluster_tracks.specs.session_net.Runs.{steps_of}
 use Rattle.cluster_tracks.specs.cluster_members.Kept.{PastServes}
 use Rattle.cluster_tracks.specs.cluster_members.declared.members.Members.{Members}
 use Rattle.cluster_tracks.specs.node_calls.Halts.{AreManned}
-use Rattle.cluster_tracks.specs.first_cluster.Depots.{OwnedBy}
+use Rattle.cluster_tracks.specs.first_cluster.Depots.{OwnedBy, disk_slot_of}
 use Rattle.cluster_tracks.specs.cluster_placements.Slots.{AreSlotsIn}
 use Rattle.cluster_tracks.specs.Tracks.{Tracks}
 use Rattle.served_cluster.specs.declared.cluster.Cluster.{Cluster}
@@ -37,6 +38,11 @@ AreReady (Some m) = MayGo m × PastServes m × HasItsSlots m
 pub record MayServeCluster {D : Type 0} {G : Ghosts D} (c : Cluster D G) (held : DiskSlot → Held D) : Type 0 where
   pub owned : OwnedBy c.members held
   pub ready : AreReady c.members
+
+-- what a slot's disk is: where a replica has it, that one, and else the one in the slot
+abbrev pub held_at : {D : Type 0} → Depot D → Option (Member D) → Slot → Held D
+held_at depot None s = depot.held (disk_slot_of s)
+held_at depot (Some member) s = Here member.machine.disk
 
 abbrev pub place_of : {D : Type 0} {G : Ghosts D} → Cluster D G → Option Placement
 place_of c = option_map (λ m. m.net.state.place) c.members

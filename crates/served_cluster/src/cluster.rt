@@ -16,15 +16,15 @@ ghost use Rattle.cluster_tracks.specs.session_net.Ready.{IsReady};
 ghost use Rattle.cluster_tracks.specs.transcripts.Placements.{placement_after};
 ghost use Rattle.cluster_tracks.specs.transcripts.Record.{IsAnsweredBy, inner_turns};
 ghost use Rattle.cluster_tracks.specs.first_cluster.Bare.{AreBare};
-ghost use Rattle.cluster_tracks.specs.first_cluster.Depots.{RisesBy, count_at, depot_by, disk_slot_of};
+ghost use Rattle.cluster_tracks.specs.first_cluster.Depots.{RisesBy, count_at, depot_by, disk_slot_of, IsForReplicas};
 ghost use Rattle.cluster_tracks.specs.Ends.{replica_at};
 ghost use Rattle.cluster_tracks.specs.Tracks.{events_of};
 ghost use Rattle.cluster_tracks.specs.Numbers.{last_number};
 ghost use Rattle.cluster_tracks.specs.replica_exchange.declared.call_id.CallId.{CallId as CallName};
 ghost use Rattle.cluster_tracks.specs.Acts.{Does, IsInitAnswer};
 ghost use Rattle.cluster_tracks.specs.Lines.{EachMember};
-ghost use Rattle.served_cluster.specs.Acts.{Answers, Serves, is_init, sets_fates};
-ghost use Rattle.served_cluster.specs.Owned.{AreReady, MayServeCluster, TracksTurns, place_of};
+ghost use Rattle.served_cluster.specs.Acts.{Answers, Serves, ServesRequest, first_numbers, is_init, sets_fates};
+ghost use Rattle.served_cluster.specs.Owned.{AreReady, MayServeCluster, TracksTurns, held_at, place_of};
 
 use cluster_tracks::of_cluster_members::{Members, Range};
 use cluster_tracks::of_cluster_placements::change_placement;
@@ -154,6 +154,7 @@ impl<D: Disk> Cluster<D> {
     /// No nodes yet.
     pub fn new() -> Cluster<D>
         ensures none { result.members ≡ None }
+        ensures calls { result.calls ≡ first_numbers }
         ensures tracks { (tells : Bool) (first : Depot D) → (tells ≡ true → TellAll D.state) → (tells ≡ true → AreBare D.state first.held) → TracksTurns D.state tells first first [] result }
     {
         Cluster {
@@ -173,8 +174,8 @@ impl<D: Disk> Cluster<D> {
         }
     }
 
-    // The list of events is legal as far as the disks tell, and each replica is what it says.
-    fn know(&self)
+    /// The list of events is legal as far as the disks tell, and each replica is what it says.
+    pub fn know(&self)
         ensures legal { IsLegalOver D.state (events_of self.now.members) }
         ensures members { EachMember self.now.members (λ m. AreMembersOf D.state m.net.replicas) }
     {
@@ -341,7 +342,7 @@ impl<D: Disk> Cluster<D> {
         self.serve_other(alloc, disks, act)
     }
 
-    /// Answers one request. The turns so far that are tracked are so with this one.
+    /// Answers one request.
     pub fn serve<X: Disks<D = D>>(
         &mut self,
         alloc: Global,
@@ -353,6 +354,14 @@ impl<D: Disk> Cluster<D> {
         requires owned { MayServeCluster self.old (X.held disks.old) }
         ensures owned { MayServeCluster self.new (X.held disks.new) }
         ensures answered { IsAnsweredBy request result }
+
+        // Whatever stood before, it does what the request asks for and no more; so the tenures end of replicas that a placement takes away.
+        ensures served { ServesRequest D.state (depot_by X.held X.counted X.all_faults disks.old) self.old request result (depot_by X.held X.counted X.all_faults disks.new) self.new }
+
+        // The placement stands then that stood before, or the one that the reply prints.
+        ensures place { placement_after (place_of self.old) (inner_turns (record { request = request; reply = result } ∷ [])) ≡ place_of self.new }
+
+        // And the turns so far that are tracked are so with this one.
         ensures tracks { (tells : Bool) (first : Depot D) (turns : List Turn)
             → TracksTurns D.state tells first (record { held = X.held disks.old; counted = X.counted disks.old; faults = X.all_faults disks.old }) turns self.old
             → TracksTurns D.state tells first (record { held = X.held disks.new; counted = X.counted disks.new; faults = X.all_faults disks.new }) (turns ++ record { request = request; reply = result } ∷ []) self.new }
@@ -372,7 +381,9 @@ impl<D: Disk> Cluster<D> {
     /// Takes no memory.
     pub fn close<X: Disks<D = D>>(self, disks: &mut X)
         requires owned { MayServeCluster self (X.held disks.old) }
-        ensures none_out { (slot : DiskSlot) → X.held disks.new slot ≢ Out }
+        ensures none_out { (slot : DiskSlot) → IsForReplicas slot → X.held disks.new slot ≢ Out }
+        ensures meta { (slot : DiskSlot) → ¬ IsForReplicas slot → X.held disks.new slot ≡ X.held disks.old slot }
+        ensures held { (s : AtSlot) → X.held disks.new (disk_slot_of s) ≡ held_at (depot_by X.held X.counted X.all_faults disks.old) (replica_at self.members s) s }
         ensures counted { (s : AtSlot) → X.counted disks.new (disk_slot_of s)
             ≡ count_at D.state (record { held = X.held disks.old; counted = X.counted disks.old; faults = X.all_faults disks.old }) (replica_at self.members s) s }
         ensures rose { RisesBy D.state (depot_by X.held X.counted X.all_faults disks.old) self.members (X.all_faults disks.new) }

@@ -2,5 +2,7 @@
 #![tactic(auto)]
 
 pub mod cluster;
+pub mod plan;
 
 pub use cluster::Cluster;
+pub use plan::Plan;

@@ -3,7 +3,9 @@ use Rattle.m3_program.specs.Streams.{TakesOn, Cuts, Stage, stage}
 use Rattle.m3_program.proofs.GatherLemmas.{gathers_nothing, gathers_on, until_fault, until_more}
 use Rattle.m3_program.proofs.StreamLemmas.{takes_nothing, takes_both, cuts_after, cuts_behind, takes_more}
 use Rattle.m3_program.proofs.PieceLemmas.{before_newline, without_newline, at_newline}
-use Rattle.m3_program.proofs.CauseLemmas.{ends_earlier}
+use Rattle.std.specs.Prelude.{◌≡◌, Err}
+use Rattle.saved_cluster.specs.declared.lost.Lost.TheVariants as lost
+use Rattle.m3_program.proofs.CauseLemmas.{ends_earlier, sink_ends}
 use Rattle.m3_program.proofs.input.serve_lines.Goals as goal
 
 pub loop-end-init : goal.loop-end-init
@@ -16,9 +18,10 @@ loop-end-init g c =
       gathers = gathers_nothing (g.K.Sink.written c.args.out.now) c.args.replies.now.items;
       few = λ less. less;
       takes = takes_nothing g.X.D.Disk.state now c.args.line.now.items;
-      owned = c.requires.owned;
+      may = c.requires.may;
       faults = omega arith;
       stalls = omega arith;
+      meta = omega arith;
     }
 
 pub serve_rest-requires-clause-whole : goal.serve_rest-requires-clause-whole
@@ -40,9 +43,10 @@ loop-end-preserved g c =
       gathers = gathers_on (g.K.Sink.written c.args.out.now) (g.K.Sink.written c.loop-end.out) (g.K.Sink.written c.write_full.new.out) c.args.replies.now.items was.text c.loop-end.replies.items now.0 c.serve_rest.new.replies.items c.write_full.new.replies.items was.gathers now.1 c.in-Ok-write_full.ensures.ok;
       few = λ less. c.in-Ok-write_full.ensures.few;
       takes = takes_both g.X.D.Disk.state first old new c.args.line.now.items c.loop-end.line.items c.serve_rest.new.line.items was.done (front ++ 10 ∷ []) was.text now.0 was.takes now.2;
-      owned = c.in-Ok.ensures.owned;
+      may = c.in-Ok.ensures.may;
       faults = let a = was.faults in let h = c.in-Ok-write_full.ensures.later.0 in omega arith;
       stalls = let a = was.stalls in let h = c.in-Ok-write_full.ensures.later.1 in omega arith;
+      meta = let a = was.meta in let h = c.in-Ok.ensures.meta.later in omega arith;
     }
 
 -- memory was wanted for a line
@@ -62,7 +66,9 @@ returns-in-Err-clause-err g c =
     )
 
 pub returns-in-Err-clause-cause : goal.returns-in-Err-clause-cause
-returns-in-Err-clause-cause g c = ends_earlier c.write_before_end.result _ _ _ _ _ _ c.loop-end.invariant.faults c.loop-end.invariant.stalls c.write_before_end.ensures.cause
+returns-in-Err-clause-cause g c =
+    ends_earlier c.write_before_end.result _ _ _ _ _ _ _ _ _ c.loop-end.invariant.faults c.loop-end.invariant.stalls c.loop-end.invariant.meta
+    (c.write_before_end.ensures.cause (g.X.D.Disk.state c.loop-end.cluster.meta).faults (g.X.D.Disk.state c.serve_rest.new.cluster.meta).faults (λ is. c.in-Err.ensures.meta.rose (ap Err is)))
 
 -- the sink failed
 pub returns-in-Err-write_full-clause-err : goal.returns-in-Err-write_full-clause-err
@@ -83,11 +89,16 @@ returns-in-Err-write_full-clause-err g c =
     )
 
 pub returns-in-Err-write_full-clause-cause : goal.returns-in-Err-write_full-clause-cause
-returns-in-Err-write_full-clause-cause g c = ends_earlier c.in-Err-write_full.status _ _ _ _ _ _ c.loop-end.invariant.faults c.loop-end.invariant.stalls c.in-Err-write_full.ensures.cause
+returns-in-Err-write_full-clause-cause g c =
+    ends_earlier c.in-Err-write_full.status _ _ _ _ _ _ _ (g.X.D.Disk.state c.loop-end.cluster.meta).faults _ c.loop-end.invariant.faults c.loop-end.invariant.stalls c.loop-end.invariant.meta
+    (sink_ends c.in-Err-write_full.status _ _ _ _ _ _ c.in-Err-write_full.ensures.by c.in-Err-write_full.ensures.cause)
 
 pub returns-in-Err-write_full-clause-later : goal.returns-in-Err-write_full-clause-later
-returns-in-Err-write_full-clause-later g c =
-    ((let a = c.loop-end.invariant.faults in let h = c.in-Err-write_full.ensures.later.0 in omega arith), (let a = c.loop-end.invariant.stalls in let h = c.in-Err-write_full.ensures.later.1 in omega arith))
+returns-in-Err-write_full-clause-later g c = (
+  (let a = c.loop-end.invariant.faults in let h = c.in-Err-write_full.ensures.later.0 in omega arith),
+  (let a = c.loop-end.invariant.stalls in let h = c.in-Err-write_full.ensures.later.1 in omega arith),
+  (let a = c.loop-end.invariant.meta in let h = c.in-Ok.ensures.meta.later in omega arith),
+)
 
 pub returns-in-Ok-extend_from_slice-clause-ok : goal.returns-in-Ok-extend_from_slice-clause-ok
 returns-in-Ok-extend_from_slice-clause-ok g c =
@@ -113,4 +124,7 @@ returns-in-Err-extend_from_slice-clause-err g c =
     )
 
 pub returns-in-Err-extend_from_slice-clause-cause : goal.returns-in-Err-extend_from_slice-clause-cause
-returns-in-Err-extend_from_slice-clause-cause g c = ends_earlier c.write_before_end-in-Err-extend_from_slice.result _ _ _ _ _ _ c.loop-end.invariant.faults c.loop-end.invariant.stalls c.write_before_end-in-Err-extend_from_slice.ensures.cause
+returns-in-Err-extend_from_slice-clause-cause g c =
+    let meta = (g.X.D.Disk.state c.loop-end.cluster.meta).faults in
+    ends_earlier c.write_before_end-in-Err-extend_from_slice.result _ _ _ _ _ _ _ _ _ c.loop-end.invariant.faults c.loop-end.invariant.stalls c.loop-end.invariant.meta
+    (c.write_before_end-in-Err-extend_from_slice.ensures.cause meta meta (λ is. (let clash : lost.Memory ≡ lost.Meta = is in cc)))

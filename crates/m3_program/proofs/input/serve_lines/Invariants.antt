@@ -1,5 +1,5 @@
 use Rattle.std.proofs.Common.{◌≡◌, ◌<◌, ◌≤◌, ◌++◌, ℕ, List, length}
-use Rattle.served_cluster.specs.Owned.{MayServeCluster}
+use Rattle.saved_cluster.specs.Saved.{MayServeSaved}
 use Rattle.m3_program.specs.Streams.{TakesOn, stage}
 use Rattle.m3_program.specs.Writing.{Gathers}
 use Rattle.m3_program.proofs.input.serve_lines.Given as goal
@@ -13,9 +13,10 @@ invariant-loop-end g l = record {
   few : length l.fn.replies.items < 65536 → length l.replies.items < 65536;
   takes : TakesOn g.X.D.Disk.state (stage l.fn.cluster (g.X.Disks.held l.fn.disks) (g.X.Disks.counted l.fn.disks) (g.X.Disks.all_faults l.fn.disks)) l.fn.line.items done text
       (stage l.cluster (g.X.Disks.held l.disks) (g.X.Disks.counted l.disks) (g.X.Disks.all_faults l.disks)) l.line.items;
-  owned : MayServeCluster l.cluster (g.X.Disks.held l.disks);
+  may : MayServeSaved g.X.D.Disk.state l.cluster (g.X.Disks.held l.disks);
   faults : g.K.Sink.faulted l.fn.out ≤ g.K.Sink.faulted l.out;
   stalls : g.K.Sink.stalled l.fn.out ≤ g.K.Sink.stalled l.out;
+  meta : (g.X.D.Disk.state l.fn.cluster.meta).faults ≤ (g.X.D.Disk.state l.cluster.meta).faults;
 }
 
 abbrev pub decreases-loop-end : goal.decreases-loop-end

@@ -1,11 +1,11 @@
 use Rattle.std.proofs.Common.{[], ◌++◌, subst, append-nil}
-use Rattle.std.proofs.lemmas.Result.{IfErr-weaker, on_ok_weaker}
+use Rattle.std.proofs.lemmas.Result.{on_ok_weaker}
 use Rattle.m3_program.specs.Streams.{Cuts, Stage, stage}
 use Rattle.m3_program.specs.Writing.{WritesUntil}
 use Rattle.m3_program.proofs.WrittenLemmas.{if_err_both}
 use Rattle.m3_program.proofs.GatherLemmas.{writes_held, writes_front}
 use Rattle.m3_program.proofs.StreamLemmas.{cuts_behind}
-use Rattle.m3_program.proofs.CauseLemmas.{ends_earlier}
+use Rattle.m3_program.proofs.CauseLemmas.{ends_earlier, sink_ends}
 use Rattle.m3_program.proofs.input.serve_piece.Goals as goal
 
 pub returns-in-Ok-clause-ok : goal.returns-in-Ok-clause-ok
@@ -37,7 +37,10 @@ returns-in-Ok-clause-err g c =
 pub returns-in-Ok-clause-cause : goal.returns-in-Ok-clause-cause
 returns-in-Ok-clause-cause g c =
     let was = c.in-Ok.ensures.later in
-    IfErr-weaker c.write_all.result _ _ (λ s e. ends_earlier s _ _ _ _ _ _ was.0 was.1 e) c.write_all.ensures.cause
+    if_err_both c.write_all.result _ _ (λ s by rose. ends_earlier s _ _ _ _ _ _ _ (g.X.D.Disk.state c.serve_lines.new.cluster.meta).faults _ was.0 was.1 was.2 (sink_ends s _ _ _ _ _ _ by rose)) c.write_all.ensures.by c.write_all.ensures.cause
+
+pub returns-in-Ok-clause-may : goal.returns-in-Ok-clause-may
+returns-in-Ok-clause-may g c = on_ok_weaker c.write_all.result (λ wrote. c.in-Ok.ensures.may) c.write_all.ensures.ok
 
 pub returns-clause-err : goal.returns-clause-err
 returns-clause-err g c =

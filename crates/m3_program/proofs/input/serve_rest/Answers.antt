@@ -1,8 +1,10 @@
-use Rattle.std.proofs.Common.{[], ◌∷◌, ◌++◌, ◌≡◌, sym, ap, ◌∙◌}
+use Rattle.std.proofs.Common.{[], ◌∷◌, ◌++◌, ◌≡◌, refl, sym, ap, ◌∙◌}
 use Rattle.std.proofs.lemmas.Bool.{eqb-true}
 use Rattle.std.proofs.lemmas.List.{nil_from_length}
 use Rattle.std.proofs.lemmas.Result.{on_err_weaker, on_ok_weaker}
 use Rattle.m3_program.specs.Streams.{Stage, stage}
+use Rattle.m3_program.proofs.CauseLemmas.{counts_none, counts_wanted}
+use Rattle.m3_program.proofs.PromiseLemmas.{may_close}
 use Rattle.m3_program.proofs.StreamLemmas.{takes_line, drops_line, cuts_silently}
 use Rattle.m3_program.proofs.input.serve_rest.Goals as goal
 
@@ -28,6 +30,14 @@ pub returns-in-Err-clause-err : goal.returns-in-Err-clause-err
 returns-in-Err-clause-err g c =
     let now : Stage g.row.X-D.Denot g.X.D.Disk = stage c.args.cluster.now (g.X.Disks.held c.args.disks.now) (g.X.Disks.counted c.args.disks.now) (g.X.Disks.all_faults c.args.disks.now) in
     cuts_silently g.X.D.Disk.state now c.args.line.now.items (c.args.rest.now ++ 10 ∷ [])
+
+pub returns-in-Err-clause-close : goal.returns-in-Err-clause-close
+returns-in-Err-clause-close g c = may_close g.X.D.Disk.state c.args.cluster.now (g.X.Disks.held c.args.disks.now) c.requires.may
+
+pub returns-in-Err-clause-meta : goal.returns-in-Err-clause-meta
+returns-in-Err-clause-meta g c =
+    let meta = (g.X.D.Disk.state c.args.cluster.now.meta).faults in
+    counts_wanted ⊥ _ meta meta (counts_none meta) refl
 
 pub returns-in-Ok-answer_line-clause-ok : goal.returns-in-Ok-answer_line-clause-ok
 returns-in-Ok-answer_line-clause-ok g c =

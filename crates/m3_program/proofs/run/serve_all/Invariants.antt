@@ -1,19 +1,20 @@
 use Rattle.std.proofs.Common.{◌-◌, ◌≤◌}
 use Rattle.m3_model.specs.declared.limits.TheConstants.{INPUT_END}
-use Rattle.served_cluster.specs.Owned.{MayServeCluster}
-use Rattle.m3_program.specs.Streams.{stage}
+use Rattle.saved_cluster.specs.Saved.{MayServeSaved}
+use Rattle.m3_program.specs.Streams.{opening_at, stage}
 use Rattle.m3_program.proofs.RunLemmas.{Known}
 use Rattle.m3_program.proofs.run.serve_all.Given as goal
 
 abbrev pub invariant-loop-taken : goal.invariant-loop-taken
 invariant-loop-taken g l = record {
-  known : Known g.X.D.Disk.state (stage l.fn.cluster (g.X.Disks.held l.fn.disks) (g.X.Disks.counted l.fn.disks) (g.X.Disks.all_faults l.fn.disks)).depot (g.S.Source.left l.fn.source) (g.K.Sink.written l.fn.out) (g.S.Source.left l.source) (g.K.Sink.written l.out) l.taken
+  known : Known g.X.D.Disk.state (opening_at (stage l.fn.cluster (g.X.Disks.held l.fn.disks) (g.X.Disks.counted l.fn.disks) (g.X.Disks.all_faults l.fn.disks))) (g.S.Source.left l.fn.source) (g.K.Sink.written l.fn.out) (g.S.Source.left l.source) (g.K.Sink.written l.out) l.taken
       (stage l.cluster (g.X.Disks.held l.disks) (g.X.Disks.counted l.disks) (g.X.Disks.all_faults l.disks)) l.line.items;
-  owned : MayServeCluster l.cluster (g.X.Disks.held l.disks);
+  may : MayServeSaved g.X.D.Disk.state l.cluster (g.X.Disks.held l.disks);
   below : l.taken ≤ INPUT_END;
   reads : g.S.Source.faulted l.fn.source ≤ g.S.Source.faulted l.source;
   faults : g.K.Sink.faulted l.fn.out ≤ g.K.Sink.faulted l.out;
   stalls : g.K.Sink.stalled l.fn.out ≤ g.K.Sink.stalled l.out;
+  meta : (g.X.D.Disk.state l.fn.cluster.meta).faults ≤ (g.X.D.Disk.state l.cluster.meta).faults;
 }
 
 abbrev pub decreases-loop-taken : goal.decreases-loop-taken

@@ -3,7 +3,12 @@ use Rattle.std.proofs.lemmas.Bool.{eqb-true}
 use Rattle.std.specs.Io.KnownBytes.{Appends}
 use Rattle.std.proofs.lemmas.List.{nil_from_length}
 use Rattle.std.proofs.lemmas.Result.{on_ok_weaker}
+use Rattle.std.specs.Prelude.{Err}
+use Rattle.m3_program.specs.Causes.{EndsLine}
 use Rattle.m3_program.specs.Streams.{Stage, stage}
+use Rattle.m3_program.specs.Writing.{WritesUntil}
+use Rattle.m3_program.proofs.CauseLemmas.{lost_ends, lost_writes, sink_ends}
+use Rattle.m3_program.proofs.PromiseLemmas.{may_close}
 use Rattle.m3_program.proofs.WrittenLemmas.{appends_nothing, if_err_both, some_of}
 use Rattle.m3_program.proofs.GatherLemmas.{writes_part}
 use Rattle.m3_program.proofs.StreamLemmas.{finish_empty, finish_line, halts_where_finished, drops_last}
@@ -33,8 +38,22 @@ returns-in-Ok-clause-err g c =
     (λ s by part. (w.0, writes_part s (g.K.Sink.written c.args.out.now) (g.K.Sink.written c.write_all.new.out) w.0 c.as_slice.result.now part.0 by text part.1, ends))
     c.write_all.ensures.by c.write_all.ensures.err
 
+pub returns-in-Ok-clause-cause : goal.returns-in-Ok-clause-cause
+returns-in-Ok-clause-cause g c = if_err_both c.write_all.result _ _ (λ s by rose. sink_ends s _ _ _ _ _ _ by rose) c.write_all.ensures.by c.write_all.ensures.cause
+
+pub returns-then-is_empty-clause-close : goal.returns-then-is_empty-clause-close
+returns-then-is_empty-clause-close g c = may_close g.X.D.Disk.state c.args.cluster.now (g.X.Disks.held c.args.disks.now) c.requires.may
+
 pub returns-clause-err : goal.returns-clause-err
 returns-clause-err g c =
     let old : Stage g.row.X-D.Denot g.X.D.Disk = stage c.args.cluster.now (g.X.Disks.held c.args.disks.now) (g.X.Disks.counted c.args.disks.now) (g.X.Disks.all_faults c.args.disks.now) in
-    let new : Stage g.row.X-D.Denot g.X.D.Disk = stage c.answer_line.new.cluster (g.X.Disks.held c.answer_line.new.disks) (g.X.Disks.counted c.answer_line.new.disks) (g.X.Disks.all_faults c.answer_line.new.disks) in
-    ([], appends_nothing (g.K.Sink.written c.args.out.now), drops_last g.X.D.Disk.state old new c.args.line.now (some_of c.args.line.now (sym c.is_empty.ensures ∙ c.if-is_empty.false)) c.in-Err.ensures.err)
+    let new : Stage g.row.X-D.Denot g.X.D.Disk = stage c.answer_line.new.cluster (g.X.Disks.held c.answer_line.new.disks) (g.X.Disks.counted c.answer_line.new.disks) (g.X.Disks.all_faults c.answer_line.new.disks) in (
+      [],
+      subst (λ s. WritesUntil s (g.K.Sink.written c.args.out.now) [] (g.K.Sink.written c.args.out.now)) (sym c.of_lost.ensures) (lost_writes c.in-Err.why (g.K.Sink.written c.args.out.now) [] (g.K.Sink.written c.args.out.now) (appends_nothing (g.K.Sink.written c.args.out.now))),
+      drops_last g.X.D.Disk.state old new c.args.line.now (some_of c.args.line.now (sym c.is_empty.ensures ∙ c.if-is_empty.false)) c.in-Err.ensures.err,
+    )
+
+pub returns-clause-cause : goal.returns-clause-cause
+returns-clause-cause g c =
+    subst (λ s. EndsLine s (g.K.Sink.faulted c.args.out.now) (g.K.Sink.faulted c.args.out.now) (g.K.Sink.stalled c.args.out.now) (g.K.Sink.stalled c.args.out.now) (g.X.D.Disk.state c.args.cluster.now.meta).faults (g.X.D.Disk.state c.answer_line.new.cluster.meta).faults) (sym c.of_lost.ensures)
+    (lost_ends c.in-Err.why _ _ _ _ _ _ (λ is. c.in-Err.ensures.meta.rose (ap Err is)))

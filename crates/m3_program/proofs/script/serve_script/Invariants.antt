@@ -1,15 +1,16 @@
-use Rattle.std.proofs.Common.{length}
+use Rattle.std.proofs.Common.{◌≤◌, length}
 use Rattle.load_gen.specs.Left.{requests_left}
-use Rattle.served_cluster.specs.Owned.{MayServeCluster}
+use Rattle.saved_cluster.specs.Saved.{MayServeSaved}
 use Rattle.m3_program.specs.Rounds.{Goes}
-use Rattle.m3_program.specs.Streams.{stage}
+use Rattle.m3_program.specs.Streams.{opening_at, stage}
 use Rattle.m3_program.proofs.script.serve_script.Given as goal
 
 abbrev pub invariant-loop-request : goal.invariant-loop-request
 invariant-loop-request g l = record {
-  goes : Goes g.X.D.Disk.state (stage l.fn.cluster (g.X.Disks.held l.fn.disks) (g.X.Disks.counted l.fn.disks) (g.X.Disks.all_faults l.fn.disks)).depot l.fn.number (requests_left l.left) l.summary
+  goes : Goes g.X.D.Disk.state (opening_at (stage l.fn.cluster (g.X.Disks.held l.fn.disks) (g.X.Disks.counted l.fn.disks) (g.X.Disks.all_faults l.fn.disks))) l.fn.number (requests_left l.left) l.summary
       (stage l.cluster (g.X.Disks.held l.disks) (g.X.Disks.counted l.disks) (g.X.Disks.all_faults l.disks));
-  owned : MayServeCluster l.cluster (g.X.Disks.held l.disks);
+  may : MayServeSaved g.X.D.Disk.state l.cluster (g.X.Disks.held l.disks);
+  later : (g.X.D.Disk.state l.fn.cluster.meta).faults ≤ (g.X.D.Disk.state l.cluster.meta).faults;
 }
 
 abbrev pub decreases-loop-request : goal.decreases-loop-request

@@ -18,3 +18,6 @@ pub returns-clause-leaves : goal.returns-clause-leaves
 returns-clause-leaves g c =
     leaves_then _ _ (g.D.Disk.state c.args.disk.now) (g.D.Disk.state c.list_segments.new.disk) (g.D.Disk.state c.read_segments.new.disk) c.in_ok-numbers.ensures.leaves
     (leaves_as _ _ (g.D.Disk.state c.list_segments.new.disk) (g.D.Disk.state c.read_segments.new.disk) (λ f. absurd (cc)) c.read_segments.ensures.leaves)
+
+pub returns-clause-state : goal.returns-clause-state
+returns-clause-state g c = c.read_segments.ensures.state tt

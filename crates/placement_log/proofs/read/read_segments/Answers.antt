@@ -12,6 +12,7 @@ pub loop-number-init : goal.loop-number-init
 loop-number-init g c = record {
   leaves = leaves_none ⊥ (g.D.Disk.state c.args.disk.now) (λ f. f);
   found = λ t. found_none (g.D.Disk.state c.args.disk.now).files c.args.last.now;
+  state = λ s. s;
 }
 
 pub returns-in_err-read_one-clause-leaves : goal.returns-in_err-read_one-clause-leaves
@@ -40,4 +41,5 @@ loop-number-preserved g c =
           let number = get_or c.args.numbers.now c.loop-number.number-index 0 in
           found_next c.args.numbers.now c.loop-number.number-index number (g.D.Disk.state c.args.disk.now).files c.args.last.now c.loop-number.last c.read_one.new.last (omega arith) refl (c.loop-number.invariant.found t)
           (subst (λ (m : Files). ReadsStates (segment_bytes number m) c.loop-number.last c.read_one.new.last) same (c.in_ok-read_one.ensures.ok told));
+      state = λ s. c.read_one.ensures.state (c.loop-number.invariant.state s);
     }

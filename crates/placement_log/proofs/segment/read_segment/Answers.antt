@@ -7,7 +7,7 @@ use Rattle.log_chunks.proofs.Fronts.{chunk_push, payload_is, end_stands}
 use Rattle.commit_log.proofs.FileFronts.{front_bad, front_ends, front_whole}
 use Rattle.meta_bytes.specs.States.{IsMetaState}
 use Rattle.placement_log.specs.declared.payload.PayloadErr.{PayloadErr}
-use Rattle.placement_log.specs.States.{payload_bytes, IsPayload}
+use Rattle.placement_log.specs.States.{MayBeState, payload_bytes, IsPayload}
 use Rattle.placement_log.specs.Damage.{MayBreakFrom, MayStop}
 use Rattle.placement_log.proofs.LastLemmas.{last_push}
 use Rattle.placement_log.proofs.ReadLemmas.{chunk_breaks, grammar_breaks, passed_on}
@@ -42,6 +42,7 @@ loop-found-preserved c =
         done,
         c.get_chunk-found-in-Chunk.ensures (map payload_bytes (d.0 ++ state ∷ [])) done,
       );
+      state = λ s. subst MayBeState (sym c.replace.ensures.after) one.state;
     }
 
 pub returns-in-Bad : goal.returns-in-Bad
@@ -55,6 +56,7 @@ returns-in-Bad c =
       err = λ file f.
           let g = subst (λ (l : List ℕ). IsFront l c.args.front.now.is_whole file) (sym same) f in
           grammar_breaks bytes file c.args.front.now.is_whole g c.loop-found.at d.0 d.2 d.3 c.loop-found.invariant.within c.in-Bad.at bad.none (front_bad bytes file c.args.front.now.is_whole c.in-Bad.at g bad.within bad.stops);
+      state = c.loop-found.invariant.state;
     }
 
 pub returns-then-not-front : goal.returns-then-not-front
@@ -68,6 +70,7 @@ returns-then-not-front c =
       err = λ file f.
           let g = subst (λ (l : List ℕ). IsFront l c.args.front.now.is_whole file) (sym same) f in
           grammar_breaks bytes file c.args.front.now.is_whole g c.loop-found.at d.0 d.2 d.3 c.loop-found.invariant.within (length bytes) ends.none (front_ends (map payload_bytes d.0) bytes file c.args.front.now.is_whole c.loop-found.at g c.if-not-front.true ends);
+      state = c.loop-found.invariant.state;
     }
 
 pub returns : goal.returns
@@ -81,4 +84,5 @@ returns c =
           let w = front_whole (map payload_bytes d.0) bytes file c.args.front.now.is_whole c.loop-found.at (subst (λ (l : List ℕ). IsFront l c.args.front.now.is_whole file) (sym same) f) c.if-not-front.false ends in
           record { states = d.0; are = d.2; is = d.1; long = w.0; reads = w.1 };
       err = tt;
+      state = c.loop-found.invariant.state;
     }

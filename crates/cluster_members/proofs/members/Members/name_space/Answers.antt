@@ -1,12 +1,10 @@
-use Rattle.std.proofs.Common.{◌<◌, [], ◌∷◌, ◌++◌, ap, subst, sym}
-use Rattle.std.specs.List.{All}
-use Rattle.std.proofs.lemmas.List.Elements.{All-append, All-cons, All-nil}
-use Rattle.m3_model.specs.declared.rules.Rules.{Rules}
-use Rattle.m3_model.specs.declared.rules.Space.{Space}
+use Rattle.std.proofs.Common.{subst}
+use Rattle.cluster_members.specs.Steps.{SetsRules}
+use Rattle.cluster_members.proofs.PlanLemmas.{space_refused}
 use Rattle.cluster_members.proofs.members.Members.name_space.Goals as goal
 
-pub set_rules-requires-clause-sizes : goal.set_rules-requires-clause-sizes
-set_rules-requires-clause-sizes g c κs lives =
-    let P : Space → Type 0 = λ space. 0 < space.block in
-    let spaces = (c.args.self.now).net.state.rules.spaces in
-    subst (λ (r : Rules). All P r.spaces) (sym c.in-Ok.ensures) (All-append P spaces (c.args.space ∷ []) (c.args.self.now).sizes (All-cons P c.args.space [] c.requires.sized (All-nil P)))
+pub returns-in-Ok-clause-named : goal.returns-in-Ok-clause-named
+returns-in-Ok-clause-named g c = (c.in-Ok.ensures.planned.may_name, subst (λ r. SetsRules g.D.Disk.state r c.args.self.now c.set_rules.new.self) c.in-Ok.ensures.planned.rules_are c.set_rules.ensures.sets)
+
+pub returns-in-Err-clause-named : goal.returns-in-Err-clause-named
+returns-in-Err-clause-named g c = space_refused g.D.Disk.state c.args.self.now c.args.space c.in-Err.refused c.in-Err.ensures.refused

@@ -1,0 +1,71 @@
+-- The state that a cluster keeps, and the one to which a line leads.
+use Rattle.std.specs.Prelude.{◌≡◌, ℕ, suc, [], length, Option, Some, None, Bool, true, false, List}
+use Rattle.m3_model.specs.declared.act.Act.{Act}
+use Rattle.m3_model.specs.declared.act.Act.TheVariants as act
+use Rattle.m3_model.specs.declared.answer.Answer.{Answer}
+use Rattle.m3_model.specs.declared.answer.Answer.TheVariants as answer
+use Rattle.m3_model.specs.declared.rules.MetaState.{MetaState}
+use Rattle.m3_model.specs.declared.rules.Space.{Space}
+use Rattle.m3_model.specs.declared.turn.Request.{Request}
+use Rattle.m3_model.specs.declared.turn.Request.TheVariants as request
+use Rattle.m3_outside.specs.declared.disk.Disk.{Ghosts}
+use Rattle.placement_acts.specs.Acts.{LeadsTo}
+use Rattle.placement_plan.specs.First.{IsInitial}
+use Rattle.placement_plan.specs.declared.plan_err.PlaceErr.{PlaceErr}
+use Rattle.placement_plan.specs.declared.plan_err.PlaceErr.TheVariants as refused
+use Rattle.cluster_tracks.specs.cluster_members.Steps.{at_moment, with_space}
+use Rattle.cluster_tracks.specs.cluster_members.declared.members.Members.{Members}
+use Rattle.served_cluster.specs.Plans.{changes_state}
+use Rattle.served_cluster.specs.declared.cluster.Cluster.{Cluster}
+
+-- so many placements it keeps, with the one that stands
+abbrev pub kept_of : {D : Type 0} {G : Ghosts D} → Cluster D G → ℕ
+kept_of {D} {G} c = by c.members
+  where
+    by : Option (Members D G) → ℕ
+    by None = 0
+    by (Some m) = suc (length m.past.items)
+
+-- the act may change the state
+abbrev pub saves_by : Act → Bool
+saves_by (act.Init rf shards seed nodes) = true
+saves_by a = changes_state a
+
+abbrev pub saves : Request → Bool
+saves (request.One a) = saves_by a
+saves (request.Par clients workers) = false
+
+-- the first state of a cluster on these nodes
+pub record IsFirstState (rf shards seed : ℕ) (nodes : List (List ℕ × List ℕ)) (next : MetaState) : Type 0 where
+  pub place : IsInitial rf shards nodes next.place
+  pub rules : next.rules ≡ record { now = 0; spaces = [] }
+  pub seed_is : next.seed ≡ seed
+
+-- the state with the placement to which the act leads, of so many that are kept
+pub record IsNextState (state : MetaState) (kept : ℕ) (a : Act) (next : MetaState) : Type 0 where
+  pub leads : LeadsTo (Some state.place) kept a next.place
+  pub rules : next.rules ≡ state.rules
+  pub seed_is : next.seed ≡ state.seed
+
+-- The state that stands once the act is answered ok: that of a first cluster, with one more namespace, at another moment, or with the next placement.
+abbrev pub LeadsToState : Option MetaState → ℕ → Act → MetaState → Type 0
+LeadsToState None kept (act.Init rf shards seed nodes) next = IsFirstState rf shards seed nodes next
+LeadsToState (Some state) kept (act.Namespace name block past future retention) next = next ≡ record state { rules = with_space (record { name = name; block = block; past = past; future = future; retention = retention }) state.rules }
+LeadsToState (Some state) kept (act.Now now) next = next ≡ record state { rules = at_moment now state.rules }
+LeadsToState (Some state) kept a next = IsNextState state kept a next
+LeadsToState None kept _ next = ⊥
+
+-- the same of a request
+abbrev pub RequestLeadsTo : Option MetaState → ℕ → Request → MetaState → Type 0
+RequestLeadsTo state kept (request.One a) next = LeadsToState state kept a next
+RequestLeadsTo state kept (request.Par clients workers) next = ⊥
+
+-- the answer where a first placement can't be planned
+abbrev pub unplanned : PlaceErr → Answer
+unplanned (refused.Group shard) = answer.Group shard
+unplanned _ = answer.Memory
+
+-- the request makes a cluster
+abbrev pub is_init_request : Request → Bool
+is_init_request (request.One (act.Init rf shards seed nodes)) = true
+is_init_request _ = false

@@ -1,0 +1,371 @@
+//! Lines that change the state, each saved before it is answered.
+ghost use Rattle.std.specs.Prelude.{◌≡◌, ◌∷◌, [], ◌≢◌, ◌≤◌, ◌-◌, ℕ, List, Bool, true, false, Option, Some, None, option_map, IsOk, IsErr, IfOk, IfErr, OnOk, IsErrOf};
+ghost use Rattle.std.specs.Option.{option_copied};
+ghost use Rattle.m3_model.specs.Limits.{IsInit, KeepsLimits, MeetsLimits};
+ghost use Rattle.m3_model.specs.declared.act.Act.{Act as Line};
+ghost use Rattle.m3_model.specs.declared.act.Act.TheVariants as act;
+ghost use Rattle.m3_model.specs.declared.answer.Answer.{Answer as Reported};
+ghost use Rattle.m3_model.specs.declared.rules.MetaState.{MetaState as State};
+ghost use Rattle.m3_model.specs.declared.turn.Request.TheVariants as request;
+ghost use Rattle.m3_model.specs.declared.turn.Turn.{Turn};
+ghost use Rattle.served_acts.specs.NotYet.{IsServed, IsServedAct};
+ghost use Rattle.m3_outside.specs.Causes.{CountsFaults, RoseBy};
+ghost use Rattle.m3_outside.specs.Depots.{Depot};
+ghost use Rattle.m3_outside.specs.DiskState.{Elapses};
+ghost use Rattle.m3_outside.specs.declared.disk_err.DiskErr.TheVariants as disk_err;
+ghost use Rattle.placement_log.specs.MetaHolds.{IsReadyToSave, KeepsLast, MaySave, MetaStands};
+ghost use Rattle.placement_log.specs.States.{MayBeState};
+ghost use Rattle.m3_outside.specs.Slots.{Here, Out};
+ghost use Rattle.m3_outside.specs.declared.slot.DiskSlot.{DiskSlot as AtSlot};
+ghost use Rattle.cluster_tracks.specs.transcripts.Placements.{placement_after};
+ghost use Rattle.cluster_tracks.specs.transcripts.Record.{IsAnsweredBy, inner_turns};
+ghost use Rattle.cluster_tracks.specs.session_net.Ready.{IsReady};
+ghost use Rattle.cluster_tracks.specs.Acts.{IsInitAnswer};
+ghost use Rattle.cluster_tracks.specs.Ends.{replica_at};
+ghost use Rattle.cluster_tracks.specs.Lines.{EachMember};
+ghost use Rattle.cluster_tracks.specs.replica_exchange.declared.slot.Slot.{Slot};
+ghost use Rattle.cluster_tracks.specs.first_cluster.Depots.{IsForReplicas, RisesBy, count_at, depot_by, disk_slot_of, meta_slot};
+ghost use Rattle.served_cluster.specs.Owned.{TracksTurns, held_at, place_of};
+ghost use Rattle.cluster_tracks.specs.first_cluster.First.{IsLent, IsSomeLent};
+ghost use Rattle.cluster_tracks.specs.first_cluster.Lending.{AreAsTheyWere};
+ghost use Rattle.served_cluster.specs.Acts.{is_init};
+ghost use Rattle.served_cluster.specs.Plans.{IsPlannedBy, by_plan, changes_state, state_of};
+ghost use Rattle.saved_cluster.specs.Saved.{AnswersSaved, ElapsesBy, IsReadyFor, IsSaved, IsUnbegun, MayClose, MayServeSaved, ServesRequestSome, TracksRequest};
+ghost use Rattle.saved_cluster.specs.States.{is_init_request, kept_of, saves, saves_by, unplanned};
+ghost use Rattle.saved_cluster.specs.declared.lost.Lost.TheVariants as lost;
+
+use crate::lost::Lost;
+use cluster_tracks::of_first_cluster::{Lent, begin_first, give_back, lend_first, plan_first};
+use m3_model::{Act, Answer, Placement, Reply, Request, Seq, Text};
+use m3_outside::{Disk, DiskErr, DiskSlot, Disks};
+use placement_log::MetaLog;
+use placement_plan::PlaceErr;
+use served_cluster::{Cluster, Plan};
+use std::alloc::Global;
+
+/// A cluster, and the meta disk that keeps its state: its moment, its namespaces and its placement.
+#[derive(Drop)]
+pub struct SavedCluster<D: Disk> {
+    pub(crate) cluster: Cluster<D>,
+    pub(crate) log: MetaLog,
+    pub(crate) meta: D,
+}
+
+// Whether the act may change the state.
+fn saves_by(act: &Act) -> bool
+    ensures { result ≡ saves_by act.now }
+{
+    match act {
+        Act::Init { .. } | Act::Namespace { .. } | Act::Now { .. } => true,
+        Act::Add { .. } | Act::Drain { .. } | Act::Cancel { .. } => true,
+        Act::Remove { .. } | Act::Replace { .. } => true,
+        _ => false,
+    }
+}
+
+// The answer where a first placement can't be planned.
+fn unplanned(why: PlaceErr) -> Answer
+    ensures { result ≡ unplanned why }
+{
+    match why {
+        PlaceErr::Group { shard } => Answer::Group { shard },
+        _ => Answer::Memory,
+    }
+}
+
+impl<D: Disk> SavedCluster<D> {
+    /// The placement, from `init` on: that which the turns so far left, where they are tracked.
+    pub fn place(&self) -> Option<&Placement>
+        ensures stands { option_copied result ≡ place_of self.now.cluster }
+        ensures left { (tells : Bool) (first now : Depot D) (turns : List Turn) → TracksTurns D.state tells first now turns self.now.cluster → placement_after None (inner_turns turns) ≡ place_of self.now.cluster }
+    {
+        self.cluster.place()
+    }
+
+    // Takes all that a save needs of the state to which the plan leads.
+    fn ready(&mut self, alloc: Global, plan: &Plan) -> Result<(), DiskErr>
+        requires planned { (a : Line) × MeetsLimits a × IsPlannedBy self.old.cluster a plan.now }
+        requires state { MayBeState (state_of self.old.cluster) }
+        requires log { MetaStands self.old.log (D.state self.old.meta) }
+        ensures cluster { self.new.cluster ≡ self.old.cluster }
+        ensures ok { OnOk result (IsReadyFor (option_map (by_plan plan.now) (state_of self.old.cluster)) self.new.log (D.state self.new.meta)) }
+        ensures log { MetaStands self.new.log (D.state self.new.meta) }
+        ensures any_moment { (D.state self.old.meta).tells ≡ true → Elapses KeepsLast (D.state self.old.meta) (D.state self.new.meta) }
+        ensures tells { (D.state self.new.meta).tells ≡ (D.state self.old.meta).tells }
+        ensures faults { CountsFaults (IsErrOf result disk_err.Failed) (D.state self.old.meta).faults (D.state self.new.meta).faults }
+    {
+        match self.cluster.state_by(alloc, plan) {
+            Ok(state) => self.log.ready(&mut self.meta, &state),
+            Err(_) => Err(DiskErr::Memory),
+        }
+    }
+
+    // Saves the state that stands, which is the one that was readied.
+    fn save(&mut self) -> Result<(), Lost>
+        requires { IsReadyFor (state_of self.old.cluster) self.old.log (D.state self.old.meta) }
+        ensures cluster { self.new.cluster ≡ self.old.cluster }
+        ensures saved { OnOk result ((last : Option State) → IsSaved last (D.state self.old.meta) → IsSaved (state_of self.new.cluster) (D.state self.new.meta)) }
+        ensures any_moment { (next : State) × (state_of self.old.cluster ≡ Some next) × ((D.state self.old.meta).tells ≡ true → Elapses (MaySave next) (D.state self.old.meta) (D.state self.new.meta)) }
+        ensures log { MetaStands self.new.log (D.state self.new.meta) }
+        ensures tells { (D.state self.new.meta).tells ≡ (D.state self.old.meta).tells }
+        ensures meta { IfErr result (λ e. e ≡ lost.Meta) }
+        ensures faults { CountsFaults (IsErr result) (D.state self.old.meta).faults (D.state self.new.meta).faults }
+    {
+        let Some(state) = self.cluster.state() else {
+            unreachable!();
+        };
+        match self.log.save(&mut self.meta, state) {
+            Ok(()) => Ok(()),
+            Err(_) => Err(Lost::Meta),
+        }
+    }
+
+    // Serves an act that changes the state of a cluster that stands: all memory that its save takes is there before the step is made, and
+    // the state is saved after it.
+    fn serve_change<X: Disks<D = D>>(
+        &mut self,
+        alloc: Global,
+        disks: &mut X,
+        act: Act,
+    ) -> Result<Answer, Lost>
+        requires limits { MeetsLimits act }
+        requires changes { changes_state act ≡ true }
+        requires may { MayServeSaved D.state self.old (X.held disks.old) }
+        ensures answered { AnswersSaved D.state (depot_by X.held X.counted X.all_faults disks.old) self.old act result (depot_by X.held X.counted X.all_faults disks.new) self.new }
+        ensures meta { IfErr result (λ e. e ≡ lost.Meta) }
+    {
+        let plan = match self.cluster.plan(alloc, act) {
+            Ok(plan) => plan,
+            Err(refused) => return Ok(refused),
+        };
+        match self.ready(alloc, &plan) {
+            Ok(()) => {}
+            Err(DiskErr::Memory) => return Ok(Answer::Memory),
+            Err(DiskErr::Failed) => return Err(Lost::Meta),
+        }
+        let (answer, made) = self.cluster.make(alloc, disks, plan);
+        if !made {
+            return Ok(answer);
+        }
+        match self.save() {
+            Ok(()) => Ok(answer),
+            Err(lost) => Err(lost),
+        }
+    }
+
+    // Saves the state of a first cluster, which was readied, and has its replicas begin. Where that can't be done, its disks are given back.
+    fn begin<X: Disks<D = D>>(&mut self, disks: &mut X, lent: Lent<D>) -> Result<Answer, Lost>
+        requires none { self.old.cluster.members ≡ None }
+        requires lent { IsSomeLent D.state (depot_by X.held X.counted X.all_faults disks.old) lent }
+        requires ready { IsReadyToSave self.old.log lent.members.net.state (D.state self.old.meta) }
+        ensures served { (rf shards seed : ℕ) (nodes : List (List ℕ × List ℕ)) (first : Depot D) → IsLent D.state rf shards seed nodes first (depot_by X.held X.counted X.all_faults disks.old) lent
+            → (said : Reported) × IfOk result (λ b. b ≡ said) × IsInitAnswer D.state first None rf shards seed nodes said (depot_by X.held X.counted X.all_faults disks.new) self.new.cluster.members }
+        ensures ready { EachMember self.new.cluster.members (λ m. IsReady m.net.state m.net.replicas m.net.bag) }
+        ensures state { OnOk result (state_of self.new.cluster ≡ Some lent.members.net.state) }
+        ensures calls { self.new.cluster.calls ≡ self.old.cluster.calls }
+        ensures untouched { IsErrOf result lost.Meta → (rf shards seed : ℕ) (nodes : List (List ℕ × List ℕ)) (first : Depot D) → IsLent D.state rf shards seed nodes first (depot_by X.held X.counted X.all_faults disks.old) lent → AreAsTheyWere D.state first (depot_by X.held X.counted X.all_faults disks.new) }
+        ensures saved { OnOk result ((last : Option State) → IsSaved last (D.state self.old.meta) → IsSaved (Some lent.members.net.state) (D.state self.new.meta)) }
+        ensures unbegun { IsErrOf result lost.Memory → (self.new.cluster.members ≡ None) × ((last : Option State) → IsSaved last (D.state self.old.meta) → IsSaved (Some lent.members.net.state) (D.state self.new.meta)) }
+        ensures any_moment { (D.state self.old.meta).tells ≡ true → Elapses (MaySave lent.members.net.state) (D.state self.old.meta) (D.state self.new.meta) }
+        ensures log { MetaStands self.new.log (D.state self.new.meta) }
+        ensures tells { (D.state self.new.meta).tells ≡ (D.state self.old.meta).tells }
+        ensures faults { CountsFaults (IsErrOf result lost.Meta) (D.state self.old.meta).faults (D.state self.new.meta).faults }
+    {
+        match self.log.save(&mut self.meta, &lent.members.net.state) {
+            Ok(()) => {}
+            Err(_) => {
+                give_back(disks, lent);
+                return Err(Lost::Meta);
+            }
+        }
+        let (members, placement) = match begin_first(disks, lent) {
+            Ok(made) => made,
+            Err(_) => return Err(Lost::Memory),
+        };
+        self.cluster.stand(members);
+        let version = placement.version;
+        Ok(Answer::Placed { placement, version })
+    }
+
+    // Serves an `init` where no cluster stands.
+    fn serve_first<X: Disks<D = D>>(
+        &mut self,
+        alloc: Global,
+        disks: &mut X,
+        rf: u32,
+        shards: u32,
+        seed: u32,
+        nodes: Seq<(Text, Text)>,
+    ) -> Result<Answer, Lost>
+        requires limits { IsInit rf shards seed nodes }
+        requires none { self.old.cluster.members ≡ None }
+        requires may { MayServeSaved D.state self.old (X.held disks.old) }
+        ensures answered { AnswersSaved D.state (depot_by X.held X.counted X.all_faults disks.old) self.old (act.Init rf shards seed nodes) result (depot_by X.held X.counted X.all_faults disks.new) self.new }
+        ensures untouched { IsErrOf result lost.Meta → AreAsTheyWere D.state (depot_by X.held X.counted X.all_faults disks.old) (depot_by X.held X.counted X.all_faults disks.new) }
+        ensures unbegun { IsErrOf result lost.Memory → IsUnbegun D.state self.old (request.One (act.Init rf shards seed nodes)) self.new }
+    {
+        let plan = match plan_first(alloc, rf, shards, seed, nodes) {
+            Ok(plan) => plan,
+            Err(why) => return Ok(unplanned(why)),
+        };
+        match self.log.ready(&mut self.meta, plan.state()) {
+            Ok(()) => {}
+            Err(DiskErr::Memory) => return Ok(Answer::Memory),
+            Err(DiskErr::Failed) => return Err(Lost::Meta),
+        }
+        match lend_first(alloc, disks, plan) {
+            Ok(lent) => self.begin(disks, lent),
+            Err(refused) => Ok(refused),
+        }
+    }
+
+    // Serves an `init`.
+    fn serve_init<X: Disks<D = D>>(
+        &mut self,
+        alloc: Global,
+        disks: &mut X,
+        rf: u32,
+        shards: u32,
+        seed: u32,
+        nodes: Seq<(Text, Text)>,
+    ) -> Result<Answer, Lost>
+        requires limits { IsInit rf shards seed nodes }
+        requires may { MayServeSaved D.state self.old (X.held disks.old) }
+        ensures answered { AnswersSaved D.state (depot_by X.held X.counted X.all_faults disks.old) self.old (act.Init rf shards seed nodes) result (depot_by X.held X.counted X.all_faults disks.new) self.new }
+        ensures untouched { IsErrOf result lost.Meta → AreAsTheyWere D.state (depot_by X.held X.counted X.all_faults disks.old) (depot_by X.held X.counted X.all_faults disks.new) }
+        ensures unbegun { IsErrOf result lost.Memory → IsUnbegun D.state self.old (request.One (act.Init rf shards seed nodes)) self.new }
+    {
+        if self.cluster.state().is_some() {
+            return Ok(Answer::Order);
+        }
+        self.serve_first(alloc, disks, rf, shards, seed, nodes)
+    }
+
+    // Serves an act that may change the state.
+    fn serve_saving<X: Disks<D = D>>(
+        &mut self,
+        alloc: Global,
+        disks: &mut X,
+        act: Act,
+    ) -> Result<Answer, Lost>
+        requires limits { MeetsLimits act }
+        requires served { IsServedAct act }
+        requires saving { saves_by act ≡ true }
+        requires may { MayServeSaved D.state self.old (X.held disks.old) }
+        ensures answered { AnswersSaved D.state (depot_by X.held X.counted X.all_faults disks.old) self.old act result (depot_by X.held X.counted X.all_faults disks.new) self.new }
+        ensures untouched { IsErrOf result lost.Meta → is_init act ≡ true → AreAsTheyWere D.state (depot_by X.held X.counted X.all_faults disks.old) (depot_by X.held X.counted X.all_faults disks.new) }
+        ensures wanted { IsErrOf result lost.Memory → is_init act ≡ true }
+        ensures unbegun { IsErrOf result lost.Memory → IsUnbegun D.state self.old (request.One act) self.new }
+    {
+        if let Act::Init {
+            rf,
+            shards,
+            seed,
+            nodes,
+        } = act
+        {
+            return self.serve_init(alloc, disks, rf, shards, seed, nodes);
+        }
+        self.serve_change(alloc, disks, act)
+    }
+
+    // Answers an act.
+    fn serve_act<X: Disks<D = D>>(
+        &mut self,
+        alloc: Global,
+        disks: &mut X,
+        act: Act,
+    ) -> Result<Answer, Lost>
+        requires limits { MeetsLimits act }
+        requires served { IsServedAct act }
+        requires may { MayServeSaved D.state self.old (X.held disks.old) }
+        ensures answered { AnswersSaved D.state (depot_by X.held X.counted X.all_faults disks.old) self.old act result (depot_by X.held X.counted X.all_faults disks.new) self.new }
+        ensures others { saves_by act ≡ false → (self.new.meta ≡ self.old.meta) × (self.new.log ≡ self.old.log) × IsOk result }
+        ensures untouched { IsErrOf result lost.Meta → is_init act ≡ true → AreAsTheyWere D.state (depot_by X.held X.counted X.all_faults disks.old) (depot_by X.held X.counted X.all_faults disks.new) }
+        ensures wanted { IsErrOf result lost.Memory → is_init act ≡ true }
+        ensures unbegun { IsErrOf result lost.Memory → IsUnbegun D.state self.old (request.One act) self.new }
+    {
+        if saves_by(&act) {
+            return self.serve_saving(alloc, disks, act);
+        }
+        match self.cluster.serve(alloc, disks, Request::One(act)) {
+            Reply::One(answer) => Ok(answer),
+            Reply::Par { .. } => unreachable!(),
+        }
+    }
+
+    /// Answers one request. A namespace, a moment, a first placement and a next one are saved before they are answered: whatever a stop leaves after the
+    /// reply, it has the state that the cluster has. A refusal has changed nothing, also one for want of memory.
+    ///
+    /// # Errors
+    ///
+    /// The request gets no reply: the meta disk failed, and a stop leaves the state from before the request or the one that it leads to; or memory was
+    /// wanted as the replicas of an `init` began, after its state was saved. The cluster is to be closed then.
+    pub fn serve<X: Disks<D = D>>(
+        &mut self,
+        alloc: Global,
+        disks: &mut X,
+        request: Request,
+    ) -> Result<Reply, Lost>
+        requires limits { KeepsLimits request }
+        requires served { IsServed request }
+        requires may { MayServeSaved D.state self.old (X.held disks.old) }
+        ensures may { OnOk result (MayServeSaved D.state self.new (X.held disks.new)) }
+        ensures close { MayClose self.new (X.held disks.new) }
+        ensures answered { IfOk result (IsAnsweredBy request) }
+        ensures served { ServesRequestSome D.state (depot_by X.held X.counted X.all_faults disks.old) self.old.cluster request result (depot_by X.held X.counted X.all_faults disks.new) self.new.cluster }
+
+        // The placement stands then that stood before, or the one that the reply prints.
+        ensures place { IfOk result (λ said. placement_after (place_of self.old.cluster) (inner_turns (record { request = request; reply = said } ∷ [])) ≡ place_of self.new.cluster) }
+
+        // The turns so far that are tracked are so with this one.
+        ensures tracks { (tells : Bool) (first : Depot D) (turns : List Turn)
+            → TracksTurns D.state tells first (depot_by X.held X.counted X.all_faults disks.old) turns self.old.cluster
+            → TracksRequest D.state tells first (depot_by X.held X.counted X.all_faults disks.new) turns request result self.new }
+
+        // At any moment within the call a stop left the state from before it or the one to which it leads.
+        ensures any_moment { (D.state self.old.meta).tells ≡ true → ElapsesBy (state_of self.old.cluster) (kept_of self.old.cluster) request (D.state self.old.meta) (D.state self.new.meta) }
+
+        // A request that doesn't change the state leaves the meta disk as it is, and gets a reply.
+        ensures others { saves request ≡ false → (self.new.meta ≡ self.old.meta) × (self.new.log ≡ self.old.log) × IsOk result }
+
+        // Replicas of an `init` begin once its state is saved: where that fails, their disks are back as they were.
+        ensures untouched { IsErrOf result lost.Meta → is_init_request request ≡ true → AreAsTheyWere D.state (depot_by X.held X.counted X.all_faults disks.old) (depot_by X.held X.counted X.all_faults disks.new) }
+
+        // Memory is wanted so only as the replicas of an `init` begin, whose state is saved by then.
+        ensures wanted { IsErrOf result lost.Memory → is_init_request request ≡ true }
+        ensures unbegun { IsErrOf result lost.Memory → IsUnbegun D.state self.old request self.new }
+
+        ensures tells { (D.state self.new.meta).tells ≡ (D.state self.old.meta).tells }
+        ensures faults { CountsFaults (IsErrOf result lost.Meta) (D.state self.old.meta).faults (D.state self.new.meta).faults }
+    {
+        match request {
+            Request::One(act) => {
+                self.cluster.know();
+                let answered = self.serve_act(alloc, disks, act);
+                self.cluster.know();
+                match answered {
+                    Ok(answer) => Ok(Reply::One(answer)),
+                    Err(lost) => Err(lost),
+                }
+            }
+            Request::Par { .. } => unreachable!(),
+        }
+    }
+
+    /// Gives all disks back. The count of all faults rises by as much as those of the disks rose since they were taken. Takes no memory.
+    pub fn close<X: Disks<D = D>>(self, disks: &mut X)
+        requires close { MayClose self (X.held disks.old) }
+        ensures none_out { (disk_slot : AtSlot) → X.held disks.new disk_slot ≢ Out }
+        ensures meta { X.held disks.new meta_slot ≡ Here self.meta }
+        ensures held { (s : Slot) → IsForReplicas (disk_slot_of s) → X.held disks.new (disk_slot_of s) ≡ held_at (depot_by X.held X.counted X.all_faults disks.old) (replica_at self.cluster.members s) s }
+        ensures counted { (s : Slot) → IsForReplicas (disk_slot_of s) → X.counted disks.new (disk_slot_of s) ≡ count_at D.state (depot_by X.held X.counted X.all_faults disks.old) (replica_at self.cluster.members s) s }
+        ensures meta_counted { X.counted disks.new meta_slot ≡ (D.state self.meta).faults }
+        ensures rose { (between : ℕ) × RisesBy D.state (depot_by X.held X.counted X.all_faults disks.old) self.cluster.members between × RoseBy ((D.state self.meta).faults - X.counted disks.old meta_slot) between (X.all_faults disks.new) }
+        ensures later { X.all_faults disks.old ≤ X.all_faults disks.new }
+    {
+        let SavedCluster { cluster, meta, .. } = self;
+        cluster.close(disks);
+        disks.give(DiskSlot::META, meta);
+    }
+}
