@@ -8,14 +8,17 @@ from dataclasses import dataclass, field
 from typing import Any, Iterable
 
 from oracle_lines import Refused, Request, read_line, tags_of
-from oracle_places import Place, first_place, next_place
+from oracle_places import JOINING, MOST_VERSIONS, Place, ended, first_place, next_place
 
 MOST_NAMESPACES = 8
 MOST_LATE_WRITES = 4096
 SEGMENT_BYTES = 65536
-FIRST_BYTES = 14
-WRITE_BYTES = 27
+MARK_BYTES = 14  # of a tenure or a fence in the log
+HEAD_BYTES = 8  # of an entry of points, each of which takes its identifier's bytes and these
+POINT_BYTES = 19
+PAGE_POINTS = 64
 Point = tuple[str, str, int]
+Reason = list  # its word, and for `stale` the fence
 Points = dict[Point, int]
 Block = tuple[str, int]
 
@@ -68,23 +71,60 @@ def joined(*all_points: Points) -> Points:
 
 @dataclass
 class Replica:
-    """A node's replica of a shard: how it stands, what it has in memory, and on its disk: volumes by namespace and start,
-    the newest snapshot's number, and what that snapshot and the log have, of which the last segment is filled so far."""
+    """A node's replica of a shard: how it stands, its tenure and fence, what it has in memory, and on its disk: volumes by namespace
+    and start, the newest snapshot's number, and what that snapshot and the log have, of which the last segment is filled so far."""
     standing: str = "open"
+    tenure: int | None = 1  # none where a later placement took the shard from its node
+    begun: int = 1  # the highest that it ever had, which is in its log
+    fence: int = 1
     memory: Points = field(default_factory=dict)
     volumes: dict[Block, Points] = field(default_factory=dict)
     log: Points = field(default_factory=dict)
     segments: int = 1
-    filled: int = FIRST_BYTES
+    filled: int = MARK_BYTES
     snapshots: int = 0
 
-    def take(self, point: Point, value: int) -> None:
-        size = WRITE_BYTES + len(point[1].encode())
+    def write_down(self, size: int) -> None:
         if self.filled + size > SEGMENT_BYTES:
             self.begin_segment()
         self.filled += size
-        raise_point(self.log, point, value)
-        raise_point(self.memory, point, value)
+
+    def take_all(self, points: Points) -> None:
+        self.write_down(HEAD_BYTES + sum(POINT_BYTES + len(identifier.encode()) for _, identifier, _ in points))
+        for point, value in points.items():
+            raise_point(self.log, point, value)
+            raise_point(self.memory, point, value)
+
+    def merge(self, page: Points) -> None:
+        """Takes of a page what is new here, or higher."""
+        content = self.content()
+        if new := {it: value for it, value in page.items() if it not in content or content[it] < value}:
+            self.take_all(new)
+
+    def raise_fence(self, version: int) -> None:
+        if self.fence < version:
+            self.write_down(MARK_BYTES)
+            self.fence = version
+
+    def begin(self, tenure: int) -> None:
+        """Has this tenure, and serves."""
+        if self.standing == "boot":
+            self.load()
+        if self.begun < tenure:
+            self.write_down(MARK_BYTES)
+        self.tenure, self.begun, self.fence = tenure, max(self.begun, tenure), max(self.fence, tenure)
+
+    def closed(self) -> Reason | None:
+        """Why it does nothing at all, if it doesn't."""
+        return None if self.standing == "open" else [self.standing]
+
+    def unowned(self, version: int) -> Reason | None:
+        """Why it can't be fenced at this version."""
+        return self.closed() or (["notowned"] if self.tenure is None or self.tenure > version else None)
+
+    def refusal(self, version: int) -> Reason | None:
+        """Why it takes and gives nothing by this version."""
+        return self.unowned(version) or (["stale", self.fence] if self.fence > version else None)
 
     def begin_segment(self) -> None:
         self.segments, self.filled = self.segments + 1, 0
@@ -131,6 +171,7 @@ class Replica:
 class LateWrite:
     node: str
     shard: int
+    version: int
     point: Point
     value: int
 
@@ -151,8 +192,6 @@ class Cluster:
 
     def serve(self, request: Request) -> Request:
         op, call = request["op"], self.calls
-        if op == "bootstrap" and self.covers_joining(request):
-            raise Refused("later")
         if op in CALLS:
             self.calls += 1
         if (op == "init") == bool(self.places):
@@ -182,13 +221,6 @@ class Cluster:
     def shard_of(self, identifier: str) -> int:
         return murmur(identifier.encode(), self.seed) % len(self.replicas)
 
-    def covers_joining(self, request: Request) -> bool:
-        """Whether a bootstrap covers a replica that is joining its shard."""
-        if not self.places:
-            return False
-        shards = [request["shard"]] if "shard" in request else range(len(self.replicas))
-        return any(shard < len(self.replicas) and self.place().joining(shard) == request["node"] for shard in shards)
-
     # ---- calls
 
     def needed(self, level: str) -> int:
@@ -197,21 +229,17 @@ class Cluster:
     def majority(self) -> int:
         return self.place().rf // 2 + 1
 
-    def standing(self, node: str, shard: int) -> str | None:
-        """Why this replica answers no call at all, if it doesn't."""
-        standing = self.replicas[shard][node].standing
-        return None if standing == "open" else standing
-
-    def window(self, namespace: Namespace, at: int) -> str | None:
+    def window(self, namespace: Namespace, at: int) -> Reason | None:
         if at <= self.now - namespace.past:
-            return "past"
-        return "future" if at >= self.now + namespace.future else None
+            return ["past"]
+        return ["future"] if at >= self.now + namespace.future else None
 
-    def put(self, node: str, shard: int, point: Point, value: int) -> str | None:
+    def put(self, node: str, shard: int, version: int, point: Point, value: int) -> Reason | None:
         """A replica takes a point, or tells why not."""
-        reason = self.standing(node, shard) or self.window(self.namespaces[point[0]], point[2])
+        replica = self.replicas[shard][node]
+        reason = replica.refusal(version) or self.window(self.namespaces[point[0]], point[2])
         if reason is None:
-            self.replicas[shard][node].take(point, value)
+            replica.take_all({point: value})
         return reason
 
     def copies(self, call: int, node: str) -> int:
@@ -223,23 +251,23 @@ class Cluster:
     def write(self, request: Request, place: Place, call: int) -> Request:
         point, value = (request["ns"], request["id"], request["t"]), request["v"]
         shard = self.shard_of(point[1])
-        reasons: dict[str, str | None] = {}
+        reasons: dict[str, Reason | None] = {}
         for node in place.members(shard):
             if self.is_cut(call, node):
-                reasons[node] = "cut"
+                reasons[node] = ["cut"]
                 if self.fates[call, node] == "late" and len(self.late) < MOST_LATE_WRITES:
-                    self.late.append(LateWrite(node, shard, point, value))
+                    self.late.append(LateWrite(node, shard, place.version, point, value))
             else:
                 for _ in range(self.copies(call, node)):
-                    reasons[node] = self.put(node, shard, point, value)
+                    reasons[node] = self.put(node, shard, place.version, point, value)
         counted = {node: reasons[node] for node in place.counted(shard)}
         self.demand_level(shard, request.get("level", "majority"), counted)
         return {"acks": answered(counted)}
 
-    def demand_level(self, shard: int, level: str, reasons: dict[str, str | None]) -> None:
+    def demand_level(self, shard: int, level: str, reasons: dict[str, Reason | None]) -> None:
         got = len(answered(reasons))
         if got < self.needed(level):
-            listed = [[node, reason] for node, reason in reasons.items() if reason]
+            listed = [[node, *reason] for node, reason in reasons.items() if reason]
             raise Refused("consistency", shard=shard, got=got, needed=self.needed(level), reasons=listed)
 
     def fetch(self, request: Request, place: Place, call: int) -> Request:
@@ -257,7 +285,8 @@ class Cluster:
         found: Points = {}
         short = False
         for shard in shards:
-            reasons = {it: "cut" if self.is_cut(call, it) else self.standing(it, shard) for it in place.counted(shard)}
+            reasons = {it: ["cut"] if self.is_cut(call, it) else self.replicas[shard][it].refusal(place.version)
+                       for it in place.counted(shard)}
             self.demand_level(shard, level, reasons)
             short |= len(answered(reasons)) < self.majority()
             for node in answered(reasons):
@@ -284,11 +313,18 @@ class Cluster:
 
     def change(self, request: Request) -> Request:
         """A line that makes a placement: new replicas wait for a bootstrap."""
-        self.places.append(next_place(self.place(), request))
+        self.stand_by(next_place(self.place(), request))
         for shard, replicas in zip(self.place().shards, self.replicas):
             for node in shard:
-                replicas.setdefault(node, Replica("boot"))
+                replicas.setdefault(node, Replica("boot", tenure=None, begun=0, fence=0, segments=0, filled=0))
         return self.place().printed()
+
+    def stand_by(self, place: Place) -> None:
+        """The next placement: the replicas that it takes away from their nodes have no tenure any more."""
+        for shard, (was, now) in enumerate(zip(self.place().shards, place.shards)):
+            for node in was.keys() - now.keys():
+                self.replicas[shard][node].tenure = None
+        self.places.append(place)
 
     def namespace(self, request: Request) -> None:
         if request["name"] in self.namespaces:
@@ -310,7 +346,10 @@ class Cluster:
 
     def deliver(self, _: Request) -> Request:
         late, self.late = self.late, []
-        return {"outcomes": [[it.node, it.shard, self.put(it.node, it.shard, it.point, it.value) or "took"] for it in late]}
+        return {"outcomes": [[it.node, it.shard, *self.outcome(it)] for it in late]}
+
+    def outcome(self, it: LateWrite) -> Reason:
+        return self.put(it.node, it.shard, it.version, it.point, it.value) or ["took"]
 
     def stand(self, node: str, standing: str) -> None:
         """All replicas of the node stand so, also those that no shard has any more."""
@@ -339,10 +378,39 @@ class Cluster:
             shards = [request["shard"]]
         if node in self.stopped:
             raise Refused("state", node=node)
-        for shard in shards:
-            if node in self.place().shards[shard] and self.replicas[shard][node].standing == "boot":
-                self.replicas[shard][node].load()
-        return {"available": [], **self.place().printed()}
+        joined = {shard: peers for shard in shards if (peers := self.open(node, shard)) is not None}
+        if joined:
+            if self.place().version == MOST_VERSIONS:
+                raise Refused("limit", limit=MOST_VERSIONS)
+            self.stand_by(ended(self.place(), node, list(joined)))
+        return {"available": [[shard, peers] for shard, peers in joined.items()], **self.place().printed()}
+
+    def open(self, node: str, shard: int) -> list[str] | None:
+        """The node's replica of a shard serves; where it joins the shard, it says from whom it streamed."""
+        own, replica = self.place().shards[shard].get(node), self.replicas[shard].get(node)
+        if own is None or replica.standing == "down":
+            return None
+        replica.begin(own.tenure)
+        return self.stream(node, shard, own.tenure) if own.state == JOINING else None
+
+    def stream(self, node: str, shard: int, tenure: int) -> list[str]:
+        """Former replicas stream, by name, until a majority did so whole."""
+        streamed: list[str] = []
+        refused: list[list] = []
+        for peer in self.place().former(shard):
+            if len(streamed) == self.majority():
+                break
+            source = self.replicas[shard][peer]
+            if reason := source.unowned(tenure):
+                refused.append([peer, *reason])
+                continue
+            source.raise_fence(tenure)
+            for page in pages(source.content(), list(self.namespaces)):
+                self.replicas[shard][node].merge(page)
+            streamed.append(peer)
+        if len(streamed) < self.majority():
+            raise Refused("peers", shard=shard, got=len(streamed), needed=self.majority(), reasons=refused)
+        return streamed
 
     # ---- upkeep
 
@@ -352,9 +420,9 @@ class Cluster:
     def sweep(self, work: Any) -> Request:
         done, failed = [], []
         for node, shard in self.members():
-            reason = self.standing(node, shard)
+            reason = self.replicas[shard][node].closed()
             if reason:
-                failed.append([node, shard, reason])
+                failed.append([node, shard, *reason])
             else:
                 done.append([node, shard, work(self.replicas[shard][node], self.namespaces, self.now)])
         return {"done": done, "failed": failed}
@@ -370,12 +438,11 @@ class Cluster:
 
     def report(self, node: str, shard: int) -> Request:
         replica = self.replicas[shard][node]
-        reason = self.standing(node, shard)
         fence, buffered, segments, snapshot, volumes = 0, 0, 0, 0, 0
-        if reason is None:
-            fence, buffered, segments, volumes = 1, len(replica.memory), replica.segments, len(replica.volumes)
+        if replica.standing == "open":
+            fence, buffered, segments, volumes = replica.fence, len(replica.memory), replica.segments, len(replica.volumes)
             snapshot = replica.snapshots
-        return {"node": node, "shard": shard, "state": self.place().shards[shard][node].state, "standing": reason or "open", "fence": fence,
+        return {"node": node, "shard": shard, "state": self.place().shards[shard][node].state, "standing": replica.standing, "fence": fence,
                 "buffered": buffered, "segments": segments, "snapshot": snapshot, "volumes": volumes}
 
     def status(self, _: Request) -> Request:
@@ -389,7 +456,13 @@ ACTS = {"init": Cluster.init, "namespace": Cluster.namespace, "now": Cluster.set
         "tick": Cluster.tick, "flush": Cluster.flush, "snapshot": Cluster.snapshot, "status": Cluster.status}
 
 
-def answered(reasons: dict[str, str | None]) -> list[str]:
+def pages(content: Points, spaces: list[str]) -> Iterable[Points]:
+    """What a replica has, by namespace, identifier and time, in pages."""
+    ordered = sorted(content.items(), key=lambda it: (spaces.index(it[0][0]), it[0][1].encode(), it[0][2]))
+    return [dict(ordered[at:at + PAGE_POINTS]) for at in range(0, len(ordered), PAGE_POINTS)]
+
+
+def answered(reasons: dict[str, Reason | None]) -> list[str]:
     return [node for node, reason in reasons.items() if reason is None]
 
 

@@ -53,6 +53,10 @@ class Place:
     def counted(self, shard: int) -> list[str]:
         return [name for name in self.members(shard) if self.shards[shard][name].state == AVAILABLE]
 
+    def former(self, shard: int) -> list[str]:
+        """The nodes from which the one that joins the shard streams."""
+        return [name for name in self.members(shard) if self.shards[shard][name].state != JOINING]
+
     def shards_of(self, name: str) -> list[int]:
         return [number for number, shard in enumerate(self.shards) if name in shard]
 
@@ -185,4 +189,15 @@ def next_place(place: Place, request: Request) -> Place:
     made = deepcopy(place)
     made.version += 1
     PLANS[request["op"]](made, request)
+    return made
+
+
+def ended(place: Place, name: str, shards: list[int]) -> Place:
+    """The moves of these shards to the node are over: it has them, and the nodes from which it took them over haven't."""
+    made = deepcopy(place)
+    made.version += 1
+    for shard in shards:
+        one = made.shards[shard][name]
+        del made.shards[shard][one.source]
+        made.shards[shard][name] = Assignment(AVAILABLE, one.tenure)
     return made

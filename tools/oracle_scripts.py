@@ -59,6 +59,7 @@ class Script:
         self.times: list[int] = [0]
         self.unrest = self.dice.choice([0.0, 0.0, 0.03, 0.1, 0.3])
         self.versions = 1
+        self.joins: list[str] = []
 
     # ---- lines in the grammar
 
@@ -151,6 +152,7 @@ class Script:
         self.versions += 1
         if op in ("add", "replace"):
             self.nodes += [new] * (new not in self.nodes)
+            self.joins.append(new)
         if op == "add":
             return {"op": op, "node": new, "group": group}
         line: Request = {"op": op, "node": self.node()}
@@ -160,6 +162,8 @@ class Script:
         draw = self.dice.random()
         if self.dice.random() < self.unrest:
             return self.place_line()
+        if self.joins and self.dice.random() < 0.08:
+            return {"op": "bootstrap", "node": self.dice.choice(self.joins[-2:])}
         if draw < 0.52:
             return self.call()
         if draw < 0.62:
@@ -358,6 +362,28 @@ def many_versions() -> list[bytes]:
     return [*lines, begin, away, b'{"op":"add","node":"a","group":"g"}']
 
 
+def ended_moves() -> list[bytes]:
+    """Moves that end one after the other, of more than a page: under late writes, at older versions, with too few peers first, over old files."""
+    lines: list[Request] = [{"op": "init", "rf": 3, "shards": 2, "seed": 0, "nodes": [["a", "g0"], ["b", "g1"], ["c", "g2"]]},
+                            {"op": "namespace", "name": "m", "block": 10, "past": 9, "future": 9, "retention": 40}]
+    have, spare = ["a", "b", "c"], "d"
+    for turn in range(15):
+        old, other, moment = have[turn % 3], have[(turn + 1) % 3], turn * 3
+        fates = [[0, at, have[at % 3], ("late", "lose", "twice")[(at + turn) % 3]] for at in range(0, 60, 2)]
+        writes = [{"op": "write", "ns": "m", "id": f"x{at % 5}", "t": moment + at % 8, "v": turn * at % 7} for at in range(50)]
+        again = [{"op": op, "node": it} for op in ("stop", "bootstrap", "restart", "bootstrap") for it in (old, other)]
+        joins = {"op": "bootstrap", "node": spare}
+        lines += [{"op": "now", "now": moment}, {"op": "fates", "list": fates}, *writes[:40], {"op": ("flush", "snapshot", "tick")[turn % 3]}]
+        lines += [{"op": "replace", "node": old, "by": spare, "group": f"g{turn % 3}"}, *writes[40:]]
+        lines += [*again[:3], joins, *again[4:]] if turn % 4 == 1 else [joins | {"shard": 1}] if turn % 4 == 2 else []
+        lines += [joins, {"op": "deliver"}, {"op": "status"}]
+        for version in range(max(turn * 3 - 3, 1), turn * 3 + 4):
+            lines.append({"op": "match", "ns": "m", "where": [], "from": 0, "to": 99, "version": version})
+        lines += [{"op": "match", "ns": "m", "where": [], "from": 0, "to": 99, "level": "one"}, {"op": "remove", "node": old}]
+        have[turn % 3], spare = spare, old
+    return [json.dumps(it).encode() for it in lines]
+
+
 def many_names() -> list[bytes]:
     """As many names as there may be, and then names that were removed and new ones, over shards that an added node takes."""
     lines = [b'{"op":"init","rf":2,"shards":9,"seed":0,"nodes":[["a","g1"],["b","g2"]]}']
@@ -416,7 +442,7 @@ def raw_lines() -> list[bytes]:
 
 
 FIXED = [too_many_late, too_many_spaces, deep_lines, long_lines, partly_back, edge_lines,
-         all_ids, raw_lines, full_segments, upkeep_again, cut_logs, many_versions, many_names]
+         all_ids, raw_lines, full_segments, upkeep_again, cut_logs, many_versions, many_names, ended_moves]
 
 
 def script(number: int) -> bytes:

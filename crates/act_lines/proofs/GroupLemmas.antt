@@ -50,7 +50,7 @@ module _ (turns : List Turn) (rf shards seed : ℕ) (nodes : List (List ℕ × L
       not_again = λ q at x y i j. absurd i;
       untaken_are = λ fault i. absurd i;
       different = tt;
-      bound = omega arith;
+      bound = λ is. omega arith;
     }
 
     leaves_so : LeavesAnew PlainLine tells [] turns a b []

@@ -243,7 +243,7 @@ module _ {D : Type 0} {G : Ghosts D} (state : D → DiskState) (m : Members D G)
       not_again = λ q at x y i j. absurd i;
       untaken_are = λ fault i. absurd i;
       different = tt;
-      bound = bounded (writes_taken past (turns ++ line_of a b ∷ []));
+      bound = λ is. bounded (writes_taken past (turns ++ line_of a b ∷ []));
     }
 
     leaves_so : LeavesAnew InitLine tells [] turns a b all

@@ -1,6 +1,6 @@
 -- What the turns left is left still by a turn that prints the placement which stands, or none, and that sets nothing.
-use Rattle.std.proofs.Common.{◌≡◌, ℕ, zero, suc, List, [], ◌∷◌, ◌++◌, drop, length, sym, ap, subst, ◌∙◌, inl, inr}
-use Rattle.std.specs.Prelude.{◌⊎◌, Option, Some, None, IsTrue}
+use Rattle.std.proofs.Common.{◌≡◌, ℕ, zero, suc, List, [], ◌∷◌, ◌++◌, drop, length, refl, sym, ap, subst, ◌∙◌, inl, inr, Bool, true, false}
+use Rattle.std.specs.Prelude.{◌⊎◌, Option, Some, None, IsTrue, nat_lt, if◌then◌else◌}
 use Rattle.std.proofs.lemmas.Grind.{fold-append}
 use Rattle.m3_model.specs.Members.{IsIn}
 use Rattle.m3_model.specs.declared.act.Act.{Act}
@@ -20,7 +20,7 @@ use Rattle.call_lines.proofs.told_by_proofs.RuleLemmas.{after_lines}
 use Rattle.call_lines.proofs.told_by_proofs.TurnLemmas.{inner-append}
 use Rattle.transcripts.specs.Deliveries.{LateMessage, delivers_nothing}
 use Rattle.transcripts.specs.Fates.{calls_in, client_acts, fates_set, fate_in, numbering_after, numbering_by}
-use Rattle.transcripts.specs.Placements.{later_placement, placement_after, printed, seed_after, seed_by, start_placement}
+use Rattle.transcripts.specs.Placements.{later_placement, newer, placement_after, printed, seed_after, seed_by, start_placement}
 use Rattle.transcripts.specs.Points.{point_of}
 use Rattle.transcripts.specs.Record.{inner_turns, line_of}
 use Rattle.transcripts.specs.Rules.{rules_after, rules_by, start_rules}
@@ -34,6 +34,14 @@ pub record SetsNoMore (place : Placement) (a : Act) (b : Answer) : Type 0 where
   pub seed : (x : ℕ) → seed_by a b x ≡ x
   pub fates : fates_set (request.One a) (reply.One b) ≡ None
   pub quiet : IsTrue (delivers_nothing (line_of a b))
+
+-- of a placement and the same one the newer is it
+pub newer_same : (place : Placement) → newer place (Some place) ≡ place
+newer_same place = by (nat_lt place.version place.version)
+  where
+    by : (t : Bool) → (if t then place else place) ≡ place
+    by true = refl
+    by false = refl
 
 -- behind an earlier position, one line more
 drop_on : {X : Type 0} (k : ℕ) (xs : List X) (x y : X) → IsIn (drop k (xs ++ x ∷ [])) y → IsIn (drop k xs) y ⊎ (x ≡ y)

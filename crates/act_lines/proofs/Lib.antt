@@ -9,11 +9,9 @@ pub mod NothingLemmas
 pub mod SettingLemmas
 pub mod NodeStands
 pub mod HaltLemmas
+pub mod DamageLemmas
 pub mod OpenLemmas
 pub mod LeftLemmas
-pub mod BootLemmas
-pub mod BootLines
-pub mod BootTells
 pub mod BeginEvents
 pub mod InitLemmas
 pub mod InitStands

@@ -180,7 +180,7 @@ given_tenure events n s tenure given = let there = place_there events given.0 gi
 
 -- ---- what came
 
-module _ {D : Type 0} (state : D → DiskState) (tells : Bool) (start : Option MetaState) (place : Placement) (old new : Tracked D) (last : last_place old.events ≡ Some place) (lawful : IsLawful place) (may : MayOpenSlots state tells start old) (more : List Event) (ran : Ran state old more new) (no_place : HaveNoPlace more)
+module _ {D : Type 0} (state : D → DiskState) (tells : Bool) (start : Option MetaState) (place : Placement) (old new : Tracked D) (last : last_place old.events ≡ Some place) (lawful : IsLawful place) (may : MayOpenSlots state tells start old) (more : List Event) (ran : Ran state old more new)
     (given : BeginsGiven old.events more) where
   abbrev pub events : List Event
   events = old.events
@@ -317,8 +317,8 @@ module _ {D : Type 0} (state : D → DiskState) (tells : Bool) (start : Option M
   whole_is : (n s : ℕ) → replica n s new.events ≡ fold (step_of n s) (replica n s events) more
   whole_is n s = ap (replica n s) ran.grew ∙ fold-append (step_of n s) fresh events more
 
-  still_given : (n s tenure : ℕ) → IsGivenNow new.events n s tenure → IsGivenNow events n s tenure
-  still_given n s tenure h = (h.0, sym (ap last_place ran.grew ∙ last_still events more no_place) ∙ h.1, h.2)
+  still_given : HaveNoPlace more → (n s tenure : ℕ) → IsGivenNow new.events n s tenure → IsGivenNow events n s tenure
+  still_given no_place n s tenure h = (h.0, sym (ap last_place ran.grew ∙ last_still events more no_place) ∙ h.1, h.2)
 
   -- the member of a slot was one over the same disk
   was_there : (slot : Slot) (m : Member D) → finite.get new.members slot ≡ Some m → (was : Member D) × (finite.get old.members slot ≡ Some was) × (m.first ≡ was.first) × TakesSteps state (steps_of slot more) was.machine m.machine
@@ -328,8 +328,8 @@ module _ {D : Type 0} (state : D → DiskState) (tells : Bool) (start : Option M
       by None is h = let clash : Some m ≡ None = sym at ∙ h in cc
       by (Some x) is h = let same : h.0 ≡ m = same_Some h.0 m (sym h.1 ∙ at) in (x, is, ap (λ (y : Member D). y.first) (sym same) ∙ h.2, subst (λ (y : Member D). TakesSteps state (steps_of slot more) x.machine y.machine) same h.3)
 
-  pub begins_on : MayOpenSlots state tells start new
-  begins_on = record {
+  pub begins_on : HaveNoPlace more → MayOpenSlots state tells start new
+  begins_on no_place = record {
     disks = may.disks;
     tell = may.tell;
     members = λ slot m at.
@@ -340,11 +340,11 @@ module _ {D : Type 0} (state : D → DiskState) (tells : Bool) (start : Option M
       files = λ slot m at none tenure now.
           let w = was_there slot m at in
           let before = unbegun_before slot.node slot.shard more (replica slot.node slot.shard events) (ap (λ (r : ReplicaState). r.begun) (sym (whole_is slot.node slot.shard)) ∙ none) in
-          subst (λ (f : Snapshot D). EachImage (state f.value) (IsLow start tenure)) (sym w.2) ((may.low tell).files slot w.0 w.1 before tenure (still_given slot.node slot.shard tenure now));
+          subst (λ (f : Snapshot D). EachImage (state f.value) (IsLow start tenure)) (sym w.2) ((may.low tell).files slot w.0 w.1 before tenure (still_given no_place slot.node slot.shard tenure now));
       tried = λ n s own none m tenure now.
-          low_tried tell n s more (λ e i. i) (ap (λ (r : ReplicaState). r.begun) (sym (whole_is n s)) ∙ none) own (subst (λ (r : ReplicaState). IsIn r.tried own) (whole_is n s) m) tenure (still_given n s tenure now);
+          low_tried tell n s more (λ e i. i) (ap (λ (r : ReplicaState). r.begun) (sym (whole_is n s)) ∙ none) own (subst (λ (r : ReplicaState). IsIn r.tried own) (whole_is n s) m) tenure (still_given no_place n s tenure now);
     };
   }
 
 pub begins_still : {D : Type 0} {G : Ghosts D} (state : D → DiskState) (old : Members D G) → BeginsStill state old
-begins_still {D} {G} state old tells start new more ready may ran no_place given = begins_on state tells start old.net.state.place old.net.replicas new ready.place ready.lawful may more ran no_place given
+begins_still {D} {G} state old tells start new more ready may ran no_place given = begins_on state tells start old.net.state.place old.net.replicas new ready.place ready.lawful may more ran given no_place

@@ -71,7 +71,7 @@ module _ (turns : List Turn) (rf shards seed : ℕ) (nodes : List (List ℕ × L
       not_again = λ q at x y i j. absurd i;
       untaken_are = λ fault i. elim i as (λ _. (fault.kind ≡ Taking) × (fault.line ≡ length turns)) [ inl same ↦ (ap (λ (f : Fault). f.kind) (sym same), ap (λ (f : Fault). f.line) (sym same)) | inr none ↦ absurd none ];
       different = (λ i. i, tt);
-      bound = omega arith;
+      bound = λ is. omega arith;
     }
 
     leaves_so : (tells : Bool) → LeavesAnew PlainLine tells (untaken_at turns node shard ∷ []) turns a b []

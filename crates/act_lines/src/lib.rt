@@ -1,6 +1,6 @@
 //! What is so of a cluster that stands; which refusals are due; and what the lines leave that aren't calls: those that are refused or
-//! given up, that set the rules or the fates, that stop, restart and bootstrap nodes, and that of an `init`. The list of events tells
-//! of each and serves it.
+//! given up, that set the rules or the fates, that stop and restart nodes, and that of an `init`. The list of events tells of each and
+//! serves it.
 #![tactic(auto)]
 
 pub mod due;
@@ -10,7 +10,7 @@ pub mod settings;
 
 pub use due::{calls_are_due, first_acts_are_due, nodes_are_due, rules_are_due, steps_are_due};
 pub use inits::{first_tells, lacking_groups_tell, untaken_tells};
-pub use nodes::{bootstraps_tell, first_begins_stay, restarts_tell, stops_tell};
+pub use nodes::{first_begins_stay, restarts_tell, stops_tell};
 pub use settings::{
     full_calls_tell, full_tells, none_stands, refused_tells, settings_tell, stands_again,
     turns_leave,
@@ -33,7 +33,7 @@ pub mod of_first_cluster {
 }
 /// Of `node_calls`.
 pub mod of_node_calls {
-    pub use node_calls::{bootstrap, deliver, restart, set_fates, stop};
+    pub use node_calls::{deliver, restart, set_fates, stop};
 }
 /// Of `replica_calls`.
 pub mod of_replica_calls {

@@ -5,6 +5,7 @@ pub mod ContentLemmas
 pub mod TreeLemmas
 pub mod GroupLemmas
 pub mod FirstLemmas
+pub mod FirstOfLemmas
 pub mod SpotLemmas
 pub mod BlockLemmas
 pub mod ClosedLemmas

@@ -1,6 +1,7 @@
 pub mod Room
 pub mod AllSeries
 pub mod Held
+pub mod FirstOf
 pub mod Taken
 pub mod Blocks
 pub mod Laws

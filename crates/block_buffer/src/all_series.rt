@@ -13,6 +13,7 @@ ghost use Rattle.series_slots.specs.Ranges.{IsRangeOf, series_in};
 ghost use Rattle.std.specs.List.{flat_map};
 ghost use Rattle.block_buffer.specs.Taken.{is_settled};
 ghost use Rattle.series_slots.specs.Firsts.{HasNoneLater, IsFirstAt};
+ghost use Rattle.series_slots.specs.Above.{HasNoneAbove, IsFirstAbove};
 ghost use Rattle.block_buffer.specs.Held.{has_expired};
 ghost use Rattle.block_buffer.specs.AllSeries.{IsTakenAt, is_bare, IsSlotSet, AreSameSlots, HasNoSlots, HasSlots};
 ghost use Rattle.block_buffer.specs.Spots.{group_of, IsKeyWithin, IsValueOf, HasNoValueOf, HasNoneAt, IsClear, IsLate};
@@ -331,7 +332,7 @@ impl AllSeries {
     }
 
     // The first value of the series at this position at the times from `low` on, where it is of the namespace.
-    fn first_at(&self, position: usize, ns: u8, low: u64) -> Option<Spot>
+    pub(crate) fn first_at(&self, position: usize, ns: u8, low: u64) -> Option<Spot>
         requires { (s : SeriesKey) × IsAt self.now position s }
         ensures none { result ≡ None → (s : SeriesKey) → IsAt self.now position s → s.ns ≡ ns → HasNoneLater self.now s low }
         ensures some { IfSome result (λ x. (x.position ≡ position) × ((s : SeriesKey) → IsAt self.now position s → (s.ns ≡ ns) × IsFirstAt self.now position s low x.t x.v)) }
@@ -341,6 +342,14 @@ impl AllSeries {
         }
         let (t, v) = self.placed.first_from(position, low)?;
         Some(Spot { position, t, v })
+    }
+
+    // The first point of the series that come after this one: its series, its time and its value.
+    pub(crate) fn first_above(&self, series: &SeriesKey) -> Option<(&SeriesKey, u64, i64)>
+        ensures none { result ≡ None → HasNoneAbove (points_of (slots_of self.now)) series.now }
+        ensures some { IfSome result (λ x. IsFirstAbove (points_of (slots_of self.now)) series.now x.0.now x.1 x.2) }
+    {
+        self.placed.first_above(series)
     }
 
     // The first group from this one on at which a slot of the namespace up to this time may stand.

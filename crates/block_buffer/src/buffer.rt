@@ -1,4 +1,4 @@
-ghost use Rattle.std.specs.Prelude.{◌≡◌, ◌+◌, ◌-◌, ◌^◌, ◌<◌, List, min, Some, None, true, is_some, IfOk, IfSome, OnOk, OnErr, MatchOption};
+ghost use Rattle.std.specs.Prelude.{◌≡◌, ◌+◌, ◌-◌, ◌^◌, ◌<◌, List, min, Some, None, true, is_some, IfOk, IfSome, IsSome, OnOk, OnErr, MatchOption};
 ghost use Rattle.std.specs.FinMap as finite;
 ghost use Rattle.std.specs.List.{All};
 ghost use Rattle.m3_model.specs.declared.point.Matcher.{Matcher};
@@ -7,6 +7,8 @@ ghost use Rattle.m3_model.specs.Contents.{raised, raised_at, is_higher, key_of};
 ghost use Rattle.series_slots.specs.SeriesKeys.{key_at};
 ghost use Rattle.series_slots.specs.Ranges.{IsRangeOf};
 ghost use Rattle.block_buffer.specs.Blocks.{IsBlocksOf, IsClosedBlocksOf};
+ghost use Rattle.series_slots.specs.Above.{HasNoneAbove, IsFirstAbove};
+ghost use Rattle.block_buffer.specs.FirstOf.{HasNoneFrom, IsFirstOf};
 ghost use Rattle.block_buffer.specs.Spots.{IsKeyWithin};
 ghost use Rattle.block_buffer.specs.Held.{without, has_expired, is_in_block};
 ghost use Rattle.block_buffer.specs.Joins.{joined, points_of_series, IsJoinedInPart};
@@ -308,6 +310,56 @@ impl Buffer {
             Some(position) => Ok(self.all.take_settled(position, t, v)),
             None => Ok(None),
         }
+    }
+
+    /// The same of a series that is given by its key. Takes no memory.
+    pub fn settle_at(&mut self, series: &SeriesKey, t: u64, v: i64) -> Option<Taken>
+        ensures room { self.new.room ≡ None }
+        ensures settled { self.new.points ≡ settled_at self.old.points (record { ns = series.now.ns; id = series.now.id; t = t; v = v }) }
+        ensures taken { IfSome result (IsTaken self.old.points self.new.points (λ k. k ≡ key_at series.now t)) }
+        ensures none { result ≡ None → self.new.points ≡ self.old.points }
+    {
+        self.release();
+        let position = self.all.position_of(series)?;
+        self.all.take_settled(position, t, v)
+    }
+
+    /// Joins a point at a key at which one stands, of which the higher value stays, and gives up the room. Finds the series in
+    /// constant expected time; its time in the logarithm of its times. Takes no memory.
+    pub fn raise(&mut self, series: &SeriesKey, t: u64, v: i64)
+        requires { IsSome (finite.get self.old.points (key_at series.now t)) }
+        ensures { self.new ≡ record { points = raised_at self.old.points (key_at series.now t) v; room = None } }
+    {
+        self.release();
+        match self.all.position_of(series) {
+            Some(position) => match self.all.slot(position, t) {
+                Some(_) => {
+                    self.all.raise(position, t, v);
+                }
+                None => {}
+            },
+            None => {}
+        }
+    }
+
+    /// The time and the value of the first point of the series from this time on. Finds the series in constant expected time, and
+    /// the point in the logarithm of its times. Takes no memory.
+    pub fn first_from(&self, series: &SeriesKey, low: u64) -> Option<(u64, i64)>
+        ensures none { result ≡ None → HasNoneFrom self.now.points series.now low }
+        ensures some { IfSome result (λ x. IsFirstOf self.now.points series.now low x.0 x.1) }
+    {
+        let position = self.all.position_of(series)?;
+        let spot = self.all.first_at(position, series.ns, low)?;
+        Some((spot.t, spot.v))
+    }
+
+    /// The first point of the series that come after this one, in the order of keys: its series, its time and its value. Costs the
+    /// logarithm of the series and of the times of the one that is found. Takes no memory.
+    pub fn first_above(&self, series: &SeriesKey) -> Option<(&SeriesKey, u64, i64)>
+        ensures none { result ≡ None → HasNoneAbove self.now.points series.now }
+        ensures some { IfSome result (λ x. IsFirstAbove self.now.points series.now x.0.now x.1 x.2) }
+    {
+        self.all.first_above(series)
     }
 
     /// Takes each point of the series of the namespace out whose value isn't above the one that is given for its time, and gives

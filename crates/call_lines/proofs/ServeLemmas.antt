@@ -123,7 +123,7 @@ module _ (start : Option MetaState) (turns : List Turn) (events : List Event) (a
     not_again = λ q at x y m k. let late = held x m in never_delivered start turns x late.0 late.1 was were q at y k;
     untaken_are = λ fault m. absurd m;
     different = tt;
-    bound = fits few (writes_taken past (turns ++ line_of a b ∷ []));
+    bound = λ is. fits few (writes_taken past (turns ++ line_of a b ∷ []));
   }
 
 -- what was delivered before, and now

@@ -6,4 +6,4 @@ mod HeldLemmas
 mod ListedLemmas
 pub mod OrderLemmas
 pub mod PlacedLemmas
-mod PlaceLemmas
+pub mod PlaceLemmas

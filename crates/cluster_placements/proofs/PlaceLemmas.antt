@@ -1,11 +1,12 @@
--- In a legal list no more Places stand than were asked for, and a Place that ends no move may come where it is the next one and was asked for.
+-- In a legal list no more Places stand than were asked for, and a Place may come where it is the next one and was asked for.
 use Rattle.std.proofs.Common.{◌≡◌, ℕ, zero, suc, ◌≤◌, List, [], ◌∷◌, ◌++◌, length, refl, sym, ap, ◌∙◌, subst, inl, inr, arith, Bool, false, length-append}
 use Rattle.std.proofs.lemmas.Grind.{fold-append}
-use Rattle.std.specs.Prelude.{◌⊎◌, None}
+use Rattle.std.proofs.lemmas.Bool.{cases_eq}
+use Rattle.std.specs.Prelude.{◌⊎◌, ◌≢◌, None}
 use Rattle.m3_model.specs.Members.{IsIn}
 use Rattle.m3_model.specs.declared.placement.Placement.{Placement}
 use Rattle.cluster_core.specs.Asks.{IsAskFor, IsLike, WasAsked}
-use Rattle.cluster_core.specs.Earlier.{place_after}
+use Rattle.cluster_core.specs.Earlier.{last_place, place_after}
 use Rattle.cluster_core.specs.Legal.{IsNextPlace, LawfulAt, Legal, Lawful}
 use Rattle.cluster_core.specs.Lists.{At}
 use Rattle.cluster_core.specs.declared.event.Asked.TheVariants as asked
@@ -21,9 +22,22 @@ snoc : {X : Type 0} (x : X) (xs : List X) → (ys : List X) × (y : X) × (x ∷
 snoc x [] = ([], x, refl)
 snoc x (z ∷ xs) = let r = snoc z xs in (x ∷ r.0, r.1, ap (λ l. x ∷ l) r.2)
 
-module _ (next : Placement) where
+-- moves that end are the same or not
+same_moves : (a b : List (ℕ × ℕ)) → (a ≡ b) ⊎ (a ≡ b → ⊥)
+same_moves [] [] = inl refl
+same_moves [] (y ∷ b) = inr (λ e. cc)
+same_moves (x ∷ a) [] = inr (λ e. cc)
+same_moves (x ∷ a) (y ∷ b) = by (cases_eq x.0 y.0) (cases_eq x.1 y.1) (same_moves a b)
+  where
+    by : (x.0 ≡ y.0) ⊎ (x.0 ≢ y.0) → (x.1 ≡ y.1) ⊎ (x.1 ≢ y.1) → (a ≡ b) ⊎ (a ≡ b → ⊥) → (x ∷ a ≡ y ∷ b) ⊎ (x ∷ a ≡ y ∷ b → ⊥)
+    by (inr other) q rest = inr (λ e. let here : x ≡ y = cc in other (ap (λ (d : ℕ × ℕ). d.0) here))
+    by (inl shard) (inr other) rest = inr (λ e. let here : x ≡ y = cc in other (ap (λ (d : ℕ × ℕ). d.1) here))
+    by (inl shard) (inl node) (inr other) = inr (λ e. let there : a ≡ b = cc in other there)
+    by (inl shard) (inl node) (inl rest) = inl (λ i. (shard i, node i) ∷ rest i)
+
+module _ (next : Placement) (ended : List (ℕ × ℕ)) where
   abbrev pub own : Event
-  own = event.Place next []
+  own = event.Place next ended
 
   empty_balanced : IsBalanced [] own
   empty_balanced = record { asks = []; answered = []; distinct = tt; are_asks = λ i m. absurd m; are_all = λ i other two at like. let low = at_within [] i other at in absurd (omega (arith, low)); enough = omega arith }
@@ -60,17 +74,17 @@ module _ (next : Placement) where
 
   module _ (same : (x y : Placement) → (x ≡ y) ⊎ (x ≡ y → ⊥)) (tells : Bool) where
     push : (past : List Event) (x : Event) → LawfulAt tells (length past) past x → IsBalanced past own → IsBalanced (past ++ x ∷ []) own
-    push past (event.Place p (d ∷ done)) law b = balanced_other past (event.Place p (d ∷ done)) (λ two like. let none = like.1 in cc) b
-    push past (event.Place p []) law b =
-        elim (same p next) as (λ _. IsBalanced (past ++ event.Place p [] ∷ []) own) [
-          | inr other ↦ balanced_other past (event.Place p []) (λ two like. other like.0) b
-          | inl is ↦ at_place past law is b
-        ]
+    push past (event.Place p done) law b = by (same p next) (same_moves done ended)
       where
-        at_place : (xs : List Event) → LawfulAt tells (length xs) xs (event.Place p []) → p ≡ next → IsBalanced xs own → IsBalanced (xs ++ event.Place p [] ∷ []) own
-        at_place [] law is b = balanced_other [] (event.Place p []) (λ two like. absurd (omega (arith, two))) b
-        at_place (y ∷ []) law is b = absurd law
-        at_place (y ∷ z ∷ xs) law is b = balanced_own (y ∷ z ∷ xs) (event.Place p []) (subst (λ (k : Placement). WasAsked (y ∷ z ∷ xs) (event.Place k [])) is law.0)
+        at_place : (xs : List Event) → IsBalanced xs own → LawfulAt tells (length xs) xs (event.Place p done) → p ≡ next → done ≡ ended → IsBalanced (xs ++ event.Place p done ∷ []) own
+        at_place [] was law is ends = balanced_other [] (event.Place p done) (λ two like. absurd (omega (arith, two))) was
+        at_place (y ∷ []) was law is ends = absurd law
+        at_place (y ∷ z ∷ xs) was law is ends = balanced_own (y ∷ z ∷ xs) (event.Place p done) (subst (λ (moves : List (ℕ × ℕ)). WasAsked (y ∷ z ∷ xs) (event.Place next moves)) ends (subst (λ (k : Placement). WasAsked (y ∷ z ∷ xs) (event.Place k done)) is law.0))
+
+        by : (p ≡ next) ⊎ (p ≡ next → ⊥) → (done ≡ ended) ⊎ (done ≡ ended → ⊥) → IsBalanced (past ++ event.Place p done ∷ []) own
+        by (inr other) moves = balanced_other past (event.Place p done) (λ two like. other like.0) b
+        by (inl is) (inr other) = balanced_other past (event.Place p done) (λ two like. other like.1) b
+        by (inl is) (inl ends) = at_place past b law is ends
     push past _ law b = balanced_other past _ (λ two like. absurd like) b
 
     by_length : (k : ℕ) (past : List Event) → length past ≡ k → Legal tells past → IsBalanced past own
@@ -85,10 +99,10 @@ module _ (next : Placement) where
     pub balanced : (past : List Event) → Legal tells past → IsBalanced past own
     balanced past legal = by_length (length past) past refl legal
 
-  was_asked : (past : List Event) → IsBalanced past own → WasAsked (past ++ event.Ask (asked.Place next []) ∷ []) own
+  was_asked : (past : List Event) → IsBalanced past own → WasAsked (past ++ event.Ask (asked.Place next ended) ∷ []) own
   was_asked past b =
       let enough = b.enough in
-      let ask : Event = event.Ask (asked.Place next []) in
+      let ask : Event = event.Ask (asked.Place next ended) in
       record {
         asks = length past ∷ b.asks;
         answered = b.answered;
@@ -107,8 +121,9 @@ module _ (next : Placement) where
   -- ---- the Place behind its Ask
 
   -- where it is the next one it is lawful behind its Ask
-  pub place_lawful : (past asked_past : List Event) → ((x y : Placement) → (x ≡ y) ⊎ (x ≡ y → ⊥)) → Legal false past → IsNextPlace past next [] → asked_past ≡ past ++ event.Ask (asked.Place next []) ∷ [] → (tells : Bool) → Lawful tells asked_past own
-  place_lawful past asked_past same legal comes is tells = subst (λ es. Lawful tells es own) (sym is) (
-    was_asked past (balanced same false past legal),
-    record { last = comes.last; last_is = fold-append place_after None past (event.Ask (asked.Place next []) ∷ []) ∙ comes.last_is; step = comes.step; joined = λ k d low. absurd (omega (arith, low)) },
-  )
+  pub place_lawful : (past asked_past : List Event) → ((x y : Placement) → (x ≡ y) ⊎ (x ≡ y → ⊥)) → Legal false past → asked_past ≡ past ++ event.Ask (asked.Place next ended) ∷ [] → IsNextPlace asked_past next ended → (tells : Bool) → Lawful tells asked_past own
+  place_lawful past asked_past same legal is comes tells = (subst (λ es. WasAsked es own) (sym is) (was_asked past (balanced same false past legal)), comes)
+
+-- one that ends no move is still the next one there
+pub next_asked : (next : Placement) (past asked_past : List Event) → IsNextPlace past next [] → asked_past ≡ past ++ event.Ask (asked.Place next []) ∷ [] → IsNextPlace asked_past next []
+next_asked next past asked_past comes is = record { last = comes.last; last_is = ap last_place is ∙ fold-append place_after None past (event.Ask (asked.Place next []) ∷ []) ∙ comes.last_is; step = comes.step; joined = λ k d low. absurd (omega (arith, low)) }

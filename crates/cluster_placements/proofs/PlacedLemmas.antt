@@ -41,7 +41,7 @@ use Rattle.first_cluster.specs.Slots.{AreApart, slots_of}
 use Rattle.first_cluster.proofs.PlacedSlots.{shard_low}
 use Rattle.first_cluster.proofs.SlotLists.{slot_instance, slots_apart}
 use Rattle.cluster_placements.specs.Slots.{AreSlotsIn, left_slots, new_slots}
-use Rattle.cluster_placements.specs.Steps.{end_at, place_events}
+use Rattle.cluster_placements.specs.Steps.{end_at, place_ending}
 use Rattle.cluster_placements.proofs.FewLemmas.{few_slots}
 use Rattle.cluster_placements.proofs.OrderLemmas.{apart_again, in_before}
 
@@ -54,36 +54,36 @@ ends_quiet : (left : List Slot) → AreQuiet (flat_map end_at left)
 ends_quiet left = quiet_flat end_at (λ s. quiet_exchange s.node s.shard call.End reply.Done) left
 
 -- calls may be made by the placement that was made
-pub ready_placed : {D : Type 0} (disk : D → DiskState) (meta later : MetaState) (old mid new : Tracked D) (bag : List LateWrite) (next : Placement) (left : List Slot) → IsReady meta old bag → IsLawful next
-    → ((n s : ℕ) → IsIn (nodes_of (shard_at next s)) n → get old.members (slot_at n s) ≢ None) → Ran disk old (place_events next) mid → Ran disk mid (flat_map end_at left) new → later ≡ record meta { place = next } → IsReady later new bag
-ready_placed {D} disk meta later old mid new bag next left was lawful there placed ended is =
+pub ready_placed : {D : Type 0} (disk : D → DiskState) (meta later : MetaState) (old mid new : Tracked D) (bag : List LateWrite) (next : Placement) (done : List (ℕ × ℕ)) (left : List Slot) → IsReady meta old bag → IsLawful next
+    → ((n s : ℕ) → IsIn (nodes_of (shard_at next s)) n → get old.members (slot_at n s) ≢ None) → Ran disk old (place_ending next done) mid → Ran disk mid (flat_map end_at left) new → later ≡ record meta { place = next } → IsReady later new bag
+ready_placed {D} disk meta later old mid new bag next done left was lawful there placed ended is =
     subst (λ (m : MetaState). IsReady m new bag) (sym is) (ready_after disk (record meta { place = next }) mid new bag bag (flat_map end_at left) at_first ended (ends_quiet left) (λ one i. inl i))
   where
     at_first : IsReady (record meta { place = next }) mid bag
     at_first = record {
-      clock = ap last_clock placed.grew ∙ fold-append clock_after None old.events (place_events next) ∙ was.clock;
-      place = ap last_place placed.grew ∙ fold-append place_after None old.events (place_events next);
+      clock = ap last_clock placed.grew ∙ fold-append clock_after None old.events (place_ending next done) ∙ was.clock;
+      place = ap last_place placed.grew ∙ fold-append place_after None old.events (place_ending next done);
       lawful = lawful;
-      there = λ n s m. there_after disk old mid (place_events next) (slot_at n s) placed (there n s m);
-      late = λ one m. let sent = was.late one m in record { sent = any_after disk (IsSend one.version one.shard one.point) old mid (place_events next) placed sent.sent; there = there_after disk old mid (place_events next) (slot_at one.node one.shard) placed sent.there };
+      there = λ n s m. there_after disk old mid (place_ending next done) (slot_at n s) placed (there n s m);
+      late = λ one m. let sent = was.late one m in record { sent = any_after disk (IsSend one.version one.shard one.point) old mid (place_ending next done) placed sent.sent; there = there_after disk old mid (place_ending next done) (slot_at one.node one.shard) placed sent.there };
     }
 
 -- and they still may by each that they could go by before
-pub callable_placed : {D : Type 0} (disk : D → DiskState) (later was : MetaState) (old mid new : Tracked D) (bag : List LateWrite) (next : Placement) (left : List Slot) → IsCallable was old bag → Ran disk old (place_events next) mid → Ran disk mid (flat_map end_at left) new
+pub callable_placed : {D : Type 0} (disk : D → DiskState) (later was : MetaState) (old mid new : Tracked D) (bag : List LateWrite) (next : Placement) (done : List (ℕ × ℕ)) (left : List Slot) → IsCallable was old bag → Ran disk old (place_ending next done) mid → Ran disk mid (flat_map end_at left) new
     → IsReady later new bag → later.rules ≡ was.rules → IsCallable was new bag
-callable_placed disk later was old mid new bag next left before placed ended ready same = record {
+callable_placed disk later was old mid new bag next done left before placed ended ready same = record {
   clock = ready.clock ∙ ap (λ (rules : Rules). Some rules) same;
-  place = any_after disk (Places was.place) mid new (flat_map end_at left) ended (any_after disk (Places was.place) old mid (place_events next) placed before.place);
+  place = any_after disk (Places was.place) mid new (flat_map end_at left) ended (any_after disk (Places was.place) old mid (place_ending next done) placed before.place);
   lawful = before.lawful;
-  there = λ n s m. there_after disk mid new (flat_map end_at left) (slot_at n s) ended (there_after disk old mid (place_events next) (slot_at n s) placed (before.there n s m));
+  there = λ n s m. there_after disk mid new (flat_map end_at left) (slot_at n s) ended (there_after disk old mid (place_ending next done) (slot_at n s) placed (before.there n s m));
   late = ready.late;
 }
 
 -- so does the one that stood
-pub serves_placed : {D : Type 0} (disk : D → DiskState) (meta later : MetaState) (old mid new : Tracked D) (bag : List LateWrite) (past kept : List Placement) (next : Placement) (left : List Slot) → IsReady meta old bag → ((p : Placement) → IsIn past p → IsCallable (record meta { place = p }) old bag)
-    → Ran disk old (place_events next) mid → Ran disk mid (flat_map end_at left) new → IsReady later new bag → later ≡ record meta { place = next } → kept ≡ past ++ meta.place ∷ [] → (p : Placement) → IsIn kept p → IsCallable (record later { place = p }) new bag
-serves_placed disk meta later old mid new bag past kept next left was serves placed ended ready is all p i =
-    subst (λ (m : MetaState). IsCallable (record m { place = p }) new bag) (sym is) (callable_placed disk later (record meta { place = p }) old mid new bag next left before placed ended ready (ap (λ (m : MetaState). m.rules) is))
+pub serves_placed : {D : Type 0} (disk : D → DiskState) (meta later : MetaState) (old mid new : Tracked D) (bag : List LateWrite) (past kept : List Placement) (next : Placement) (done : List (ℕ × ℕ)) (left : List Slot) → IsReady meta old bag → ((p : Placement) → IsIn past p → IsCallable (record meta { place = p }) old bag)
+    → Ran disk old (place_ending next done) mid → Ran disk mid (flat_map end_at left) new → IsReady later new bag → later ≡ record meta { place = next } → kept ≡ past ++ meta.place ∷ [] → (p : Placement) → IsIn kept p → IsCallable (record later { place = p }) new bag
+serves_placed disk meta later old mid new bag past kept next done left was serves placed ended ready is all p i =
+    subst (λ (m : MetaState). IsCallable (record m { place = p }) new bag) (sym is) (callable_placed disk later (record meta { place = p }) old mid new bag next done left before placed ended ready (ap (λ (m : MetaState). m.rules) is))
   where
     before : IsCallable (record meta { place = p }) old bag
     before = elim (IsIn-append_cases past (meta.place ∷ []) p (subst (λ xs. IsIn xs p) all i)) as (λ _. IsCallable (record meta { place = p }) old bag) [

@@ -41,9 +41,13 @@ use Rattle.cluster_placements.specs.declared.plan.Change.{Change}
 
 -- ---- events
 
--- a placement is asked for, and made; it ends no move
+-- a placement with which these moves end is asked for, and made
+abbrev pub place_ending : Placement → List (ℕ × ℕ) → List Event
+place_ending next done = event.Ask (asked.Place next done) ∷ event.Place next done ∷ []
+
+-- it ends no move
 abbrev pub place_events : Placement → List Event
-place_events next = event.Ask (asked.Place next []) ∷ event.Place next [] ∷ []
+place_events next = place_ending next []
 
 -- the end of the tenure of the slot's replica is asked for, and done
 abbrev pub end_at : Slot → List Event

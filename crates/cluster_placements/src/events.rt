@@ -61,8 +61,8 @@ fn end_one<D: Disk>(replicas: &mut Replicas<D>, slot: Slot)
     }
 }
 
-// Ends the tenures of the replicas at the slots, which are there. Takes no memory.
-pub(crate) fn end_all<D: Disk>(replicas: &mut Replicas<D>, slots: &[Slot])
+/// Ends the tenures of the replicas at the slots, which are there, one after the other. Takes no memory.
+pub fn end_all<D: Disk>(replicas: &mut Replicas<D>, slots: &[Slot])
     requires there { (s : AtSlot) → IsIn slots.now s → finite.get replicas.old.members s ≢ None }
     requires room { HasRoom (2 * length slots.now) replicas.old.events }
     ensures { Ran D.state replicas.old (flat_map end_at slots.now) replicas.new }

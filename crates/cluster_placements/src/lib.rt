@@ -2,7 +2,7 @@
 #![tactic(auto)]
 
 pub mod change;
-mod events;
+pub mod events;
 pub mod flags;
 pub mod lending;
 pub mod plan;
@@ -10,6 +10,7 @@ pub mod slots;
 pub mod untaken;
 
 pub use change::{change_placement, make_change};
+pub use events::end_all;
 pub use flags::with_nodes;
 pub use lending::gain;
 pub use plan::{Change, plan_change};

@@ -1,6 +1,5 @@
 -- From what each line's law says to what is tracked.
 use Rattle.std.proofs.Common.{[], refl}
-use Rattle.m3_outside.specs.DiskState.{DiskState}
 use Rattle.m3_outside.specs.declared.disk.Disk.{Ghosts}
 use Rattle.cluster_core.specs.declared.event.Event.TheVariants as event
 use Rattle.cluster_core.proofs.ListLemmas.{in_at}
@@ -8,7 +7,7 @@ use Rattle.placement_tracks.specs.session_net.Runs.{slot_at}
 use Rattle.placement_tracks.specs.session_net.declared.net.Net.{Net}
 use Rattle.placement_tracks.specs.call_lines.Laws.{Kind}
 use Rattle.placement_tracks.specs.cluster_members.declared.members.Members.{Members}
-use Rattle.cluster_tracks.specs.Adds.{AnewAdds, BegunAdds, CallAdds, ServedAdds, StepsAreOfSlots}
+use Rattle.cluster_tracks.specs.Adds.{AnewAdds, CallAdds, ServedAdds, StepsAreOfSlots}
 use Rattle.cluster_tracks.proofs.OpenLemmas.{none_there}
 
 pub call_adds : {D : Type 0} {G : Ghosts D} (Line : Kind) (old : Net D G) → CallAdds Line old
@@ -16,9 +15,6 @@ call_adds Line old tells turns messages was a b new were free h = record { more 
 
 pub served_adds : (Line : Kind) → ServedAdds Line
 served_adds Line tells turns messages was events a b later were h = record { more = h.more; grew = h.grew; line = h.line; serves = h.serves tells was [] were; delivered = h.delivered was were }
-
-pub begun_adds : {D : Type 0} {G : Ghosts D} (state : D → DiskState) (old : Members D G) → BegunAdds state old
-begun_adds state old tells turns was a b new were free h = record { more = h.more; grew = h.grew; line = h.line; serves = h.serves free was [] were; delivered = h.delivered was were }
 
 pub anew_adds : (Line : Kind) → AnewAdds Line
 anew_adds Line tells untaken turns was a b more were h = record { more = more; grew = refl; line = h.line; serves = h.serves was [] were; delivered = h.delivered was were }

@@ -1,79 +1,141 @@
--- Lines that bootstrap a node.
-use Rattle.std.proofs.Common.{◌≡◌, ◌*◌, ℕ, List, length, refl, ap, sym, subst, inl, inr, arith, Bool, true, false}
-use Rattle.std.specs.Prelude.{Option, Some, None}
-use Rattle.m3_model.specs.declared.act.Act.{Act}
+-- Lines that bootstrap a node, whether moves end by them or not.
+use Rattle.std.proofs.Common.{◌≡◌, ℕ, List, [], ◌∷◌, ◌++◌, refl, sym, ap, subst, inl, inr, Bool, true}
+use Rattle.std.specs.Prelude.{◌⊎◌, Option, Some, None}
 use Rattle.m3_model.specs.declared.act.Act.TheVariants as act
 use Rattle.m3_model.specs.declared.answer.Answer.{Answer}
 use Rattle.m3_model.specs.declared.answer.Answer.TheVariants as answer
-use Rattle.m3_model.specs.declared.reason.Reason.{Reason}
-use Rattle.m3_model.specs.declared.reason.Reason.TheVariants as reason
-use Rattle.m3_model.specs.declared.turn.Turn.{Turn}
+use Rattle.m3_model.specs.declared.placement.Placement.{Placement}
 use Rattle.m3_model.specs.declared.rules.MetaState.{MetaState}
+use Rattle.m3_model.specs.declared.turn.Turn.{Turn}
 use Rattle.m3_outside.specs.Depots.{Depot}
 use Rattle.m3_outside.specs.DiskState.{DiskState, IsLawfulDisk}
 use Rattle.m3_outside.specs.declared.disk.Disk.{Ghosts}
-use Rattle.placement_tracks.specs.call_lines.Laws.{IsNotRefused}
-use Rattle.placement_tracks.specs.cluster_members.Names.{node_named}
+use Rattle.placement_plan.specs.Plans.{IsAvailable}
+use Rattle.cluster_core.specs.declared.event.Event.{Event}
+use Rattle.transcripts.specs.Record.{line_of}
+use Rattle.placement_tracks.specs.session_net.Runs.{Ran}
 use Rattle.placement_tracks.specs.cluster_members.declared.members.Members.{Members}
-use Rattle.upkeep_lines.specs.Nodes.{HasShard, IsBootstrapAnswer, IsHeldUp, IsNoShard, MayBoot}
-use Rattle.placement_tracks.specs.act_lines.Due.{BootstrapDue, IsDueNext}
-use Rattle.placement_tracks.proofs.act_lines_proofs.DueLemmas.{bootstraps_are_due}
-use Rattle.placement_tracks.specs.act_lines.Nodes.{LeavesBegun}
-use Rattle.placement_tracks.proofs.act_lines_proofs.BootTells.{available_tells, boot_damaged_tells, boot_failed_tells, boot_wanted_tells}
+use Rattle.placement_tracks.specs.first_cluster.Slots.{AreApart}
+use Rattle.placement_tracks.specs.told_runs.Lines.{delivered_on}
+use Rattle.placement_tracks.proofs.session_net_proofs.RunLemmas.{ran_nothing}
+use Rattle.placement_tracks.proofs.call_lines_proofs.ServeLemmas.{delivered_so}
+use Rattle.placement_tracks.proofs.told_runs_proofs.OrderLemmas.{in_order}
+use Rattle.join_tracks.specs.Serves.{OpensAsLeft}
+use Rattle.join_tracks.specs.told_joins.Lines.{Leaves, joined_of}
+use Rattle.join_tracks.specs.cluster_joins.Boots.{IsBooted, IsEndedBy}
+use Rattle.join_tracks.proofs.ServeLemmas.{bootstraps_serve}
+use Rattle.join_tracks.proofs.StandLemmas.{bootstraps_stand}
 use Rattle.cluster_tracks.specs.Lines.{BootstrapsAreTracked, IsLeft, MayGoOn}
-use Rattle.cluster_tracks.proofs.NodeLemmas.{IsTracked, begun_on, flag_tells, full_on, may_begin, refused_on, so, wanted_on}
-use Rattle.cluster_tracks.proofs.SharedLemmas.{have_left}
+use Rattle.cluster_tracks.specs.Numbers.{numbers_by}
+use Rattle.cluster_tracks.specs.Runs.{HaveRun, no_points}
+use Rattle.cluster_tracks.specs.Tracks.{HasTenures, StandsSo, Tracks}
+use Rattle.cluster_tracks.proofs.NodeLemmas.{may_begin}
+use Rattle.cluster_tracks.proofs.NumberLemmas.{numbers_stay}
+use Rattle.cluster_tracks.proofs.OpenLemmas.{run_opens_empty}
+use Rattle.cluster_tracks.proofs.PlacementLemmas.{low_then, tenures_over}
+use Rattle.cluster_tracks.proofs.RunLemmas.{run_goes_on}
 
-module _ {D : Type 0} {G : Ghosts D} (state : D → DiskState) (lawful : (d : D) → IsLawfulDisk (state d)) (m : Members D G) (tells : Bool) (first now : Depot D) (turns : List Turn) (calls : List ℕ) (go : MayGoOn state tells first now turns calls m) (name : List ℕ) where
-  boot_due : (asked : Option ℕ) (b : Answer) → BootstrapDue None turns m.net.state.place name asked b
-  boot_due asked b = bootstraps_are_due None turns m.net.state.place m.net.state.rules (have_left turns m go.tracks.after.stands) name asked b
+-- ---- what it leaves, whatever it is answered
 
-  free_boot : (asked : Option ℕ) (b : Answer) → MayBoot m name asked → IsNotRefused None turns (act.Bootstrap name asked) b
-  free_boot asked b may = (boot_due asked b).free may.runs.node may.runs.found (λ shard is. subst (HasShard m) is may.has_shard) (flag_tells state m tells first now turns calls go name false may.runs)
+-- replicas took steps, the slots stay, and so does the placement, or moves of it are over
+record KeepsBut {D : Type 0} {G : Ghosts D} (state : D → DiskState) (m g : Members D G) : Type 0 where
+  more : List Event
+  ran : Ran state m.net.replicas more g.net.replicas
+  slots : g.slots.items ≡ m.slots.items
+  place : (g.net.state.place ≡ m.net.state.place) ⊎ ((done : List (ℕ × ℕ)) × IsAvailable m.net.state.place done g.net.state.place)
 
-  -- the shard that isn't there is named
-  no_shard_due : (asked : Option ℕ) (unknown : List ℕ) (node : ℕ) → node_named name m.net.state.place.instances ≡ Some node → IsNoShard m asked unknown
-      → IsDueNext None turns (act.Bootstrap name asked) (answer.Unknown unknown) (Some (answer.Unknown unknown))
-  no_shard_due None unknown node found h = absurd h
-  no_shard_due (Some shard) unknown node found (high, is) =
-      let a : Act = act.Bootstrap name (Some shard) in
-      let b : Answer = answer.Unknown unknown in
-      subst (λ x. IsDueNext None turns a b (Some (answer.Unknown x))) (sym is) ((boot_due (Some shard) b).no_shard node shard found refl high)
+-- where no shard was joined the placement stays
+left_so : (place : Placement) (y : ℕ) (joined : List (ℕ × List ℕ)) (next : Placement) → Leaves place y joined next → (next ≡ place) ⊎ ((done : List (ℕ × ℕ)) × IsAvailable place done next)
+left_so place y [] next same = inl same
+left_so place y (x ∷ joined) next over = inr (_, over.0)
 
-  module _ (asked : Option ℕ) where
-    abbrev boot : Act
-    boot = act.Bootstrap name asked
+module _ {D : Type 0} {G : Ghosts D} (state : D → DiskState) (m g : Members D G) (name : List ℕ) (asked : Option ℕ) where
+  keeps_same : g ≡ m → KeepsBut state m g
+  keeps_same same = subst (KeepsBut state m) (sym same) (record { more = []; ran = ran_nothing state m.net.replicas; slots = refl; place = inl refl })
 
-    -- a replica couldn't begin
-    held_on : (b : Answer) (g : Members D G) (shard : ℕ) (why : Reason) → IsLeft tells g → IsHeldUp state m name asked shard why g → LeavesBegun state tells None turns m boot b g → IsTracked state m tells first now turns calls go boot b g
-    held_on b g shard why left h leaves = begun_on state m tells first now turns calls go lawful boot b g h.begins left (free_boot asked b h.may) leaves h.keeps.keeps.slots h.keeps.keeps.past (ap (λ (s : MetaState). s.place) h.keeps.keeps.state) h.ran
+  keeps_ended : (Adds : Placement → ℕ → Option ℕ → List Event → Type 0) → IsEndedBy state m name asked Adds g → KeepsBut state m g
+  keeps_ended Adds h = record { more = h.more; ran = h.ran; slots = h.keeps.keeps.slots; place = inl (ap (λ (s : MetaState). s.place) h.keeps.keeps.state) }
 
-    pub boot_on : (b : Answer) (g : Members D G) → IsLeft tells g → IsBootstrapAnswer state m name asked b g → IsTracked state m tells first now turns calls go boot b g
-    boot_on (answer.Available available place version) g left (none, is, version_is, h) =
-        let b : Answer = answer.Available available place version in
-        let leaves = available_tells state m tells None turns g name asked available place version (so state m tells first now turns calls go).stands (may_begin state m tells first now turns calls go lawful) (none, is, version_is, h) in
-        begun_on state m tells first now turns calls go lawful boot b g h.begins left (free_boot asked b h.may) leaves h.keeps.keeps.slots h.keeps.keeps.past (ap (λ (s : MetaState). s.place) h.keeps.keeps.state) h.ran
-    boot_on (answer.Unknown unknown) g left (inl (none, is), same) =
-        let b : Answer = answer.Unknown unknown in
-        refused_on state m tells first now turns calls go boot b g same (subst (λ x. IsDueNext None turns boot b (Some (answer.Unknown x))) (sym is) ((boot_due asked b).unknown none))
-    boot_on (answer.Unknown unknown) g left (inr (node, found, away), same) = refused_on state m tells first now turns calls go boot (answer.Unknown unknown) g same (no_shard_due asked unknown node found away)
-    boot_on (answer.State node) g left (n, has, is, same) =
-        let b : Answer = answer.State node in
-        let due = (boot_due asked b).state n.node n.found (λ shard is. subst (HasShard m) is has) (flag_tells state m tells first now turns calls go name true n) in
-        refused_on state m tells first now turns calls go boot b g same (subst (λ x. IsDueNext None turns boot b (Some (answer.State x))) (sym is) due)
-    boot_on (answer.Disk node shard) g left (is, h) =
-        let b : Answer = answer.Disk node shard in
-        held_on b g shard reason.Disk left h (boot_failed_tells state m tells None turns g name node asked shard (so state m tells first now turns calls go).stands (may_begin state m tells first now turns calls go lawful) (is, h))
-    boot_on (answer.Corrupt node shard damage) g left (is, h) =
-        let b : Answer = answer.Corrupt node shard damage in
-        held_on b g shard (reason.Corrupt damage) left h (boot_damaged_tells state m tells None turns g name node asked shard damage (so state m tells first now turns calls go).stands (may_begin state m tells first now turns calls go lawful) (is, h))
-    boot_on answer.Memory g left (inl same) = wanted_on state m tells first now turns calls go boot g same
-    boot_on answer.Memory g left (inr (shard, h)) =
-        held_on answer.Memory g shard reason.Memory left h (boot_wanted_tells state m tells None turns g name asked (so state m tells first now turns calls go).stands (may_begin state m tells first now turns calls go lawful) (inr (shard, h)))
-    boot_on answer.Full g left (may, lacks) =
-        let few = (so state m tells first now turns calls go).stands.ready.lawful.limits.few_shards in
-        full_on state m tells first now turns calls go boot g lacks.same (2 * length m.net.state.place.shards) (omega (arith, few)) lacks.room
-    boot_on _ g left h = absurd h
+  keeps_so : (b : Answer) → IsBooted state m name asked b g → KeepsBut state m g
+  keeps_so (answer.Available available next version) (is, h) =
+      let stands : g.net.state.place ≡ next = ap (λ (s : MetaState). s.place) h.state_is in
+      record {
+        more = h.more;
+        ran = h.ran;
+        slots = h.slots;
+        place = subst (λ (p : Placement). (p ≡ m.net.state.place) ⊎ ((done : List (ℕ × ℕ)) × IsAvailable m.net.state.place done p)) (sym stands) (left_so m.net.state.place h.may.runs.node (joined_of h.opened) next h.adds.leaves);
+      }
+  keeps_so (answer.Peers got needed reasons shard) (peers, is, h) = keeps_ended _ h
+  keeps_so (answer.Disk node shard) (is, h) = keeps_ended _ h
+  keeps_so (answer.Corrupt node shard damage) (is, shown, h) = keeps_ended _ h
+  keeps_so answer.Memory (inl same) = keeps_same same
+  keeps_so answer.Memory (inr (inl (shard, h))) = keeps_ended _ h
+  keeps_so answer.Memory (inr (inr h)) = keeps_ended _ h
+  keeps_so answer.Full (lacks, h) = keeps_ended _ h
+  keeps_so (answer.Limit limit) (is, h) = keeps_ended _ h
+  keeps_so (answer.Unknown unknown) (which, same) = keeps_same same
+  keeps_so (answer.State node) (was, has, is, same) = keeps_same same
+  keeps_so _ h = absurd h
+
+-- each replica of the placement that stands then has its shard since some version
+tenures_kept : (place next : Placement) → (next ≡ place) ⊎ ((done : List (ℕ × ℕ)) × IsAvailable place done next) → HasTenures place → HasTenures next
+tenures_kept place next (inl same) was = subst HasTenures (sym same) was
+tenures_kept place next (inr (done, over)) was = tenures_over place next done over was
+
+-- ---- the line
+
+module _ {D : Type 0} {G : Ghosts D} (state : D → DiskState) (lawful : (d : D) → IsLawfulDisk (state d)) (m : Members D G) (tells : Bool) (first now : Depot D) (turns : List Turn) (calls : List ℕ) (go : MayGoOn state tells first now turns calls m)
+    (name : List ℕ) (asked : Option ℕ) (b : Answer) (g : Members D G) (left : IsLeft tells g) (did : IsBooted state m name asked b g) where
+  abbrev longer : List Turn
+  longer = turns ++ line_of (act.Bootstrap name asked) b ∷ []
+
+  abbrev t : Tracks state tells first now turns (Some m) calls
+  t = go.tracks
+
+  abbrev so : StandsSo state tells now turns m
+  so = go.tracks.after
+
+  keeps : KeepsBut state m g
+  keeps = keeps_so state m g name asked b did
+
+  run : HaveRun state tells now g.net.replicas
+  run = run_goes_on state m.net.replicas tells now g.net.replicas keeps.more so.run keeps.ran keeps.ran.only
+
+  tenures : HasTenures g.net.state.place
+  tenures = tenures_kept m.net.state.place g.net.state.place keeps.place so.tenures
+
+  -- where the disks tell, replicas of a first run begin with no points
+  opens : tells ≡ true → OpensAsLeft [] None g.net.replicas.events
+  opens e = record {
+    opening = no_points;
+    agrees = run_opens_empty state g.net.replicas now (t.tell e) (subst (λ (x : Bool). HaveRun state x now g.net.replicas) e run);
+    stands = record { acked = λ turn turns_of nodes i. absurd turns_of; sent = λ n s point i. absurd i };
+  }
+
+  tracked : Tracks state tells first now longer (Some g) (numbers_by (act.Bootstrap name asked) b calls)
+  tracked =
+      let served = bootstraps_serve state m tells [] None turns None None t.taking t.delivered name asked b g t.served t.were so.stands (may_begin state m tells first now turns calls go lawful) left.legal opens did in
+      let stands = bootstraps_stand state m None turns name asked b g so.stands left.ready did in
+      let order = in_order t.taking None longer g.net.replicas.events left.legal served.0 (served.1.answers).each served.1.order in
+      record {
+        tell = t.tell;
+        legal = left.legal;
+        taking = t.taking;
+        delivered = delivered_on turns t.delivered (λ p. []);
+        served = served;
+        were = delivered_so turns (act.Bootstrap name asked) b [] (λ x i. absurd i) t.delivered t.were;
+        numbered = numbers_stay turns calls (act.Bootstrap name asked) b t.numbered;
+        untaken = t.untaken;
+        later = t.later;
+        after = record {
+          stands = stands;
+          run = run;
+          apart = subst AreApart (sym keeps.slots) so.apart;
+          low = low_then state tells now longer g left.legal served.0 order run stands.ready.place tenures;
+          tenures = tenures;
+          bare = so.bare;
+        };
+      }
 
 pub bootstraps_are_tracked : {D : Type 0} {G : Ghosts D} (state : D → DiskState) → ((d : D) → IsLawfulDisk (state d)) → (m : Members D G) → BootstrapsAreTracked state m
-bootstraps_are_tracked state lawful m name asked tells first now turns calls b g go left did = boot_on state lawful m tells first now turns calls go name asked b g left did
+bootstraps_are_tracked state lawful m name asked tells first now turns calls b g go left did = tracked state lawful m tells first now turns calls go name asked b g left did

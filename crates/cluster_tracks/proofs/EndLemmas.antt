@@ -21,6 +21,7 @@ use Rattle.cluster_core.specs.declared.event.Event.{Event}
 use Rattle.cluster_core.specs.declared.event.Event.TheVariants as event
 use Rattle.cluster_core.specs.declared.event.StepCall.{StepCall}
 use Rattle.cluster_core.specs.declared.event.StepReply.TheVariants as reply
+use Rattle.placement_tracks.proofs.told_by_proofs.JoinedLemmas.{told_joined}
 use Rattle.placement_tracks.proofs.told_by_proofs.KeptLemmas.{told_kept}
 use Rattle.placement_tracks.specs.told_causes.Faults.{fault_of, faults_told, tells_of}
 use Rattle.placement_tracks.proofs.told_causes_proofs.FaultLemmas.{count_append, faults_steps}
@@ -36,7 +37,7 @@ use Rattle.placement_tracks.specs.replica_calls.Slots.{MemberMap}
 use Rattle.placement_tracks.specs.session_net.Runs.{Step, slot_at, step_in, steps_of}
 use Rattle.placement_tracks.specs.cluster_members.declared.members.Members.{Members}
 use Rattle.placement_tracks.specs.first_cluster.Depots.{count_at, disk_slot_of, risen}
-use Rattle.cluster_tracks.specs.Ends.{AreGivenBack, CausedWhereTracked, KeptWhereTracked, ShownWhereTracked, is_failed_at, is_fault}
+use Rattle.cluster_tracks.specs.Ends.{AreGivenBack, CausedWhereTracked, JoinedWhereTracked, KeptWhereTracked, ShownWhereTracked, is_failed_at, is_fault}
 use Rattle.cluster_tracks.specs.Failures.{failures_in}
 use Rattle.cluster_tracks.specs.Runs.{HasNoDamage, RoseByFailures, no_points}
 use Rattle.cluster_tracks.proofs.DamageLemmas.{run_finds_no_damage}
@@ -79,6 +80,11 @@ module _ {D : Type 0} {G : Ghosts D} (state : D → DiskState) where
   pub caused_where_tracked : (members : Option (Members D G)) → CausedWhereTracked state members
   caused_where_tracked members tells first now turns more calls unanswered t =
       caused_front tells turns more unanswered (faults_of t) (told_caused (life_of [] None (turns ++ more) None) (events_of members) t.legal t.served.0 t.taking t.delivered t.served.1)
+
+  -- ---- joined
+
+  pub joined_where_tracked : (members : Option (Members D G)) → JoinedWhereTracked state members
+  joined_where_tracked members tells first now turns calls unanswered t = told_joined {tells = tells} (life_of [] None turns unanswered) (events_of members) t.legal t.served.0
 
 -- ---- counts of faults
 

@@ -1,4 +1,4 @@
--- What lines that stop, restart or bootstrap a node share: where nothing changed, and where replicas took steps.
+-- What lines that stop or restart a node share: where nothing changed, and where replicas took steps.
 use Rattle.std.proofs.Common.{◌≡◌, ◌≤◌, ◌+◌, ◌*◌, ℕ, List, [], ◌∷◌, ◌++◌, length, sym, subst, ◌∙◌, Bool}
 use Rattle.std.specs.Prelude.{Some, None}
 use Rattle.std.proofs.lemmas.List.{append_cancel_left}
@@ -27,14 +27,14 @@ use Rattle.placement_tracks.specs.act_lines.Settings.{LeavesNothing}
 use Rattle.placement_tracks.proofs.act_lines_proofs.NothingLemmas.{no_room_tells, refused_tells}
 use Rattle.placement_tracks.specs.act_lines.Stays.{HaveNoPlace}
 use Rattle.placement_tracks.specs.act_lines.Keeps.{BeginsGiven}
-use Rattle.placement_tracks.specs.act_lines.Nodes.{LeavesBegun, LeavesStanding}
+use Rattle.placement_tracks.specs.act_lines.Nodes.{LeavesStanding}
 use Rattle.placement_tracks.specs.act_lines.Opens.{MayOpenSlots}
 use Rattle.placement_tracks.proofs.act_lines_proofs.OpenLemmas.{begins_still}
 use Rattle.placement_tracks.proofs.act_lines_proofs.NodeStands.{stopped_so}
 use Rattle.cluster_tracks.specs.Numbers.{numbers_by}
 use Rattle.cluster_tracks.specs.Steps.{AddsLine, StandsOn}
 use Rattle.cluster_tracks.specs.Tracks.{StandsSo, Tracks}
-use Rattle.cluster_tracks.proofs.AddLemmas.{begun_adds, call_adds}
+use Rattle.cluster_tracks.proofs.AddLemmas.{call_adds}
 use Rattle.cluster_tracks.proofs.QuietLemmas.{quiet_turns_make_none, two_events}
 use Rattle.cluster_tracks.proofs.StepLemmas.{plain_on}
 use Rattle.cluster_tracks.specs.Lines.{IsLeft, MayGoOn}
@@ -102,16 +102,3 @@ module _ {D : Type 0} {G : Ghosts D} (state : D → DiskState) (m : Members D G)
           stands = h.stands;
           low = (begins_still state m tells None g.net.replicas more so.stands.ready may_begin ran (subst HaveNoPlace same none.0) (subst (BeginsGiven events) same none.1)).low;
         })
-
-    -- a node's replicas began
-    pub begun_on : (a : Act) (b : Answer) (g : Members D G) (more : List Event) → IsLeft tells g → IsNotRefused None turns a b → LeavesBegun state tells None turns m a b g → g.slots.items ≡ m.slots.items → g.past.items ≡ m.past.items → g.net.state.place ≡ m.net.state.place → Ran state m.net.replicas more g.net.replicas → IsTracked a b g
-    begun_on a b g more left free h slots past place ran = goes_on a b g left (begun_adds state m tells turns go.tracks.delivered a b g go.tracks.were free h) (record {
-      more = more;
-      ran = ran;
-      others = ran.only;
-      slots = slots;
-      past = past;
-      place = place;
-      stands = h.stands;
-      low = h.begins.low;
-    })

@@ -1,6 +1,6 @@
 -- Lines that make a placement: what their replicas did, with what slots begin, and that they are tracked.
-use Rattle.std.proofs.Common.{◌≡◌, ◌≤◌, ◌+◌, ℕ, List, [], ◌∷◌, ◌++◌, length, length-append, take, refl, sym, ap, subst, ◌∙◌, inl, inr, arith, Bool, true}
-use Rattle.std.specs.Prelude.{Option, Some, None}
+use Rattle.std.proofs.Common.{◌≡◌, ◌≤◌, ◌+◌, ℕ, suc, List, [], ◌∷◌, ◌++◌, length, length-append, take, refl, sym, ap, subst, ◌∙◌, inl, inr, arith, Bool, true}
+use Rattle.std.specs.Prelude.{Option, Some, None, MatchOption}
 use Rattle.std.specs.FinMap as finite
 use Rattle.std.proofs.lemmas.Option.{same_Some}
 use Rattle.m3_model.specs.Members.{IsIn}
@@ -19,9 +19,12 @@ use Rattle.m3_outside.specs.declared.disk.Disk.{Ghosts}
 use Rattle.m3_outside.specs.declared.slot.DiskSlot.{DiskSlot}
 use Rattle.placement_tracks.specs.placement_acts.Acts.{is_step_act}
 use Rattle.placement_core.proofs.ListLemmas.{IsIn-from_Any}
-use Rattle.placement_core.specs.Steps.{IsStep}
+use Rattle.placement_core.specs.Shards.{Shard}
+use Rattle.placement_core.specs.Steps.{Ends, IsShardStep, IsStep, done_at}
+use Rattle.placement_plan.specs.Plans.{IsAvailable}
 use Rattle.cluster_core.specs.Earlier.{last_place}
 use Rattle.cluster_core.specs.Legal.{Legal}
+use Rattle.cluster_core.specs.Lists.{At}
 use Rattle.cluster_core.specs.Replicas.{replica}
 use Rattle.cluster_core.specs.declared.event.Event.{Event}
 use Rattle.cluster_core.proofs.ListLemmas.{at_in, at_some, at_within, in_at}
@@ -140,16 +143,29 @@ module _ {D : Type 0} {G : Ghosts D} (state : D → DiskState) (tells : Bool) (o
 
 -- ---- tenures
 
-tenures_then : (place next : Placement) → IsStep place next [] → HasTenures place → HasTenures next
-tenures_then place next step was shard i a among =
+-- a step keeps them, whether moves begin or end by it
+tenures_by : (place next : Placement) (done : List (ℕ × ℕ)) → next.version ≡ suc place.version → length next.shards ≡ length place.shards → ((s : ℕ) (a b : Shard) → At place.shards s a → At next.shards s b → IsShardStep next.version a b (done_at s done))
+    → HasTenures place → HasTenures next
+tenures_by place next done version count each was shard i a among =
     let at = in_at next.shards shard i in
     let low = at_within next.shards at.0 shard at.1 in
-    let same = step.count in
-    let old = at_some place.shards at.0 (omega (arith, low, same)) in
-    elim (step_had next.version old.0 shard None a (step.each at.0 old.0 shard old.1 at.1) among) as (λ _. 1 ≤ a.tenure) [
+    let old = at_some place.shards at.0 (omega (arith, low, count)) in
+    elim (step_had next.version old.0 shard (done_at at.0 done) a (each at.0 old.0 shard old.1 at.1) among) as (λ _. 1 ≤ a.tenure) [
       | inl had ↦ (let least = was old.0 (at_in place.shards at.0 old.0 old.1) had.assigned had.among in let tenure = had.tenure_is in omega (arith, least, tenure))
-      | inr new ↦ (let tenure = new.tenure_is in let version = step.version in omega (arith, tenure, version))
+      | inr new ↦ (let tenure = new.tenure_is in omega (arith, tenure, version))
     ]
+
+tenures_then : (place next : Placement) → IsStep place next [] → HasTenures place → HasTenures next
+tenures_then place next step = tenures_by place next [] step.version step.count step.each
+
+-- a move that ends is a step of its shard
+ends_step : (version : ℕ) (a b : Shard) (o : Option ℕ) → MatchOption o (b ≡ a) (λ to. Ends a b to) → IsShardStep version a b o
+ends_step version a b None same = inl same
+ends_step version a b (Some to) ends = ends
+
+pub tenures_over : (place next : Placement) (done : List (ℕ × ℕ)) → IsAvailable place done next → HasTenures place → HasTenures next
+tenures_over place next done over =
+    tenures_by place next done over.follows.version over.follows.shards.count (λ s a b was is. ends_step next.version a b (done_at s done) (over.follows.shards.each s a b was is))
 
 -- ---- with what slots begin
 

@@ -28,7 +28,7 @@ use Rattle.placement_tracks.specs.cluster_members.Steps.{IsMoved, IsSpaceAdded}
 use Rattle.placement_tracks.specs.cluster_members.declared.calls.Range.{Range}
 use Rattle.placement_tracks.specs.cluster_members.declared.members.Members.{Members}
 use Rattle.upkeep_lines.specs.Halts.{HaveSameSlots}
-use Rattle.upkeep_lines.specs.Nodes.{IsBootstrapAnswer, IsDeliverAnswer, IsFated, IsRestarted, IsStopped}
+use Rattle.upkeep_lines.specs.Nodes.{IsDeliverAnswer, IsFated, IsRestarted, IsStopped}
 use Rattle.upkeep_lines.proofs.RunLemmas.{same_itself, same_slots}
 use Rattle.cluster_upkeep.specs.Upkeep.{IsSwept, IsTold}
 use Rattle.cluster_tracks.specs.Acts.{MayCall}
@@ -157,17 +157,6 @@ module _ {D : Type 0} {G : Ghosts D} (state : D → DiskState) (m g : Members D 
   restarted_so name answer.Full h = all_stays h.1.same
   restarted_so name _ h = absurd h
 
-  bootstrapped_so : (name : List ℕ) (asked : Option ℕ) (b : Answer) → IsBootstrapAnswer state m name asked b g → KeepsSlots m g
-  bootstrapped_so name asked (answer.Available available position version) h = steps_so h.3.begins h.3.keeps.keeps.slots h.3.keeps.keeps.past (place_by h.3.keeps.keeps.state) h.3.ran
-  bootstrapped_so name asked (answer.Unknown unknown) h = all_stays h.1
-  bootstrapped_so name asked (answer.State node) h = all_stays h.3
-  bootstrapped_so name asked (answer.Disk node shard) h = steps_so h.1.begins h.1.keeps.keeps.slots h.1.keeps.keeps.past (place_by h.1.keeps.keeps.state) h.1.ran
-  bootstrapped_so name asked (answer.Corrupt node shard damage) h = steps_so h.1.begins h.1.keeps.keeps.slots h.1.keeps.keeps.past (place_by h.1.keeps.keeps.state) h.1.ran
-  bootstrapped_so name asked answer.Memory (inl same) = all_stays same
-  bootstrapped_so name asked answer.Memory (inr h) = steps_so h.1.begins h.1.keeps.keeps.slots h.1.keeps.keeps.past (place_by h.1.keeps.keeps.state) h.1.ran
-  bootstrapped_so name asked answer.Full h = all_stays h.1.same
-  bootstrapped_so name asked _ h = absurd h
-
   -- ---- upkeep
 
   swept_so : (c : StepCall) (b : Answer) → IsSwept state c m b g → KeepsSlots m g
@@ -182,20 +171,20 @@ module _ {D : Type 0} {G : Ghosts D} (state : D → DiskState) (m g : Members D 
   told_so answer.Full h = all_stays h.same
   told_so _ h = absurd h
 
--- each act but `init` leaves the slots, and which of them have replicas
+-- each act but `init` and a bootstrap leaves the slots, and which of them have replicas
 pub acts_keep_slots : {D : Type 0} {G : Ghosts D} (state : D → DiskState) (m : Members D G) → ActsKeepSlots state m
-acts_keep_slots state m id (act.Namespace name block past future retention) b g h = named_so state m g (record { name = name; block = block; past = past; future = future; retention = retention }) b h
-acts_keep_slots state m id (act.Now now) b g h = moved_so state m g now b h
-acts_keep_slots state m id (act.Write ns name t v level version) b g h = called_so state m g id.number _ b (written_so state m g id (record { ns = ns; id = name; t = t; v = v }) level version b) h
-acts_keep_slots state m id (act.Fetch ns name from to level version) b g h = called_so state m g id.number _ b (fetched_so state m g id ns (λ k. pick.One k name) (record { from = from; to = to }) level version b) h
-acts_keep_slots state m id (act.Match ns wanted from to level version) b g h = called_so state m g id.number _ b (fetched_so state m g id ns (λ k. pick.Match k wanted) (record { from = from; to = to }) level version b) h
-acts_keep_slots state m id (act.Fates list) b g h = fated_so state m g list b h
-acts_keep_slots state m id act.Deliver b g h = delivered_so state m g b h
-acts_keep_slots state m id (act.Stop node) b g h = stopped_so state m g node b h
-acts_keep_slots state m id (act.Restart node by) b g h = restarted_so state m g node b h
-acts_keep_slots state m id (act.Bootstrap node asked) b g h = bootstrapped_so state m g node asked b h
-acts_keep_slots state m id act.Tick b g h = swept_so state m g (call.Tick m.net.state.rules) b h
-acts_keep_slots state m id act.Flush b g h = swept_so state m g (call.Flush m.net.state.rules) b h
-acts_keep_slots state m id act.Snapshot b g h = swept_so state m g call.Snapshot b h
-acts_keep_slots state m id act.Status b g h = told_so state m g b h
-acts_keep_slots state m id _ b g h = absurd h
+acts_keep_slots state m id (act.Namespace name block past future retention) b g other h = named_so state m g (record { name = name; block = block; past = past; future = future; retention = retention }) b h
+acts_keep_slots state m id (act.Now now) b g other h = moved_so state m g now b h
+acts_keep_slots state m id (act.Write ns name t v level version) b g other h = called_so state m g id.number _ b (written_so state m g id (record { ns = ns; id = name; t = t; v = v }) level version b) h
+acts_keep_slots state m id (act.Fetch ns name from to level version) b g other h = called_so state m g id.number _ b (fetched_so state m g id ns (λ k. pick.One k name) (record { from = from; to = to }) level version b) h
+acts_keep_slots state m id (act.Match ns wanted from to level version) b g other h = called_so state m g id.number _ b (fetched_so state m g id ns (λ k. pick.Match k wanted) (record { from = from; to = to }) level version b) h
+acts_keep_slots state m id (act.Fates list) b g other h = fated_so state m g list b h
+acts_keep_slots state m id act.Deliver b g other h = delivered_so state m g b h
+acts_keep_slots state m id (act.Stop node) b g other h = stopped_so state m g node b h
+acts_keep_slots state m id (act.Restart node by) b g other h = restarted_so state m g node b h
+acts_keep_slots state m id (act.Bootstrap node asked) b g other h = cc
+acts_keep_slots state m id act.Tick b g other h = swept_so state m g (call.Tick m.net.state.rules) b h
+acts_keep_slots state m id act.Flush b g other h = swept_so state m g (call.Flush m.net.state.rules) b h
+acts_keep_slots state m id act.Snapshot b g other h = swept_so state m g call.Snapshot b h
+acts_keep_slots state m id act.Status b g other h = told_so state m g b h
+acts_keep_slots state m id _ b g other h = absurd h

@@ -13,7 +13,8 @@ use Rattle.placement_tracks.specs.replica_exchange.declared.call_id.CallId.{Call
 use Rattle.placement_tracks.specs.cluster_members.Calls.{IsFetchAnswer, IsWritten}
 use Rattle.placement_tracks.specs.cluster_members.Steps.{IsMoved, IsSpaceAdded}
 use Rattle.placement_tracks.specs.cluster_members.declared.members.Members.{Members}
-use Rattle.upkeep_lines.specs.Nodes.{IsBootstrapAnswer, IsDeliverAnswer, IsFated, IsRestarted, IsStopped}
+use Rattle.upkeep_lines.specs.Nodes.{IsDeliverAnswer, IsFated, IsRestarted, IsStopped}
+use Rattle.join_tracks.specs.cluster_joins.Boots.{IsBooted}
 use Rattle.cluster_upkeep.specs.Upkeep.{IsSwept, IsTold}
 use Rattle.placement_tracks.specs.first_cluster.First.{IsFirst, IsRefusedInit}
 use Rattle.placement_tracks.specs.cluster_placements.Steps.{IsChanged, kept_in}
@@ -45,7 +46,7 @@ Does state id m (act.Fates list) answered g = IsFated m list answered g
 Does state id m act.Deliver answered g = IsDeliverAnswer state m answered g
 Does state id m (act.Stop node) answered g = IsStopped state m node answered g
 Does state id m (act.Restart node pick) answered g = IsRestarted state m node answered g
-Does state id m (act.Bootstrap node shard) answered g = IsBootstrapAnswer state m node shard answered g
+Does state id m (act.Bootstrap node shard) answered g = IsBooted state m node shard answered g
 Does state id m act.Tick answered g = IsSwept state (call.Tick m.net.state.rules) m answered g
 Does state id m act.Flush answered g = IsSwept state (call.Flush m.net.state.rules) m answered g
 Does state id m act.Snapshot answered g = IsSwept state call.Snapshot m answered g

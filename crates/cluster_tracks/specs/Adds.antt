@@ -4,7 +4,6 @@ use Rattle.m3_model.specs.Members.{IsIn}
 use Rattle.m3_model.specs.declared.act.Act.{Act}
 use Rattle.m3_model.specs.declared.answer.Answer.{Answer}
 use Rattle.m3_model.specs.declared.turn.Turn.{Turn}
-use Rattle.m3_outside.specs.DiskState.{DiskState}
 use Rattle.m3_outside.specs.declared.disk.Disk.{Ghosts}
 use Rattle.cluster_core.specs.declared.event.Event.{Event}
 use Rattle.cluster_core.specs.declared.event.Event.TheVariants as event
@@ -12,14 +11,12 @@ use Rattle.cluster_core.specs.declared.event.StepCall.{StepCall}
 use Rattle.cluster_core.specs.declared.event.StepReply.{StepReply}
 use Rattle.placement_tracks.specs.session_net.Runs.{slot_at}
 use Rattle.placement_tracks.specs.session_net.declared.net.Net.{Net}
-use Rattle.placement_tracks.specs.told_by.Lines.{PlainLine}
 use Rattle.transcripts.specs.Deliveries.{LateMessage}
 use Rattle.transcripts.specs.Faults.{Fault}
 use Rattle.transcripts.specs.Record.{TurnPosition}
 use Rattle.placement_tracks.specs.call_lines.Laws.{IsNotRefused, Kind, LeavesLine, LeavesServed}
 use Rattle.placement_tracks.specs.call_lines.Left.{WereDelivered}
 use Rattle.placement_tracks.specs.cluster_members.declared.members.Members.{Members}
-use Rattle.placement_tracks.specs.act_lines.Nodes.{LeavesBegun}
 use Rattle.placement_tracks.specs.act_lines.Stands.{HasSlots}
 use Rattle.placement_tracks.specs.act_lines.Inits.{LeavesAnew}
 use Rattle.cluster_tracks.specs.Failures.{OnlyReplicasStep}
@@ -36,12 +33,6 @@ abbrev pub ServedAdds : Kind → Type 0
 ServedAdds Line =
     (tells : Bool) (turns : List Turn) (messages : List LateMessage) (was : TurnPosition → List LateMessage) (events : List Event) (a : Act) (b : Answer) (later : List Event) → WereDelivered turns was → LeavesServed Line None turns messages events a b later
     → AddsLine Line tells [] messages was turns events a b later
-
--- of a line that begins replicas
-abbrev pub BegunAdds : {D : Type 0} {G : Ghosts D} → (D → DiskState) → Members D G → Type 0
-BegunAdds {D} {G} state old =
-    (tells : Bool) (turns : List Turn) (was : TurnPosition → List LateMessage) (a : Act) (b : Answer) (new : Members D G) → WereDelivered turns was → IsNotRefused None turns a b → LeavesBegun state tells None turns old a b new
-    → AddsLine PlainLine tells [] [] was turns old.net.replicas.events a b new.net.replicas.events
 
 -- of an `init` where no list was
 abbrev pub AnewAdds : Kind → Type 0

@@ -1,4 +1,4 @@
--- What a run that is tracked promises at its end: its reads kept what they had to, its answers have their causes, and the counts of the disks show all faults.
+-- What a run that is tracked promises at its end: its reads kept what they had to, its answers have their causes, whoever turned available was joined, and the counts of the disks show all faults.
 use Rattle.std.specs.Prelude.{◌≡◌, ◌≤◌, ◌<◌, ℕ, ◌+◌, List, [], ◌++◌, length, Option, Some, None, Bool, true, ◌&&◌, ◌||◌, nat_eq, count_by}
 use Rattle.std.specs.FinMap as finite
 use Rattle.m3_model.specs.Members.{IsIn}
@@ -12,6 +12,7 @@ use Rattle.m3_outside.specs.declared.slot.DiskSlot.{DiskSlot}
 use Rattle.placement_tracks.specs.told_runs.Lines.{life_of}
 use Rattle.transcripts.specs.Caused.{Caused}
 use Rattle.transcripts.specs.Faults.{Fault, Damaged, is_failing, is_taking}
+use Rattle.transcripts.specs.Joined.{Joined}
 use Rattle.transcripts.specs.Kept.{Kept}
 use Rattle.placement_tracks.specs.replica_exchange.declared.member.Member.{Member}
 use Rattle.placement_tracks.specs.replica_exchange.declared.slot.Slot.{Slot}
@@ -60,7 +61,12 @@ CausedWhereTracked {D} {G} state members =
     (tells : Bool) (first now : Depot D) (turns more : List Turn) (calls : List ℕ) (unanswered : Option Request) → (t : Tracks state tells first now (turns ++ more) members calls)
     → Caused tells (life_of [] None turns unanswered) (faults_of t)
 
--- And these are shown by the counts, once the disks are given back.
+-- Each node that turned available was joined by a bootstrap that prints a majority of the former replicas, whatever the disks tell.
+abbrev pub JoinedWhereTracked : {D : Type 0} {G : Ghosts D} → (D → DiskState) → Option (Members D G) → Type 0
+JoinedWhereTracked {D} {G} state members =
+    (tells : Bool) (first now : Depot D) (turns : List Turn) (calls : List ℕ) (unanswered : Option Request) → Tracks state tells first now turns members calls → Joined (life_of [] None turns unanswered)
+
+-- And the faults are shown by the counts, once the disks are given back.
 abbrev pub ShownWhereTracked : {D : Type 0} {G : Ghosts D} → (D → DiskState) → Option (Members D G) → Type 0
 ShownWhereTracked {D} {G} state members =
     (tells : Bool) (first now : Depot D) (turns : List Turn) (calls : List ℕ) (all : ℕ) (of_disk : DiskSlot → ℕ) → (t : Tracks state tells first now turns members calls)

@@ -11,6 +11,9 @@ pub mod Slots
 pub mod Lines
 pub use Rattle.cluster_core.specs as cluster_core
 pub use Rattle.cluster_upkeep.specs as cluster_upkeep
+pub use Rattle.join_tracks.specs.cluster_joins as cluster_joins
+pub use Rattle.join_tracks.specs.peer_streams as peer_streams
+pub use Rattle.join_tracks.specs.told_joins as told_joins
 pub use Rattle.placement_core.specs as placement_core
 pub use Rattle.placement_tracks.specs.act_lines as act_lines
 pub use Rattle.placement_tracks.specs.cluster_members as cluster_members

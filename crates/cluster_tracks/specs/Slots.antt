@@ -1,7 +1,8 @@
--- What an act leaves of the slots of a cluster that stands.
-use Rattle.std.specs.Prelude.{◌≡◌, List, [], ◌++◌, None}
+-- What an act that makes no placement leaves of the slots of a cluster that stands.
+use Rattle.std.specs.Prelude.{◌≡◌, List, [], ◌++◌, None, Bool, true, false}
 use Rattle.std.specs.FinMap as finite
 use Rattle.m3_model.specs.declared.act.Act.{Act}
+use Rattle.m3_model.specs.declared.act.Act.TheVariants as act
 use Rattle.m3_model.specs.declared.answer.Answer.{Answer}
 use Rattle.m3_outside.specs.DiskState.{DiskState}
 use Rattle.m3_outside.specs.declared.disk.Disk.{Ghosts}
@@ -13,6 +14,11 @@ use Rattle.placement_tracks.specs.cluster_members.declared.members.Members.{Memb
 use Rattle.upkeep_lines.specs.Halts.{HaveSameSlots}
 use Rattle.cluster_tracks.specs.Acts.{Does}
 
+-- the act bootstraps a node, which may end moves
+abbrev pub is_bootstrap : Act → Bool
+is_bootstrap (act.Bootstrap node shard) = true
+is_bootstrap _ = false
+
 -- the slots stay, the same ones have replicas, events only came, of which slots without a replica have no step, and the same placements are kept
 pub record KeepsSlots {D : Type 0} {G : Ghosts D} (old new : Members D G) : Type 0 where
   pub slots : new.slots.items ≡ old.slots.items
@@ -22,6 +28,6 @@ pub record KeepsSlots {D : Type 0} {G : Ghosts D} (old new : Members D G) : Type
   pub only : (s : Slot) → finite.get old.net.replicas.members s ≡ None → steps_of s came.0 ≡ []
   pub same : HaveSameSlots old.net.replicas new.net.replicas
 
--- So it is after each act other than `init`, whatever it is answered.
+-- So it is after each act other than these and `init`, whatever it is answered.
 abbrev pub ActsKeepSlots : {D : Type 0} {G : Ghosts D} → (D → DiskState) → Members D G → Type 0
-ActsKeepSlots {D} {G} state old = (id : CallId) (a : Act) (b : Answer) (new : Members D G) → Does state id old a b new → KeepsSlots old new
+ActsKeepSlots {D} {G} state old = (id : CallId) (a : Act) (b : Answer) (new : Members D G) → is_bootstrap a ≡ false → Does state id old a b new → KeepsSlots old new

@@ -1,7 +1,7 @@
 //! The turns of a run tracked by its list of events.
 ghost use Rattle.placement_tracks.specs.told_by.Lines.{ClockLine, InitLine, PlainLine, ReadLine, WriteLine};
-ghost use Rattle.cluster_tracks.specs.Adds.{AnewAdds, BegunAdds, CallAdds, ServedAdds, StepsAreOfSlots};
-ghost use Rattle.cluster_tracks.specs.Ends.{CausedWhereTracked, KeptWhereTracked, ShownWhereTracked};
+ghost use Rattle.cluster_tracks.specs.Adds.{AnewAdds, CallAdds, ServedAdds, StepsAreOfSlots};
+ghost use Rattle.cluster_tracks.specs.Ends.{CausedWhereTracked, JoinedWhereTracked, KeptWhereTracked, ShownWhereTracked};
 ghost use Rattle.cluster_tracks.specs.Failures.{CountGoesOn, OtherSlotsStay};
 ghost use Rattle.cluster_tracks.specs.Numbers.{NumbersStay};
 ghost use Rattle.cluster_tracks.specs.Quiet.{QuietLinesStandOn, QuietTurnsMakeNone};
@@ -45,7 +45,7 @@ pub fn one_more_is_tracked<D: Disk>(members: &Option<Members<D>>)
 {}
 
 /// What each line's law says of what came to the list is what is tracked of it: of a call and a delivery, of a line that sets the
-/// rules or the fates, of one that was refused, of one that begins replicas, and of an `init`.
+/// rules or the fates, of one that was refused, and of an `init`.
 pub fn laws_add<D: Disk>(members: &Members<D>, net: &Net<D>)
     ensures plain { CallAdds PlainLine net.now }
     ensures write { CallAdds WriteLine net.now }
@@ -53,7 +53,6 @@ pub fn laws_add<D: Disk>(members: &Members<D>, net: &Net<D>)
     ensures served_plain { ServedAdds PlainLine }
     ensures served_clock { ServedAdds ClockLine }
     ensures served_read { ServedAdds ReadLine }
-    ensures begun { BegunAdds D.state members.now }
     ensures anew_plain { AnewAdds PlainLine }
     ensures anew_init { AnewAdds InitLine }
     ensures slots { StepsAreOfSlots members.now }
@@ -76,10 +75,11 @@ pub fn cluster_begins<D: Disk>(members: &Members<D>)
     ensures { FirstStandsSo D.state members.now }
 {}
 
-/// A run whose turns are tracked kept what it had to, where its disks tell and had no points; its answers have their causes; and
-/// the counts of the disks show the faults among these, once the disks are given back.
+/// A run whose turns are tracked kept what it had to, where its disks tell and had no points; its answers have their causes; each
+/// node that turned available was joined; and the counts of the disks show the faults among these, once the disks are given back.
 pub fn tracked_runs_promise<D: Disk>(members: &Option<Members<D>>)
     ensures kept { KeptWhereTracked D.state members.now }
     ensures caused { CausedWhereTracked D.state members.now }
+    ensures joined { JoinedWhereTracked D.state members.now }
     ensures shown { ShownWhereTracked D.state members.now }
 {}

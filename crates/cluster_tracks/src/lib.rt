@@ -15,6 +15,12 @@ pub use lines::{
 pub mod of_cluster_members {
     pub use placement_tracks::of_cluster_members::{Members, Range};
 }
+/// Of `cluster_joins`.
+pub mod of_cluster_joins {
+    pub use join_tracks::of_cluster_joins::{
+        Booting, Marked, Marking, bootstrap, end_sources, mark, open_node,
+    };
+}
 /// Of `cluster_placements`.
 pub mod of_cluster_placements {
     pub use placement_tracks::of_cluster_placements::{
@@ -33,7 +39,7 @@ pub mod of_first_cluster {
 }
 /// Of `node_calls`.
 pub mod of_node_calls {
-    pub use placement_tracks::of_node_calls::{bootstrap, deliver, restart, set_fates, stop};
+    pub use placement_tracks::of_node_calls::{deliver, restart, set_fates, stop};
 }
 /// Of `replica_exchange`.
 pub mod of_replica_exchange {

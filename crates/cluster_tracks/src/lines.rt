@@ -5,7 +5,7 @@ ghost use Rattle.cluster_tracks.specs.Slots.{ActsKeepSlots};
 use m3_outside::Disk;
 use placement_tracks::of_cluster_members::Members;
 
-/// An act that makes no placement leaves the one that stands, the slots, and which of them have replicas; a slot without one takes no step.
+/// An act that makes no placement, other than a bootstrap, leaves the one that stands, the slots, and which of them have replicas; a slot without one takes no step.
 pub fn acts_keep_slots<D: Disk>(members: &Members<D>)
     ensures { ActsKeepSlots D.state members.now }
 {}

@@ -1,7 +1,7 @@
 //! Answers as texts.
 use crate::words::letter_of;
 use m3_model::{
-    Answer, Memory, Placement, Reason, Reply, Series, ShardState, Standing, StatusLine,
+    Answer, Memory, Placement, Reason, Reply, Seq, Series, ShardState, Standing, StatusLine,
 };
 
 /// The letter of a node by its number.
@@ -79,7 +79,8 @@ fn spell_nodes(out: &mut String, nodes: &[u8]) -> Result<(), Memory> {
     Ok(())
 }
 
-// How many answered of how many that were needed, and the others with their reasons: `1/2b-c-`, then a shard above 0.
+// How many answered of how many that were needed, and the others with their reasons: `1/2b-c-`, then a shard above 0. Where so few
+// streamed that a replica couldn't join, a `p` comes first.
 fn spell_refusal(
     out: &mut String,
     got: u32,
@@ -94,6 +95,20 @@ fn spell_refusal(
     }
     if shard > 0 {
         write!(out, "#{shard}")?;
+    }
+    Ok(())
+}
+
+// The placement, and each shard that turned available with the nodes that streamed: `v3[bcd]0bc`.
+fn spell_available(
+    out: &mut String,
+    place: &Placement,
+    available: &[(u32, Seq<u8>)],
+) -> Result<(), Memory> {
+    spell_placement(out, place)?;
+    for (shard, peers) in available {
+        write!(out, "{shard}")?;
+        spell_nodes(out, peers.as_slice())?;
     }
     Ok(())
 }
@@ -183,9 +198,12 @@ fn spell_other(out: &mut String, answer: &Answer) -> Result<(), Memory> {
 pub fn spell(out: &mut String, answer: &Answer) -> Result<(), Memory> {
     match answer {
         Answer::Done => out.push_str("ok")?,
-        Answer::Placed { placement, .. } | Answer::Available { placement, .. } => {
-            spell_placement(out, placement)?
-        }
+        Answer::Placed { placement, .. } => spell_placement(out, placement)?,
+        Answer::Available {
+            available,
+            placement,
+            ..
+        } => spell_available(out, placement, available.as_slice())?,
         Answer::Acks { acks } => spell_nodes(out, acks.as_slice())?,
         Answer::Found { series, short } => spell_found(out, series.as_slice(), *short)?,
         Answer::Outcomes { outcomes } => spell_outcomes(out, outcomes.as_slice())?,
@@ -197,6 +215,15 @@ pub fn spell(out: &mut String, answer: &Answer) -> Result<(), Memory> {
             reasons,
             shard,
         } => spell_refusal(out, *got, *needed, reasons.as_slice(), *shard)?,
+        Answer::Peers {
+            got,
+            needed,
+            reasons,
+            shard,
+        } => {
+            out.push('p')?;
+            spell_refusal(out, *got, *needed, reasons.as_slice(), *shard)?
+        }
         Answer::Disk { node, shard } => {
             out.push('~')?;
             out.push_str(node.as_str())?;

@@ -13,5 +13,5 @@ pub use answers::{
     spell_standing, spell_status, spell_swept,
 };
 pub use lists::{fates, one_matcher, three_nodes};
-pub use scripts::{Dice, script, upkeep_script};
+pub use scripts::{Dice, add_fetch, add_match, add_write, script, upkeep_script};
 pub use words::{identifier, letter_of, name, number, read_level, text, value, write_level};

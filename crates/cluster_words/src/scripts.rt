@@ -31,8 +31,8 @@ impl Dice {
         x % sides
     }
 
-    // One of the letters.
-    fn pick(&mut self, letters: &str) -> char {
+    /// One of the letters.
+    pub fn pick(&mut self, letters: &str) -> char {
         let position = self.roll(letters.len().max(1) as u64) as usize;
         match letters.as_bytes().get(position) {
             Some(letter) => *letter as char,
@@ -48,7 +48,8 @@ struct Guess {
     nodes: [u8; 3],
 }
 
-fn add_write(script: &mut String, dice: &mut Dice, now: u64) -> Result<(), Memory> {
+/// A write about this moment.
+pub fn add_write(script: &mut String, dice: &mut Dice, now: u64) -> Result<(), Memory> {
     let ns = dice.pick("mmmmmn");
     let series = dice.pick("uuxy");
     let level = dice.pick("OMMMMA");
@@ -72,7 +73,8 @@ fn add_range(script: &mut String, dice: &mut Dice, now: u64) -> Result<(), Memor
     Ok(())
 }
 
-fn add_fetch(script: &mut String, dice: &mut Dice, now: u64) -> Result<(), Memory> {
+/// A fetch, of all times or of some about this moment.
+pub fn add_fetch(script: &mut String, dice: &mut Dice, now: u64) -> Result<(), Memory> {
     let ns = dice.pick("mmmmmn");
     let series = dice.pick("uuxy");
     let level = dice.pick("OUMMMMMA");
@@ -80,7 +82,8 @@ fn add_fetch(script: &mut String, dice: &mut Dice, now: u64) -> Result<(), Memor
     add_range(script, dice, now)
 }
 
-fn add_match(script: &mut String, dice: &mut Dice, now: u64) -> Result<(), Memory> {
+/// A match, of all times or of some about this moment.
+pub fn add_match(script: &mut String, dice: &mut Dice, now: u64) -> Result<(), Memory> {
     let ns = dice.pick("mmmmmn");
     let sign = dice.pick("=!");
     let level = dice.pick("OUMMMMMA");

@@ -1,7 +1,9 @@
-//! Tests of a day of lines with flushes, ticks and snapshots beside plain series.
+//! Tests of days of lines: with flushes, ticks and snapshots beside plain series, and with a move.
 #![tactic(auto)]
 
 #[cfg(test)]
 mod day;
+#[cfg(test)]
+mod moved_day;
 #[cfg(test)]
 mod plain_series;

@@ -1,5 +1,5 @@
 -- The calls, replies and events that views are made of.
-use Rattle.std.specs.Prelude.{[]}
+use Rattle.std.specs.Prelude.{[], option_map}
 use Rattle.cluster_core.specs.declared.event.Asked.TheVariants as asked
 use Rattle.cluster_core.specs.declared.event.Event.{Event}
 use Rattle.cluster_core.specs.declared.event.Event.TheVariants as event
@@ -19,6 +19,8 @@ call_of (calls.Begin tenure) = call.Begin tenure
 call_of (calls.Put client number rules version point) = call.Put client number rules.value version point.value
 call_of (calls.Read client number rules version pick from to) = call.Read client number rules.value version pick.value from to
 call_of (calls.Fence version) = call.Fence version
+call_of (calls.Page after) = call.Page (option_map (λ k. k.value) after)
+call_of (calls.Merge page) = call.Merge page.value
 call_of (calls.Tick rules) = call.Tick rules.value
 call_of (calls.Flush rules) = call.Flush rules.value
 call_of calls.Snapshot = call.Snapshot
@@ -31,6 +33,7 @@ abbrev pub reply_of : ReplyParts → StepReply
 reply_of replies.Done = reply.Done
 reply_of (replies.Began fence points) = reply.Began fence points.value
 reply_of (replies.Found series) = reply.Found series.value
+reply_of (replies.Paged page) = reply.Paged page.value
 reply_of (replies.Count count) = reply.Count count
 reply_of (replies.Told report) = reply.Told report.value
 reply_of (replies.Refused reason) = reply.Refused reason.value
@@ -38,6 +41,8 @@ reply_of (replies.Refused reason) = reply.Refused reason.value
 abbrev pub event_of : EventParts → Event
 event_of (events.AskPlace place) = event.Ask (asked.Place place.value [])
 event_of (events.Place place) = event.Place place.value []
+event_of (events.AskEnded place done) = event.Ask (asked.Place place.value done.value)
+event_of (events.Ended place done) = event.Place place.value done.value
 event_of (events.AskClock rules) = event.Ask (asked.Clock rules.value)
 event_of (events.Clock rules) = event.Clock rules.value
 event_of (events.Send version shard point) = event.Send version shard point.value

@@ -1,12 +1,15 @@
 //! Events for the list, and the calls and replies of replicas in them: views of what their makers have, so that nothing is copied for
 //! the list. A view has no bytes of what it is made of.
 ghost use Rattle.std.specs.Prelude.{◌≡◌, []};
+ghost use Rattle.std.specs.Option.{option_copied};
 ghost use Rattle.cluster_core.specs.declared.event.Asked.TheVariants as asked;
 ghost use Rattle.cluster_core.specs.declared.event.Event.TheVariants as event;
 ghost use Rattle.cluster_core.specs.declared.event.StepCall.TheVariants as call;
 ghost use Rattle.cluster_core.specs.declared.event.StepReply.TheVariants as reply;
 
-use placement_core::m3_model::{Pick, Placement, Point, Reason, Report, Rules, Seq, Series};
+use placement_core::m3_model::{
+    Key, Page, Pick, Placement, Point, Reason, Report, Rules, Seq, Series,
+};
 use std::marker::Model;
 use std::snapshot::Snapshot;
 
@@ -22,6 +25,8 @@ enum CallParts {
     Put(u32, u64, Snapshot<Rules>, u64, Snapshot<Point>),
     Read(u32, u64, Snapshot<Rules>, u64, Snapshot<Pick>, u64, u64),
     Fence(u64),
+    Page(Option<Snapshot<Key>>),
+    Merge(Snapshot<Page>),
     Tick(Snapshot<Rules>),
     Flush(Snapshot<Rules>),
     Snapshot,
@@ -100,6 +105,28 @@ impl CallView {
         }
     }
 
+    /// The call for the page of the first points above the key.
+    pub fn page(after: Option<&Key>) -> CallView
+        ensures { result ≡ call.Page (option_copied after.entry) }
+    {
+        let after = match after {
+            Some(key) => Some(Snapshot::of(key)),
+            None => None,
+        };
+        CallView {
+            parts: CallParts::Page(after),
+        }
+    }
+
+    /// The call that joins the points of this page.
+    pub fn merge(page: &Page) -> CallView
+        ensures { result ≡ call.Merge page.now }
+    {
+        CallView {
+            parts: CallParts::Merge(Snapshot::of(page)),
+        }
+    }
+
     /// The call that takes away what has expired by these rules.
     pub fn tick(rules: &Rules) -> CallView
         ensures { result ≡ call.Tick rules.entry.now }
@@ -172,6 +199,7 @@ enum ReplyParts {
     Done,
     Began(u64, Snapshot<Seq<Point>>),
     Found(Snapshot<Seq<Series>>),
+    Paged(Snapshot<Page>),
     Count(u64),
     Told(Snapshot<Report>),
     Refused(Snapshot<Reason>),
@@ -214,6 +242,15 @@ impl ReplyView {
         }
     }
 
+    /// The page that it has.
+    pub fn paged(page: &Page) -> ReplyView
+        ensures { result ≡ reply.Paged page.now }
+    {
+        ReplyView {
+            parts: ReplyParts::Paged(Snapshot::of(page)),
+        }
+    }
+
     /// How many it were.
     pub fn count(count: u64) -> ReplyView
         ensures { result ≡ reply.Count count }
@@ -252,6 +289,8 @@ pub struct EventView {
 enum EventParts {
     AskPlace(Snapshot<Placement>),
     Place(Snapshot<Placement>),
+    AskEnded(Snapshot<Placement>, Snapshot<Seq<(u32, u8)>>),
+    Ended(Snapshot<Placement>, Snapshot<Seq<(u32, u8)>>),
     AskClock(Snapshot<Rules>),
     Clock(Snapshot<Rules>),
     Send(u64, u32, Snapshot<Point>),
@@ -288,6 +327,24 @@ impl EventView {
     {
         EventView {
             parts: EventParts::Place(Snapshot::of(place)),
+        }
+    }
+
+    /// That this placement is asked for, with which these moves end: each of a shard and the node that joins it.
+    pub fn ask_ended(place: &Placement, done: &Seq<(u32, u8)>) -> EventView
+        ensures { result ≡ event.Ask (asked.Place place.now done.now) }
+    {
+        EventView {
+            parts: EventParts::AskEnded(Snapshot::of(place), Snapshot::of(done)),
+        }
+    }
+
+    /// The placement from now on, with which these moves end.
+    pub fn ended(place: &Placement, done: &Seq<(u32, u8)>) -> EventView
+        ensures { result ≡ event.Place place.now done.now }
+    {
+        EventView {
+            parts: EventParts::Ended(Snapshot::of(place), Snapshot::of(done)),
         }
     }
 

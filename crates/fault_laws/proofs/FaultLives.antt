@@ -52,7 +52,7 @@ c_called p place_is = record { place = place; stands = stood p place place_is; n
 
 -- a bootstrap that turns nothing available leaves the placement
 bootstrapped : (p : TurnPosition) (name : List ℕ) (asked : Option ℕ) → placement_after None (inner_turns p.lines ++ (p.earlier ++ [])) ≡ Some place → placement_at None p ≡ Some place → IsBootstrapped None p name asked [] place 1
-bootstrapped p name asked place_is before_is = record { before = place; stands = stood p place place_is; made = inl before_is; left = refl; version_is = refl }
+bootstrapped p name asked place_is before_is = record { before = place; stands = stood p place place_is; made = inl before_is; room = tt; left = refl; version_is = refl }
 
 pub stopped_and_back-caused : Caused true (life_of stopped_and_back) []
 stopped_and_back-caused =

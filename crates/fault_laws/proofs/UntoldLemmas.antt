@@ -1,6 +1,6 @@
 -- What is said where disks don't tell what they hold.
 use Rattle.std.proofs.Common.{◌≡◌, ◌≤◌, ℕ, Bool, true, false, List, [], ◌∷◌, refl, sym, subst, inl, inr, arith}
-use Rattle.std.specs.Prelude.{Option, Some, None, pos, codes}
+use Rattle.std.specs.Prelude.{◌⊎◌, Option, Some, None, pos, codes}
 use Rattle.m3_model.specs.Levels.{needed_write}
 use Rattle.m3_model.specs.declared.act.Act.{Act}
 use Rattle.m3_model.specs.declared.act.Act.TheVariants as act
@@ -12,11 +12,13 @@ use Rattle.m3_model.specs.declared.placement.Placement.{Placement}
 use Rattle.m3_model.specs.declared.reason.Reason.{Reason}
 use Rattle.m3_model.specs.declared.reason.Reason.TheVariants as reason
 use Rattle.m3_model.specs.declared.rules.MetaState.{MetaState}
+use Rattle.transcripts.specs.Peers.{IsUnownedForMove, MayBreak}
 use Rattle.transcripts.specs.Caused.{Caused, CausedAt, IsDueBy, IsOwn, refusal_after}
 use Rattle.transcripts.specs.Deliveries.{LateMessage, MayComeOf, AreOutcomes}
 use Rattle.transcripts.specs.Faults.{Fault}
 use Rattle.transcripts.specs.Levels.{IsAcked, AreSilent, MissesLevel, IsShort, IsFoundFor}
-use Rattle.transcripts.specs.Moves.{IsNew, IsUnowned}
+use Rattle.transcripts.specs.Fates.{OfNode}
+use Rattle.transcripts.specs.Moves.{IsNew, IsUnowned, OwnsNot}
 use Rattle.transcripts.specs.Reasons.{MayFail, MayRefuse}
 use Rattle.transcripts.specs.Record.{Life, Record, TurnPosition}
 use Rattle.transcripts.specs.Sweeps.{IsSwept}
@@ -123,6 +125,23 @@ outcomes_less faults start p (m ∷ messages) (o ∷ outcomes) each =
 swept_less : (faults : List Fault) (start : Option MetaState) (p : TurnPosition) (done : List (ℕ × ℕ × ℕ)) (failed : List (ℕ × ℕ × Reason)) → IsSwept true faults start p done failed → IsSwept false faults start p done failed
 swept_less faults start p done failed h = record { over = h.over; refused = λ x m. fail_less faults start p (h.over).place x.1 x.0 x.2 (h.refused x m) }
 
+move_less : (start : Option MetaState) (p : TurnPosition) (used : Placement) (shard node : ℕ) → IsUnownedForMove true start p used shard node → IsUnownedForMove false start p used shard node
+move_less start p used shard node h = record {
+  tenure = h.tenure;
+  moving = h.moving;
+  stands = h.stands;
+  joins = h.joins;
+  unowned = elim h.unowned as (λ _. OwnsNot start p shard node h.tenure ⊎ OfNode used node (λ name. IsNew false (record { shard = shard; node = node; name = name }) start p)) [
+    | inl not ↦ inl not
+    | inr new ↦ inr (record { instance_ = new.instance_; stands = new.stands; holds = new_less (record { shard = shard; node = node; name = new.instance_.name }) start p new.holds })
+  ];
+}
+
+break_less : (faults : List Fault) (start : Option MetaState) (p : TurnPosition) (used : Placement) (shard node : ℕ) (why : Reason) → MayBreak true faults start p used shard node why → MayBreak false faults start p used shard node why
+break_less faults start p used shard node reason.NotOwned may = move_less start p used shard node may
+break_less faults start p used shard node (reason.Stale fence) may = absurd may
+break_less faults start p used shard node why may = fail_less faults start p used shard node why may
+
 own_less : (faults : List Fault) (start : Option MetaState) (messages : List LateMessage) (p : TurnPosition) (a : Act) (b : Answer) → IsOwn true faults start messages p a b → IsOwn false faults start messages p a b
 own_less faults start messages p (act.Init rf shards seed nodes) (answer.Placed used version) own = own
 own_less faults start messages p (act.Init rf shards seed nodes) (answer.Group shard) own = own
@@ -137,6 +156,8 @@ own_less faults start messages p (act.Restart node pick) (answer.Disk name shard
 own_less faults start messages p (act.Bootstrap node asked) (answer.Available available used version) own = own
 own_less faults start messages p (act.Bootstrap node asked) (answer.Disk name shard) own = own
 own_less faults start messages p (act.Bootstrap node asked) (answer.Corrupt name shard damage) own = own
+own_less faults start messages p (act.Bootstrap node asked) (answer.Peers got needed reasons shard) own = record { misses = own.misses; refused = λ r m. break_less faults start p (own.misses).place shard r.0 r.1 (own.refused r m) }
+own_less faults start messages p (act.Bootstrap node asked) (answer.Limit limit) own = own
 own_less faults start messages p (act.Add node group) b own = own
 own_less faults start messages p (act.Drain node) b own = own
 own_less faults start messages p (act.Cancel node) b own = own
@@ -163,7 +184,7 @@ at_less faults past start messages p here =
     elim here as (λ _. CausedAt false faults past start messages p) [
       | inl memory ↦ inl memory
       | inr told ↦ elim told as (λ _. CausedAt false faults past start messages p) [
-        | inl full ↦ inr (inl full)
+        | inl full ↦ inr (inl (full.0, λ is. full.1 refl))
         | inr told_due ↦ inr (inr (told_due.0, told_due.1, due_less faults start messages p (refusal_after start p told_due.0) told_due.2))
       ]
     ]

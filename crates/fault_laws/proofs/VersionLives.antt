@@ -46,7 +46,7 @@ abbrev boot_c : Act
 boot_c = act.Bootstrap (codes "c") None
 
 pub stays-caused : Caused true (reopened (c_left 2 2 ∷ [])) []
-stays-caused = caused_by_positions true [] (reopened (c_left 2 2 ∷ [])) tt refl (only (due_from true [] [] (Some held_2) [] [] _ _ record { before = at_version 2; stands = ([], after_all [] _ _, refl); made = inl refl; left = refl; version_is = refl }) also tt)
+stays-caused = caused_by_positions true [] (reopened (c_left 2 2 ∷ [])) tt refl (only (due_from true [] [] (Some held_2) [] [] _ _ record { before = at_version 2; stands = ([], after_all [] _ _, refl); made = inl refl; room = tt; left = refl; version_is = refl }) also tt)
 
 -- what a bootstrap leaves
 left_is : (faults : List Fault) (version told : ℕ) → Caused true (reopened (c_left version told ∷ [])) faults → (at_version 2 ≡ at_version version) × (told ≡ version)

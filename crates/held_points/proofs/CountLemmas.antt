@@ -1,12 +1,12 @@
 -- How many points are held, with one more and with room for one.
 use Rattle.std.proofs.Common.{◌≡◌, ℕ, ◌+◌, ◌-◌, ◌<◌, ◌≤◌, refl, sym, ap, ◌∙◌, subst, Bool, true, false, cond, not, Option, Some, None, arith}
-use Rattle.std.specs.Prelude.{is_some, IfSome, ℤ}
+use Rattle.std.specs.Prelude.{is_some, IfSome, IsSome, ℤ}
 use Rattle.std.specs.FinMap as finite
 use Rattle.std.specs.FinMap.{len-empty, len-insert}
 use Rattle.m3_model.specs.declared.limits.TheConstants.{MOST_REPLICA_POINTS}
 use Rattle.m3_model.specs.declared.point.Key.{Key}
 use Rattle.m3_model.specs.declared.point.Point.{Point}
-use Rattle.m3_model.specs.Contents.{raised, key_of, higher}
+use Rattle.m3_model.specs.Contents.{raised, raised_at, key_of, higher}
 use Rattle.m3_model.specs.Keys.{key_cmp, key_cmp_total}
 use Rattle.block_buffer.specs.Held.{InMemory}
 use Rattle.block_buffer.proofs.ContentLemmas.{len_removed}
@@ -78,3 +78,9 @@ counted_same count adds held new same room h = record {
 pub some_of : {X : Type 0} (o : Option X) (P : X → Type 0) → is_some o ≡ true → IfSome o P → (x : X) × P x
 some_of None P e h = cc
 some_of (Some x) P e h = (x, h)
+
+-- with a higher value at a key at which a point stands
+pub counted_raised : (count : ℕ) (adds : Bool) (held new : InMemory) (key : Key) (v : ℤ) → new ≡ record { points = raised_at held.points key v; room = None } → IsSome (finite.get held.points key) → IsCounted count adds held → IsCounted count adds new
+counted_raised count adds held new key v is there h =
+    let size = len-insert key_cmp_total held.points key (higher (finite.get held.points key) v) ∙ ap (λ b. cond b (finite.len held.points) (finite.len held.points + 1)) there in
+    subst (IsCounted count adds) (sym is) (record { counted = h.counted ∙ sym size; limit = h.limit; fits = tt })

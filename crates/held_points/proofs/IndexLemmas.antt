@@ -1,6 +1,6 @@
 -- How the index of a store goes on to agree with its points.
 use Rattle.std.proofs.Common.{◌≡◌, ℕ, ℤ, ◌≤ℤ◌, List, refl, sym, ap, ◌∙◌, subst, inl, inr, Bool, true, false, cond, arith}
-use Rattle.std.specs.Prelude.{◌⊎◌, Option, Some, None, option_map, MatchBool}
+use Rattle.std.specs.Prelude.{◌⊎◌, Option, Some, None, IsSome, option_map, MatchBool}
 use Rattle.std.proofs.lemmas.Int.{ints}
 use Rattle.std.specs.FinMap as finite
 use Rattle.std.specs.FinMap.{get-insert, get-remove, get-empty, same_map, nat_cmp-IsAntisymmetric}
@@ -9,7 +9,7 @@ use Rattle.std.specs.Ordering.{nat_cmp, eq_by_cmp, is_eq}
 use Rattle.m3_model.specs.declared.point.Key.{Key}
 use Rattle.m3_model.specs.Keys.{key_cmp}
 use Rattle.m3_model.specs.declared.point.Point.{Point}
-use Rattle.m3_model.specs.Contents.{Contents, raised, key_of, point_at}
+use Rattle.m3_model.specs.Contents.{Contents, raised, raised_at, key_of, point_at}
 use Rattle.m3_model.specs.Tags.{HasTags}
 use Rattle.m3_model.proofs.Keyed.{equal_of}
 use Rattle.m3_model.proofs.JoinLemmas.{raised_holds, raised_keeps, raised_source}
@@ -140,3 +140,14 @@ index_before room newly c p index is given = subst (λ (o : Option Key). IsIndex
 -- the point is put
 pub put_indexed : (room : Option Key) (newly : Bool) (c : Contents) (p : Point) (index : Listed) → room ≡ Some (key_of p) → IsIndexedFor room newly c index → IsIndexed (raised c p) index
 put_indexed room newly c p index is given = let was = index_before room newly c p index is given in raised_indexed c p was.0 index newly was.1 was.2
+
+-- a value rises at a key at which a point stands
+pub raised_there : (room : Option Key) (newly : Bool) (c : Contents) (key : Key) (v : ℤ) (index : Listed) → room ≡ None → IsSome (finite.get c key) → IsIndexedFor room newly c index → IsIndexed (raised_at c key v) index
+raised_there room newly c key v index none there given = by (finite.get c key) refl there
+  where
+    was : IsIndexed c index
+    was = subst (λ (o : Option Key). IsIndexedFor o newly c index) none given
+
+    by : (o : Option ℤ) → finite.get c key ≡ o → IsSome o → IsIndexed (raised_at c key v) index
+    by None e some = absurd (let bad : false ≡ true = some in cc)
+    by (Some w) e some = raised_listed c (point_at key v) index index was (record { present = was.listed key w e; unchanged = refl })

@@ -1,7 +1,10 @@
 ghost use Rattle.std.specs.Prelude.{◌≡◌, ◌⊎◌, ◌+◌, ◌^◌, ◌<◌, ◌≤◌, List, Some, None, true, IsSome, IfOk, IfSome, OnOk, OnErr, MatchOption};
 ghost use Rattle.std.specs.List.{All};
 ghost use Rattle.std.specs.FinMap as finite;
-ghost use Rattle.m3_model.specs.Contents.{raised, key_of};
+ghost use Rattle.m3_model.specs.Contents.{raised, raised_at, key_of};
+ghost use Rattle.series_slots.specs.SeriesKeys.{key_at};
+ghost use Rattle.series_slots.specs.Above.{HasNoneAbove, IsFirstAbove};
+ghost use Rattle.block_buffer.specs.FirstOf.{HasNoneFrom, IsFirstOf};
 ghost use Rattle.m3_model.specs.declared.limits.TheConstants.{MOST_REPLICA_POINTS};
 ghost use Rattle.m3_model.specs.declared.point.Matcher.{Matcher};
 ghost use Rattle.m3_model.specs.declared.point.Pick.TheVariants as pick;
@@ -153,6 +156,42 @@ impl CountedBuffer {
             self.count -= 1;
         }
         Ok(found)
+    }
+
+    // The same of a series that is given by its key. Takes no memory.
+    pub(crate) fn settle_at(&mut self, series: &SeriesKey, t: u64, v: i64) -> Option<Taken>
+        ensures room { self.new.room ≡ None }
+        ensures settled { self.new.points ≡ settled_at self.old.points (record { ns = series.now.ns; id = series.now.id; t = t; v = v }) }
+        ensures taken { IfSome result (IsTaken self.old.points self.new.points (λ k. k ≡ key_at series.now t)) }
+        ensures none { result ≡ None → self.new.points ≡ self.old.points }
+    {
+        let taken = self.buffer.settle_at(series, t, v)?;
+        self.count -= 1;
+        Some(taken)
+    }
+
+    // Joins a point at a key at which one stands, and gives up the room.
+    pub(crate) fn raise(&mut self, series: &SeriesKey, t: u64, v: i64)
+        requires { IsSome (finite.get self.old.points (key_at series.now t)) }
+        ensures { self.new ≡ record { points = raised_at self.old.points (key_at series.now t) v; room = None } }
+    {
+        self.buffer.raise(series, t, v);
+    }
+
+    // The time and the value of the first point of the series from this time on.
+    pub(crate) fn first_from(&self, series: &SeriesKey, low: u64) -> Option<(u64, i64)>
+        ensures none { result ≡ None → HasNoneFrom self.now.points series.now low }
+        ensures some { IfSome result (λ x. IsFirstOf self.now.points series.now low x.0 x.1) }
+    {
+        self.buffer.first_from(series, low)
+    }
+
+    // The first point of the series that come after this one, as `Buffer::first_above` finds it.
+    pub(crate) fn first_above(&self, series: &SeriesKey) -> Option<(&SeriesKey, u64, i64)>
+        ensures none { result ≡ None → HasNoneAbove self.now.points series.now }
+        ensures some { IfSome result (λ x. IsFirstAbove self.now.points series.now x.0.now x.1 x.2) }
+    {
+        self.buffer.first_above(series)
     }
 
     // The points of a block, as `Buffer::block` finds them.

@@ -1,7 +1,10 @@
-ghost use Rattle.std.specs.Prelude.{◌≡◌, ◌⊎◌, ◌+◌, ◌-◌, ◌^◌, ◌<◌, ◌≤◌, List, Some, None, true, false, IsTrue, IsSome, IfOk, OnOk, OnErr};
+ghost use Rattle.std.specs.Prelude.{◌≡◌, ◌⊎◌, ◌+◌, ◌-◌, ◌^◌, ◌<◌, ◌≤◌, List, Some, None, true, false, IsTrue, IsSome, IfOk, IfSome, OnOk, OnErr};
 ghost use Rattle.std.specs.List.{All};
 ghost use Rattle.std.specs.FinMap as finite;
-ghost use Rattle.m3_model.specs.Contents.{raised, content_of, key_of};
+ghost use Rattle.m3_model.specs.Contents.{raised, raised_at, content_of, key_of};
+ghost use Rattle.series_slots.specs.SeriesKeys.{key_at};
+ghost use Rattle.series_slots.specs.Above.{HasNoneAbove, IsFirstAbove};
+ghost use Rattle.block_buffer.specs.FirstOf.{HasNoneFrom, IsFirstOf};
 ghost use Rattle.m3_model.specs.Answers.{IsAnswer};
 ghost use Rattle.m3_model.specs.declared.point.Matcher.{Matcher};
 ghost use Rattle.m3_model.specs.declared.point.Pick.TheVariants as pick;
@@ -20,6 +23,7 @@ use crate::listing::{forget, list, unlist};
 use crate::matching::unequal;
 use crate::ranges::ranges;
 use m3_model::{Memory, Pick, Point, Rules, Seq, Series, Text};
+use series_slots::SeriesKey;
 use std::alloc::Global;
 use std::marker::Model;
 use tag_index::Index;
@@ -251,6 +255,44 @@ impl HeldPoints {
             self.settle_one(ns, &series.id, *t, *v)?;
         }
         Ok(())
+    }
+
+    /// Takes the point of the series at this time out, if its value isn't above this one. Takes no memory; finds the series in
+    /// constant expected time, and costs beside that as one point in `settle`.
+    pub fn settle_at(&mut self, series: &SeriesKey, t: u64, v: i64)
+        requires { self.old.room ≡ None }
+        ensures { self.new ≡ record { points = settled_at self.old.points (record { ns = series.now.ns; id = series.now.id; t = t; v = v }); room = None } }
+    {
+        if let Some(taken) = self.buffer.settle_at(series, t, v) {
+            forget(&self.buffer, &mut self.index, taken.gone);
+        }
+    }
+
+    /// Joins a point at a key at which one stands, of which the higher value stays. Takes no memory; finds the series in constant
+    /// expected time, and its time in the logarithm of its times.
+    pub fn raise(&mut self, series: &SeriesKey, t: u64, v: i64)
+        requires room { self.old.room ≡ None }
+        requires stands { IsSome (finite.get self.old.points (key_at series.now t)) }
+        ensures { self.new ≡ record { points = raised_at self.old.points (key_at series.now t) v; room = None } }
+    {
+        self.buffer.raise(series, t, v);
+    }
+
+    /// The time and the value of the first point of the series from this time on, as `Buffer::first_from` finds it. Takes no memory.
+    pub fn first_from(&self, series: &SeriesKey, low: u64) -> Option<(u64, i64)>
+        ensures none { result ≡ None → HasNoneFrom self.now.points series.now low }
+        ensures some { IfSome result (λ x. IsFirstOf self.now.points series.now low x.0 x.1) }
+    {
+        self.buffer.first_from(series, low)
+    }
+
+    /// The first point of the series that come after this one, in the order of keys, as `Buffer::first_above` finds it: its series, its
+    /// time and its value. Takes no memory.
+    pub fn first_above(&self, series: &SeriesKey) -> Option<(&SeriesKey, u64, i64)>
+        ensures none { result ≡ None → HasNoneAbove self.now.points series.now }
+        ensures some { IfSome result (λ x. IsFirstAbove self.now.points series.now x.0.now x.1 x.2) }
+    {
+        self.buffer.first_above(series)
     }
 
     // Takes the point of the series at this time out, if its value isn't above this one.

@@ -1,6 +1,7 @@
 pub mod CachedLemmas
 mod KeptLemmas
 mod FetchLemmas
+pub mod FirstLemmas
 pub use Rattle.volume_points.proofs.AnswerLemmas
 pub use Rattle.volume_points.proofs.KnownLemmas
 pub use Rattle.volume_points.proofs.ReadLemmas

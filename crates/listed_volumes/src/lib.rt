@@ -3,11 +3,13 @@
 #![tactic(auto)]
 
 mod fetching;
+mod first;
 mod keeping;
 mod row_cache;
 mod volume;
 
 pub use fetching::fetch;
+pub use first::first_listed;
 pub use keeping::list_volume;
 pub use row_cache::RowCache;
 pub use volume::ListedVolume;

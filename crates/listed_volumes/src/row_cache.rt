@@ -1,13 +1,16 @@
 //! The rows of the volumes that were matched last.
 ghost use Rattle.std.specs.Prelude.{◌≡◌, ◌⊎◌, is_some, [], ◌∷◌, None, IfOk, IfSome};
+ghost use Rattle.std.specs.Option.{option_copied};
 ghost use Rattle.m3_model.specs.Reads.{IsOrdered};
 ghost use Rattle.volume_points.specs.volume_bytes.Heads.{head_of};
 ghost use Rattle.block_cache.specs.Blocks.{no_blocks, rows_of, after_forget, after_get, after_put};
 ghost use Rattle.volume_points.specs.Picked.{AreAscending};
 ghost use Rattle.listed_volumes.specs.Cached.{HasForgotten, IsFoundInRows, blocks_in, cache_key};
+ghost use Rattle.listed_volumes.specs.FirstListed.{AreFirstInRows};
 
 use block_cache::Cache;
-use m3_model::{Memory, Pick, Seq, Series};
+use first_points::first_of_rows;
+use m3_model::{Key, Memory, Pick, Point, Seq, Series};
 use std::alloc::Global;
 use std::marker::Model;
 use volume_points::of_volume_bytes::Head;
@@ -104,6 +107,42 @@ fn find_in(
     }
 }
 
+// The first points above the key of the rows of the block, where the cache has it.
+fn first_of_block(
+    alloc: Global,
+    cache: &mut Cache,
+    key: (u8, u64, u64),
+    after: Option<&Key>,
+    limit: usize,
+) -> Result<Option<Seq<Point>>, Memory>
+    requires { IfSome (rows_of key cache.old) AreAscending }
+    ensures used { cache.new ≡ after_get key cache.old }
+    ensures first { IfOk result (λ found. IfSome found (AreFirstInRows key cache.old (option_copied after.entry) limit)) }
+{
+    match cache.get(key) {
+        Some(rows) => Ok(Some(first_of_rows(alloc, key.0, rows.as_slice(), after, limit)?)),
+        None => Ok(None),
+    }
+}
+
+// The same, where there is a cache.
+fn first_in(
+    alloc: Global,
+    blocks: &mut Option<Cache>,
+    key: (u8, u64, u64),
+    after: Option<&Key>,
+    limit: usize,
+) -> Result<Option<Seq<Point>>, Memory>
+    requires { IfSome (rows_of key (blocks_in blocks.old)) AreAscending }
+    ensures used { blocks_in blocks.new ≡ after_get key (blocks_in blocks.old) }
+    ensures first { IfOk result (λ found. IfSome found (AreFirstInRows key (blocks_in blocks.old) (option_copied after.entry) limit)) }
+{
+    match blocks {
+        Some(cache) => first_of_block(alloc, cache, key, after, limit),
+        None => Ok(None),
+    }
+}
+
 // Makes the cache where there is none, if there is memory for it.
 fn begin(alloc: Global, blocks: &mut Option<Cache>)
     ensures { blocks_in blocks.new ≡ blocks_in blocks.old }
@@ -165,6 +204,20 @@ impl RowCache {
         ensures ordered { IfOk result (λ found. IfSome found IsOrdered) }
     {
         find_in(alloc, &mut self.blocks, cache_key(head), pick, from, to)
+    }
+
+    // The first points above the key of the rows of this volume, so many or all; `None` where they aren't kept.
+    pub(crate) fn first(
+        &mut self,
+        alloc: Global,
+        head: &Head,
+        after: Option<&Key>,
+        limit: usize,
+    ) -> Result<Option<Seq<Point>>, Memory>
+        ensures used { self.new ≡ after_get (cache_key (head_of head.now)) self.old }
+        ensures first { IfOk result (λ found. IfSome found (AreFirstInRows (cache_key (head_of head.now)) self.old (option_copied after.entry) limit)) }
+    {
+        first_in(alloc, &mut self.blocks, cache_key(head), after, limit)
     }
 
     // Keeps these rows of this volume, which ascend, where there is memory for them. Else they are dropped.

@@ -1,10 +1,9 @@
 -- A run goes on by one line.
-use Rattle.std.proofs.Common.{◌≡◌, ℕ, List, [], ◌∷◌, ◌++◌, refl, sym, ap, ◌∙◌, subst, inl, inr, append-nil, true, false, Bool}
+use Rattle.std.proofs.Common.{◌≡◌, ℕ, List, [], ◌∷◌, ◌++◌, refl, sym, ap, ◌∙◌, subst, inl, inr, append-nil, true, false}
 use Rattle.std.specs.Prelude.{Option, Some, None, Ok, Result}
 use Rattle.std.proofs.lemmas.List.Concat.{flat_map-append}
 use Rattle.transcripts.specs.Record.{IsAnsweredBy}
 use Rattle.m3_model.specs.declared.answer.Answer.{Answer}
-use Rattle.m3_model.specs.declared.placement.Placement.{Placement}
 use Rattle.m3_model.specs.declared.rules.MetaState.{MetaState}
 use Rattle.m3_model.specs.declared.turn.Request.{Request}
 use Rattle.m3_model.specs.declared.turn.Reply.{Reply}
@@ -17,7 +16,6 @@ use Rattle.m3_json.specs.Requests.{LineMeans}
 use Rattle.saved_cluster.specs.served_cluster.Owned.{place_of}
 use Rattle.saved_cluster.specs.declared.lost.Lost.{Lost}
 use Rattle.m3_program.specs.Exchanges.{Exchange, Outcome, Passed, Refused, Answered, AreExchanges, IsExchange, IsOutcome, IsRefusal, is_blank, turns_by, turns_of, known_place, reply_line}
-use Rattle.m3_program.specs.Joining.{is_put_off_by}
 use Rattle.m3_program.specs.Streams.{Advances, Drops, Opening, Progress, Stage, StandsAfter}
 use Rattle.m3_program.proofs.PromiseLemmas.{Serving, lost_so, promised}
 use Rattle.m3_program.proofs.StateLemmas.{place_led}
@@ -37,10 +35,6 @@ turns_of-push xs x = flat_map-append (λ y. turns_by y.outcome) xs (x ∷ []) �
 known : {D : Type 0} {G : Ghosts D} (state : D → DiskState) (now : Stage D G) (first : Opening D) (xs : List Exchange) → Progress state first xs now → known_place first.start (turns_of xs) ≡ place_of now.saved.cluster
 known state now first xs p = place_led first.start (turns_of xs) now.saved.cluster p.stands.leave
 
--- whether a request is put off is asked of the placement that stands
-pub put_off_so : (r : Request) {place stands : Option Placement} {result due : Bool} → result ≡ is_put_off_by place r → place ≡ stands → result ≡ due → is_put_off_by stands r ≡ due
-put_off_so r asked same is = ap (λ p. is_put_off_by p r) (sym same) ∙ sym asked ∙ is
-
 -- a line that makes no turn
 still : {D : Type 0} {G : Ghosts D} (state : D → DiskState) (now : Stage D G) (line text : List ℕ) (outcome : Outcome) → turns_by outcome ≡ []
     → ((first : Opening D) (xs : List Exchange) → Progress state first xs now → IsOutcome first.start (turns_of xs) line outcome text) → Advances state now line text now
@@ -54,21 +48,20 @@ pub passes : {D : Type 0} {G : Ghosts D} (state : D → DiskState) (now : Stage 
 passes state now line text blank empty = still state now line text Passed refl (λ first xs p. (blank, empty))
 
 -- a line that is refused
-pub refuses : {D : Type 0} {G : Ghosts D} (state : D → DiskState) (now : Stage D G) (line text : List ℕ) (refusal : Answer) → is_blank line ≡ false → IsRefusal (place_of now.saved.cluster) line refusal
+pub refuses : {D : Type 0} {G : Ghosts D} (state : D → DiskState) (now : Stage D G) (line text : List ℕ) (refusal : Answer) → is_blank line ≡ false → IsRefusal line refusal
     → text ≡ reply_line (place_of now.saved.cluster) (reply.One refusal) → Advances state now line text now
 refuses state now line text refusal some why printed =
     still state now line text (Refused refusal) refl (λ first xs p.
-    let same = sym (known state now first xs p) in
-    (some, subst (λ place. IsRefusal place line refusal) same why, printed ∙ ap (λ place. reply_line place (reply.One refusal)) same))
+    (some, why, printed ∙ ap (λ place. reply_line place (reply.One refusal)) (sym (known state now first xs p))))
 
 -- the turns that a run comes after are so with one more
 abbrev pub Follows : {D : Type 0} {G : Ghosts D} → (D → DiskState) → Stage D G → Turn → Stage D G → Type 0
 Follows {D} state old turn new = (first : Opening D) (turns : List Turn) → StandsAfter state first turns old → StandsAfter state first (turns ++ turn ∷ []) new
 
 -- a line that makes a turn
-pub answers : {D : Type 0} {G : Ghosts D} (state : D → DiskState) (old new : Stage D G) (line text : List ℕ) (request : Request) (r : Reply) → is_blank line ≡ false → LineMeans line (Ok request) → is_put_off_by (place_of old.saved.cluster) request ≡ false → text ≡ reply_line (place_of new.saved.cluster) r
+pub answers : {D : Type 0} {G : Ghosts D} (state : D → DiskState) (old new : Stage D G) (line text : List ℕ) (request : Request) (r : Reply) → is_blank line ≡ false → LineMeans line (Ok request) → text ≡ reply_line (place_of new.saved.cluster) r
     → IsAnsweredBy request r → Follows state old (record { request = request; reply = r }) new → Advances state old line text new
-answers state old new line text request r some means due printed answered goes = λ first xs p.
+answers state old new line text request r some means printed answered goes = λ first xs p.
     let turn : Turn = record { request = request; reply = r } in
     let x : Exchange = record { line = line; outcome = Answered turn; text = text } in
     let same : turns_of xs ++ turn ∷ [] ≡ turns_of (xs ++ x ∷ []) = sym (turns_of-push xs x) in
@@ -76,7 +69,7 @@ answers state old new line text request r some means due printed answered goes =
       Answered turn,
       record {
         each = exchanges_push first.start xs x p.each
-            (some, means, ap (λ place. is_put_off_by place request) (known state old first xs p) ∙ due, answered, printed ∙ ap (λ place. reply_line place r) (sym (place_led first.start (turns_of xs ++ turn ∷ []) new.saved.cluster next.leave)));
+            (some, means, answered, printed ∙ ap (λ place. reply_line place r) (sym (place_led first.start (turns_of xs ++ turn ∷ []) new.saved.cluster next.leave)));
         stands = subst (λ ts. StandsAfter state first ts new) same next;
       },
     )

@@ -1,5 +1,5 @@
 -- What a run promises, after the requests that it took.
-use Rattle.std.proofs.Common.{◌≡◌, ℕ, ◌+◌, ◌-◌, ◌<◌, ◌≤◌, ◌⊎◌, List, [], ◌∷◌, ◌++◌, length, length-append, sym, ap, subst, ◌∙◌, inl, inr, append-nil, arith, refl, Bool, true}
+use Rattle.std.proofs.Common.{◌≡◌, ℕ, ◌+◌, ◌-◌, ◌<◌, ◌≤◌, ◌⊎◌, List, [], ◌∷◌, ◌++◌, length, length-append, sym, ap, subst, ◌∙◌, inl, inr, append-nil, arith, refl, Bool, true, false}
 use Rattle.std.specs.Prelude.{Option, Some, None, Result, Ok, count_by}
 use Rattle.m3_model.specs.declared.rules.MetaState.{MetaState}
 use Rattle.m3_model.specs.declared.turn.Reply.{Reply}
@@ -9,6 +9,7 @@ use Rattle.m3_model.specs.declared.turn.Request.TheVariants as request
 use Rattle.m3_model.specs.declared.turn.Turn.{Turn}
 use Rattle.m3_model.proofs.Lists.{All-from_each}
 use Rattle.transcripts.specs.Faults.{is_taking}
+use Rattle.transcripts.specs.Joined.{Joined}
 use Rattle.transcripts.specs.Kept.{Kept}
 use Rattle.transcripts.specs.Placements.{placement_after}
 use Rattle.transcripts.specs.Record.{Life, inner_turns}
@@ -26,7 +27,7 @@ use Rattle.saved_cluster.specs.replica_exchange.declared.slot.Slot.{Slot}
 use Rattle.saved_cluster.specs.session_net.Runs.{slot_at}
 use Rattle.saved_cluster.specs.served_cluster.Ends.{AreGivenBack, is_failed_at, replica_at}
 use Rattle.saved_cluster.specs.served_cluster.Tracks.{faults_of}
-use Rattle.saved_cluster.proofs.served_cluster_proofs.EndLemmas.{caused_where_tracked, kept_where_tracked, shown_where_tracked}
+use Rattle.saved_cluster.proofs.served_cluster_proofs.EndLemmas.{caused_where_tracked, joined_where_tracked, kept_where_tracked, shown_where_tracked}
 use Rattle.saved_cluster.specs.served_cluster.Acts.{ServesRequest}
 use Rattle.saved_cluster.specs.served_cluster.Owned.{TracksTurns, place_of}
 use Rattle.saved_cluster.specs.served_cluster.Plans.{state_of}
@@ -53,12 +54,21 @@ may_close state c held may = record { cluster = may.cluster; meta_out = may.meta
 pub begins_so : {D : Type 0} {G : Ghosts D} (state : D → DiskState) (now : Stage D G) → IsFresh state now → StandsAfter state (opening_at now) [] now
 begins_so state now fresh = record { leave = leave_nothing (state_of now.saved.cluster); saved = fresh.saved; counted = refl; tracks = fresh.tracks }
 
+-- in a first run of these turns, whatever the disks tell, whoever turned available was joined
+joined_so : {D : Type 0} {G : Ghosts D} (state : D → DiskState) (first : Opening D) (now : Stage D G) (turns : List Turn) (unanswered : Option Request) → StandsAfter state first turns now → first.start ≡ None
+    → Joined (record { past = []; present = record { start = first.start; turns = turns; unanswered = unanswered } })
+joined_so state first now turns unanswered s none =
+    let tracks = s.tracks false (record { none = none; tell = λ e. (let clash : false ≡ true = e in cc); bare = λ e. (let clash : false ≡ true = e in cc) }) in
+    subst (λ (o : Option MetaState). Joined (record { past = []; present = record { start = o; turns = turns; unanswered = unanswered } })) (sym none)
+    (joined_where_tracked state now.saved.cluster.members false first.depot now.depot turns now.saved.cluster.calls unanswered tracks)
+
 -- nothing more was served after these turns
 pub stood : {D : Type 0} {G : Ghosts D} (state : D → DiskState) (first : Opening D) (now : Stage D G) (turns : List Turn) (unanswered : Option Request) → StandsAfter state first turns now → HaveServed state first now turns unanswered
 stood state first now turns unanswered s = record {
   leaves = saved_leaves (state now.saved.meta) first.start (state_of now.saved.cluster) turns unanswered s.leave s.saved;
   counted = s.counted;
   tracked = λ tells may. record { more = []; few = omega arith; tracks = subst (λ ts. TracksTurns state tells first.depot now.depot ts now.saved.cluster) (sym (append-nil turns)) (s.tracks tells may) };
+  joined = joined_so state first now turns unanswered s;
 }
 
 -- after these exchanges, whatever request was taken and not served
@@ -86,6 +96,7 @@ module _ {D : Type 0} {G : Ghosts D} (state : D → DiskState) (old new : Stage 
     tracked = λ tells may.
         let next = s.tracks tells first.depot turns (was.tracks tells may) in
         record { more = record { request = asked; reply = next.0 } ∷ []; few = omega arith; tracks = next.2 };
+    joined = joined_so state first old turns (Some asked) was;
   }
 
   led_so : (start : Option MetaState) (turns : List Turn) (asked : Request) (said : Reply) → LeaveState start turns (state_of old.saved.cluster) → ServesRequest state old.depot old.saved.cluster asked said new.depot new.saved.cluster

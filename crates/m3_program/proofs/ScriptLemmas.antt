@@ -1,14 +1,12 @@
 -- A run of a script goes on by one request.
-use Rattle.std.proofs.Common.{◌≡◌, ℕ, List, [], ◌∷◌, ◌++◌, map, refl, sym, ap, ◌∙◌, subst, inl, inr, append_assoc, append-nil, false}
+use Rattle.std.proofs.Common.{◌≡◌, ℕ, List, [], ◌∷◌, ◌++◌, map, refl, sym, ap, ◌∙◌, subst, inl, inr, append_assoc, append-nil}
 use Rattle.std.specs.Prelude.{Option, Some, None, IfSome, Result, Ok, Err, IfOk, OnOk, OnErr}
 use Rattle.std.proofs.lemmas.List.{map-append}
 use Rattle.std.proofs.lemmas.List.Concat.{flat_map-append}
 use Rattle.m3_model.specs.Limits.{KeepsLimits}
 use Rattle.m3_model.specs.Members.{IsIn}
-use Rattle.m3_model.proofs.MemberLemmas.{IsIn-append_right}
-use Rattle.m3_model.proofs.SplitLemmas.{not_empty, split_push}
+use Rattle.m3_model.proofs.MemberLemmas.{IsIn-append_cases, IsIn-append_right}
 use Rattle.m3_model.specs.declared.answer.Answer.TheVariants as answer
-use Rattle.m3_model.specs.declared.rules.MetaState.{MetaState}
 use Rattle.m3_model.specs.declared.turn.Reply.{Reply}
 use Rattle.m3_model.specs.declared.turn.Reply.TheVariants as reply
 use Rattle.m3_model.specs.declared.turn.Request.{Request}
@@ -17,22 +15,19 @@ use Rattle.m3_outside.specs.DiskState.{DiskState}
 use Rattle.m3_outside.specs.declared.disk.Disk.{Ghosts}
 use Rattle.transcripts.specs.Placements.{placement_after}
 use Rattle.transcripts.specs.Record.{IsAnsweredBy, inner_turns}
+use Rattle.served_acts.specs.NotYet.{IsServed}
 use Rattle.load_gen.specs.Script.{script}
 use Rattle.load_gen.specs.Summaries.{Counts}
 use Rattle.load_gen.specs.declared.summary.Summary.{Summary}
 use Rattle.load_gen.proofs.LimitLemmas.{script_keeps}
 use Rattle.saved_cluster.specs.served_cluster.Owned.{place_of}
-use Rattle.saved_cluster.specs.served_cluster.Plans.{state_of}
 use Rattle.saved_cluster.specs.Saved.{MayServeSaved}
 use Rattle.saved_cluster.specs.declared.lost.Lost.{Lost}
-use Rattle.m3_program.specs.Exchanges.{known_place}
-use Rattle.m3_program.specs.Joining.{is_put_off_by}
-use Rattle.m3_program.specs.Rounds.{Continues, Goes, Going, IsWithin, Loses, Stopped}
+use Rattle.m3_program.specs.Rounds.{Continues, Goes, IsWithin, Loses, Stopped}
 use Rattle.m3_program.specs.Scripts.{AreParts, Deferred, IsTaken, Part, IsPart, Served, reply_of, request_of, turns_of_part, turns_of_parts}
 use Rattle.m3_program.specs.Streams.{IsFresh, Opening, Stage, StandsAfter, opening_at}
 use Rattle.m3_program.proofs.ExchangeLemmas.{Follows}
 use Rattle.m3_program.proofs.PromiseLemmas.{Serving, begins_so, lost_so, served_so, stood}
-use Rattle.m3_program.proofs.StateLemmas.{place_led}
 
 -- ---- one request
 
@@ -40,54 +35,35 @@ turns_of-push : (parts : List Part) (part : Part) → turns_of_parts (parts ++ p
 turns_of-push parts part = flat_map-append turns_of_part parts (part ∷ []) ∙ ap (λ ts. turns_of_parts parts ++ ts) (append-nil (turns_of_part part))
 
 -- nothing came yet
-pub no_parts : (start : Option MetaState) → AreParts start []
-no_parts start before part after is = absurd (not_empty before part after is)
+pub no_parts : AreParts []
+no_parts part i = absurd i
 
 -- one more part after the others
-parts_push : (start : Option MetaState) (parts : List Part) (part : Part) → AreParts start parts → IsPart (known_place start (turns_of_parts parts)) part → AreParts start (parts ++ part ∷ [])
-parts_push start parts part each last before y after e =
-    elim (split_push parts part before y after e) as (λ _. IsPart (known_place start (turns_of_parts before)) y) [
-      | inl here ↦ subst (λ ys. IsPart (known_place start (turns_of_parts ys)) y) (sym here.0) (subst (IsPart (known_place start (turns_of_parts parts))) (sym here.1) last)
-      | inr there ↦ each before y there.0 there.1
-    ]
-
--- the turns of the parts left the placement that stands
-known : {D : Type 0} {G : Ghosts D} (state : D → DiskState) (now : Stage D G) (first : Opening D) (parts : List Part) → Going state first parts now → known_place first.start (turns_of_parts parts) ≡ place_of now.saved.cluster
-known state now first parts g = place_led first.start (turns_of_parts parts) now.saved.cluster g.stands.leave
+parts_push : (parts : List Part) (part : Part) → AreParts parts → IsPart part → AreParts (parts ++ part ∷ [])
+parts_push parts part each last x i = elim (IsIn-append_cases parts (part ∷ []) x i) as (λ _. IsPart x) [
+  | inl there ↦ each x there
+  | inr here ↦ elim here as (λ _. IsPart x) [ inl same ↦ subst IsPart same last | inr none ↦ absurd none ]
+]
 
 -- it is put off
-pub defers : {D : Type 0} {G : Ghosts D} (state : D → DiskState) (now : Stage D G) (r : Request) → IsPart (place_of now.saved.cluster) (Deferred r) → Continues state now r (reply.One answer.Later) now
+pub defers : {D : Type 0} {G : Ghosts D} (state : D → DiskState) (now : Stage D G) (r : Request) → ¬ IsServed r → Continues state now r (reply.One answer.Later) now
 defers state now r due = λ first parts g.
-    let same : turns_of_parts parts ≡ turns_of_parts (parts ++ Deferred r ∷ []) = sym (turns_of-push parts (Deferred r) ∙ append-nil (turns_of_parts parts)) in (
-      Deferred r,
-      refl,
-      refl,
-      record {
-        each = parts_push first.start parts (Deferred r) g.each (subst (λ place. IsPart place (Deferred r)) (sym (known state now first parts g)) due);
-        stands = subst (λ ts. StandsAfter state first ts now) same g.stands;
-      },
-    )
+    let same : turns_of_parts parts ≡ turns_of_parts (parts ++ Deferred r ∷ []) = sym (turns_of-push parts (Deferred r) ∙ append-nil (turns_of_parts parts)) in
+    (Deferred r, refl, refl, record { each = parts_push parts (Deferred r) g.each due; stands = subst (λ ts. StandsAfter state first ts now) same g.stands })
 
 -- it is served
-pub serves : {D : Type 0} {G : Ghosts D} (state : D → DiskState) (old new : Stage D G) (r : Request) (answered : Reply) → is_put_off_by (place_of old.saved.cluster) r ≡ false → IsAnsweredBy r answered → Follows state old (record { request = r; reply = answered }) new → Continues state old r answered new
-serves state old new r answered due is goes = λ first parts g.
+pub serves : {D : Type 0} {G : Ghosts D} (state : D → DiskState) (old new : Stage D G) (r : Request) (answered : Reply) → IsAnsweredBy r answered → Follows state old (record { request = r; reply = answered }) new → Continues state old r answered new
+serves state old new r answered is goes = λ first parts g.
     let turn : Turn = record { request = r; reply = answered } in
-    let same : turns_of_parts parts ++ turn ∷ [] ≡ turns_of_parts (parts ++ Served turn ∷ []) = sym (turns_of-push parts (Served turn)) in (
-      Served turn,
-      refl,
-      refl,
-      record {
-        each = parts_push first.start parts (Served turn) g.each (ap (λ place. is_put_off_by place r) (known state old first parts g) ∙ due, is);
-        stands = subst (λ ts. StandsAfter state first ts new) same (goes first (turns_of_parts parts) g.stands);
-      },
-    )
+    let same : turns_of_parts parts ++ turn ∷ [] ≡ turns_of_parts (parts ++ Served turn ∷ []) = sym (turns_of-push parts (Served turn)) in
+    (Served turn, refl, refl, record { each = parts_push parts (Served turn) g.each is; stands = subst (λ ts. StandsAfter state first ts new) same (goes first (turns_of_parts parts) g.stands) })
 
 -- whatever came of it: it was served, and got a reply
-pub serves_so : {D : Type 0} {G : Ghosts D} (state : D → DiskState) (old new : Stage D G) (r : Request) (answered : Result Reply Lost) → is_put_off_by (place_of old.saved.cluster) r ≡ false → IfOk answered (IsAnsweredBy r) → Serving state old r answered new
+pub serves_so : {D : Type 0} {G : Ghosts D} (state : D → DiskState) (old new : Stage D G) (r : Request) (answered : Result Reply Lost) → IfOk answered (IsAnsweredBy r) → Serving state old r answered new
     → IfOk answered (λ said. placement_after (place_of old.saved.cluster) (inner_turns (record { request = r; reply = said } ∷ [])) ≡ place_of new.saved.cluster) → OnOk answered (MayServeSaved state new.saved new.depot.held)
     → IfOk answered (λ reply. Continues state old r reply new)
-serves_so state old new r (Ok said) due is s stands may = serves state old new r said due is (λ first turns was. served_so state old new first turns r said was s stands may.saved)
-serves_so state old new r (Err e) due is s stands may = tt
+serves_so state old new r (Ok said) is s stands may = serves state old new r said is (λ first turns was. served_so state old new first turns r said was s stands may.saved)
+serves_so state old new r (Err e) is s stands may = tt
 
 -- or it got none, and may have been served
 pub loses_so : {D : Type 0} {G : Ghosts D} (state : D → DiskState) (old new : Stage D G) (r : Request) (answered : Result Reply Lost) → Serving state old r answered new → OnErr answered (Loses state old r new)
@@ -106,7 +82,7 @@ pub goes_begins : {D : Type 0} {G : Ghosts D} (state : D → DiskState) (number 
     → Goes state (opening_at now) number later summary now
 goes_begins state number later summary now fresh all counts = record {
   parts = [];
-  within = record { of_script = sym all; going = record { each = no_parts (state_of now.saved.cluster); stands = begins_so state now fresh } };
+  within = record { of_script = sym all; going = record { each = no_parts; stands = begins_so state now fresh } };
   counts = counts;
 }
 

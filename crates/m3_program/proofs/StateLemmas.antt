@@ -19,6 +19,7 @@ use Rattle.transcripts.specs.Rules.{rules_after, rules_by, start_rules}
 use Rattle.saved_cluster.specs.cluster_members.Steps.{IsMoved, IsSpaceAdded}
 use Rattle.saved_cluster.specs.cluster_members.declared.members.Members.{Members}
 use Rattle.saved_cluster.specs.cluster_placements.Steps.{IsChanged}
+use Rattle.saved_cluster.specs.cluster_tracks.cluster_joins.Boots.{IsBooted}
 use Rattle.saved_cluster.specs.cluster_tracks.Acts.{IsInitAnswer, IsServedBy, IsStepAnswer, OnMembers}
 use Rattle.saved_cluster.specs.served_cluster.Acts.{Serves}
 use Rattle.saved_cluster.specs.served_cluster.Owned.{place_of}
@@ -129,6 +130,25 @@ module _ {D : Type 0} {G : Ghosts D} (state : D → DiskState) where
   moment_on None n now b h = none_goes (act.Now now) b n h.0 h.1 refl refl
   moment_on (Some m) n now b h = called (Some m.net.state) (act.Now now) b n h.0 h.1 (moment_goes m h.0 now b h.2)
 
+  -- a bootstrap
+  boots_goes : (m g : Members D G) (name : List ℕ) (asked : Option ℕ) (b : Answer) → IsBooted state m name asked b g → Goes (Some m.net.state) (act.Bootstrap name asked) b (Some g.net.state)
+  boots_goes m g name asked (answer.Available available next version) (is, h) = record { rules = ap (λ (s : MetaState). s.rules) (sym h.state_is); seed = ap (λ (s : MetaState). s.seed) (sym h.state_is) }
+  boots_goes m g name asked (answer.Peers got needed reasons shard) (peers, is, h) = stays _ _ (act.Bootstrap name asked) (answer.Peers got needed reasons shard) (ap Some h.keeps.keeps.state) refl refl
+  boots_goes m g name asked (answer.Disk node shard) (is, h) = stays _ _ (act.Bootstrap name asked) (answer.Disk node shard) (ap Some h.keeps.keeps.state) refl refl
+  boots_goes m g name asked (answer.Corrupt node shard damage) (is, shown, h) = stays _ _ (act.Bootstrap name asked) (answer.Corrupt node shard damage) (ap Some h.keeps.keeps.state) refl refl
+  boots_goes m g name asked answer.Memory (inl same) = stays _ _ (act.Bootstrap name asked) answer.Memory (ap (λ (x : Members D G). Some x.net.state) same) refl refl
+  boots_goes m g name asked answer.Memory (inr (inl (shard, h))) = stays _ _ (act.Bootstrap name asked) answer.Memory (ap Some h.keeps.keeps.state) refl refl
+  boots_goes m g name asked answer.Memory (inr (inr h)) = stays _ _ (act.Bootstrap name asked) answer.Memory (ap Some h.keeps.keeps.state) refl refl
+  boots_goes m g name asked answer.Full (lacks, h) = stays _ _ (act.Bootstrap name asked) answer.Full (ap Some h.keeps.keeps.state) refl refl
+  boots_goes m g name asked (answer.Limit limit) (is, h) = stays _ _ (act.Bootstrap name asked) (answer.Limit limit) (ap Some h.keeps.keeps.state) refl refl
+  boots_goes m g name asked (answer.Unknown unknown) (which, same) = stays _ _ (act.Bootstrap name asked) (answer.Unknown unknown) (ap (λ (x : Members D G). Some x.net.state) same) refl refl
+  boots_goes m g name asked (answer.State node) (was, has, is, same) = stays _ _ (act.Bootstrap name asked) (answer.State node) (ap (λ (x : Members D G). Some x.net.state) same) refl refl
+  boots_goes m g name asked _ h = absurd h
+
+  boots_on : (o n : Option (Members D G)) (name : List ℕ) (asked : Option ℕ) (b : Answer) → OnMembers o (λ m g. IsBooted state m name asked b g) b n → Goes (state_in o) (act.Bootstrap name asked) b (state_in n)
+  boots_on None n name asked b h = none_goes (act.Bootstrap name asked) b n h.0 h.1 refl refl
+  boots_on (Some m) n name asked b h = called (Some m.net.state) (act.Bootstrap name asked) b n h.0 h.1 (boots_goes m h.0 name asked b h.2)
+
   -- any act
   serves_goes : (depot : Depot D) (old : Cluster D G) (a : Act) (b : Answer) (after : Depot D) (new : Cluster D G) → Serves state depot old a b after new → Goes (state_of old) a b (state_of new)
   serves_goes depot old a b after new h = by a refl h.members
@@ -145,6 +165,7 @@ module _ {D : Type 0} {G : Ghosts D} (state : D → DiskState) where
       by (act.Replace node with_ group) is it = step_goes depot old.members (act.Replace node with_ group) b after new.members (λ r. refl) (λ s. refl) it
       by (act.Namespace name block past future retention) is it = space_on old.members new.members name block past future retention b it.0
       by (act.Now now) is it = moment_on old.members new.members now b it.0
+      by (act.Bootstrap name asked) is it = boots_on old.members new.members name asked b it.0
       by _ is it = subst (λ (y : Act). Goes (state_of old) y b (state_of new)) is (plain (ap saves_by is))
 
 -- ---- one more line

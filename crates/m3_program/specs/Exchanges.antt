@@ -1,11 +1,10 @@
 -- What a run does with one line after the other.
-use Rattle.std.specs.Prelude.{◌≡◌, ◌⊎◌, ℕ, List, [], ◌∷◌, ◌++◌, Option, Ok, Err, Bool, true, false, IsTrue, ◌||◌, ◌==◌}
+use Rattle.std.specs.Prelude.{◌≡◌, ℕ, List, [], ◌∷◌, ◌++◌, Option, Ok, Err, Bool, true, false, ◌||◌, ◌==◌}
 use Rattle.std.specs.List.{list_all, flat_map}
 use Rattle.m3_model.specs.declared.placement.Placement.{Placement}
 use Rattle.m3_model.specs.declared.rules.MetaState.{MetaState}
 use Rattle.m3_model.specs.declared.answer.Answer.{Answer}
 use Rattle.m3_model.specs.declared.answer.Answer.TheVariants as answer
-use Rattle.m3_model.specs.declared.turn.Request.{Request}
 use Rattle.m3_model.specs.declared.turn.Reply.{Reply}
 use Rattle.m3_model.specs.declared.turn.Reply.TheVariants as reply
 use Rattle.m3_model.specs.declared.turn.Turn.{Turn}
@@ -14,7 +13,6 @@ use Rattle.transcripts.specs.Placements.{placement_after, start_placement}
 use Rattle.line_fields.specs.declared.fault.LineErr.TheVariants as fault
 use Rattle.m3_json.specs.Requests.{LineMeans}
 use Rattle.m3_replies.specs.Replies.{reply_text}
-use Rattle.m3_program.specs.Joining.{is_put_off_by}
 
 -- What comes of a line: it is passed over, it is no request that is served, or it makes a turn.
 pub data Outcome : Type 0 where
@@ -52,24 +50,18 @@ known_place start turns = placement_after (start_placement start) (inner_turns t
 abbrev pub reply_line : Option Placement → Reply → List ℕ
 reply_line place r = reply_text place r ++ 10 ∷ []
 
--- the line is a request that the placement puts off
-pub record IsPutOffNow (place : Option Placement) (line : List ℕ) : Type 0 where
-  pub request : Request
-  pub means : LineMeans line (Ok request)
-  pub put_off : IsTrue (is_put_off_by place request)
-
--- why a line is refused without a turn, where this placement stands
-abbrev pub IsRefusal : Option Placement → List ℕ → Answer → Type 0
-IsRefusal place line answer.Form = LineMeans line (Err fault.Form)
-IsRefusal place line answer.Later = LineMeans line (Err fault.Later) ⊎ IsPutOffNow place line
-IsRefusal place line _ = ⊥
+-- why a line is refused without a turn: it is no request, or one that no part of the program serves yet
+abbrev pub IsRefusal : List ℕ → Answer → Type 0
+IsRefusal line answer.Form = LineMeans line (Err fault.Form)
+IsRefusal line answer.Later = LineMeans line (Err fault.Later)
+IsRefusal line _ = ⊥
 
 -- a blank line is passed over; another one is refused, or is a request that is answered in its own shape, after the turns before it
 abbrev pub IsOutcome : Option MetaState → List Turn → List ℕ → Outcome → List ℕ → Type 0
 IsOutcome start turns line Passed text = (is_blank line ≡ true) × (text ≡ [])
-IsOutcome start turns line (Refused refusal) text = (is_blank line ≡ false) × IsRefusal (known_place start turns) line refusal × (text ≡ reply_line (known_place start turns) (reply.One refusal))
+IsOutcome start turns line (Refused refusal) text = (is_blank line ≡ false) × IsRefusal line refusal × (text ≡ reply_line (known_place start turns) (reply.One refusal))
 IsOutcome start turns line (Answered turn) text =
-    (is_blank line ≡ false) × LineMeans line (Ok turn.request) × (is_put_off_by (known_place start turns) turn.request ≡ false) × IsAnsweredBy turn.request turn.reply × (text ≡ reply_line (known_place start (turns ++ turn ∷ [])) turn.reply)
+    (is_blank line ≡ false) × LineMeans line (Ok turn.request) × IsAnsweredBy turn.request turn.reply × (text ≡ reply_line (known_place start (turns ++ turn ∷ [])) turn.reply)
 
 abbrev pub IsExchange : Option MetaState → List Turn → Exchange → Type 0
 IsExchange start turns x = IsOutcome start turns x.line x.outcome x.text

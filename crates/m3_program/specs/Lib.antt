@@ -1,5 +1,4 @@
 pub mod Codes
-pub mod Joining
 pub mod Exchanges
 pub mod Faults
 pub mod FaultLaws

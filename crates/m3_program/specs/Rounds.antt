@@ -13,7 +13,7 @@ use Rattle.m3_program.specs.declared.status.Status.{Status}
 
 -- these parts came of the requests so far, and how the run stands after them
 pub record Going {D : Type 0} {G : Ghosts D} (state : D → DiskState) (first : Opening D) (parts : List Part) (now : Stage D G) : Type 0 where
-  pub each : AreParts first.start parts
+  pub each : AreParts parts
   pub stands : StandsAfter state first (turns_of_parts parts) now
 
 -- the request got this reply, after the parts that came before it
@@ -43,7 +43,7 @@ pub record Stopped {D : Type 0} {G : Ghosts D} (state : D → DiskState) (first 
   pub unanswered : Option Request
   pub of_script : script number ≡ map request_of parts ++ later
   pub taken : IsTaken unanswered later
-  pub each : AreParts first.start parts
+  pub each : AreParts parts
   pub served : HaveServed state first now (turns_of_parts parts) unanswered
 
 -- it ended so, before its disks are given back

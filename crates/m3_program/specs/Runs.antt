@@ -7,6 +7,7 @@ use Rattle.m3_model.specs.declared.rules.MetaState.{MetaState}
 use Rattle.m3_model.specs.declared.turn.Request.{Request}
 use Rattle.transcripts.specs.Faults.{Fault}
 use Rattle.transcripts.specs.Record.{Life, Record}
+use Rattle.transcripts.specs.Joined.{Joined}
 use Rattle.transcripts.specs.Kept.{Kept}
 use Rattle.transcripts.specs.Caused.{Caused}
 use Rattle.m3_outside.specs.DiskState.{DiskState}
@@ -125,13 +126,15 @@ IsFirstRun true state first start = AreEmpty state first.held
 IsFirstRun false state first start = start ≡ None
 
 -- What a run did whose cluster was opened over disks that were so, with the last state that the meta disk had, and that left them so: what a stop leaves of the meta disk has the state that the
--- replies led to. Over empty disks none was found; there the answers have their causes, of which more is said where the disks tell what they hold, and the reads keep what they must.
+-- replies led to. Over empty disks none was found; there the answers have their causes, of which more is said where the disks tell what they hold, and the reads keep what they must. Where none
+-- was found, whatever the disks tell, each node that turned available was joined by a bootstrap that prints a majority of the former replicas.
 pub record HasRun {D : Type 0} (state : D → DiskState) (first now : Depot D) (past : List Record) (start : Option MetaState) (ended : Status) (input left written : List ℕ) : Type 0 where
   pub found : IsFound state first start
   pub none_found : AreEmpty state first.held → start ≡ None
   pub ran : Ran start ended input left written
   pub meta : LeavesMeta state (now.held meta_slot) start (turns_of ran.course.exchanges) ran.course.unanswered
   pub kept : AreEmpty state first.held → Kept (life_with past start ran.course.exchanges ran.course.unanswered)
+  pub joined : start ≡ None → Joined (life_with past start ran.course.exchanges ran.course.unanswered)
   pub causes : (tells : Bool) → IsFirstRun tells state first start → HasCauses tells (counts_of first) (counts_of now) (life_with past start ran.course.exchanges ran.course.unanswered)
 
 -- what any run did: where its cluster wasn't opened, nothing was read or written

@@ -1,14 +1,15 @@
 -- What a run of a script promises.
-use Rattle.std.specs.Prelude.{◌≡◌, ◌⊎◌, List, [], ◌∷◌, ◌++◌, map, ℕ, Option, None, Some, Bool, false, IsTrue}
+use Rattle.std.specs.Prelude.{◌≡◌, List, [], ◌∷◌, ◌++◌, map, ℕ, Option, None, Some, Bool}
 use Rattle.std.specs.List.{flat_map}
+use Rattle.m3_model.specs.Members.{IsIn}
 use Rattle.m3_model.specs.declared.answer.Answer.TheVariants as answer
-use Rattle.m3_model.specs.declared.placement.Placement.{Placement}
 use Rattle.m3_model.specs.declared.rules.MetaState.{MetaState}
 use Rattle.m3_model.specs.declared.turn.Reply.{Reply}
 use Rattle.m3_model.specs.declared.turn.Reply.TheVariants as reply
 use Rattle.m3_model.specs.declared.turn.Request.{Request}
 use Rattle.m3_model.specs.declared.turn.Turn.{Turn}
 use Rattle.served_acts.specs.NotYet.{IsServed}
+use Rattle.transcripts.specs.Joined.{Joined}
 use Rattle.transcripts.specs.Kept.{Kept}
 use Rattle.transcripts.specs.Record.{IsAnsweredBy, Life, Record}
 use Rattle.m3_outside.specs.DiskState.{DiskState}
@@ -16,9 +17,7 @@ use Rattle.m3_outside.specs.Depots.{Depot}
 use Rattle.saved_cluster.specs.first_cluster.Depots.{meta_slot}
 use Rattle.load_gen.specs.Script.{script}
 use Rattle.load_gen.specs.Summaries.{summary_line}
-use Rattle.m3_program.specs.Exchanges.{known_place}
 use Rattle.m3_program.specs.Faults.{AreEmpty, counts_of}
-use Rattle.m3_program.specs.Joining.{is_put_off_by}
 use Rattle.m3_program.specs.Openings.{MayOpen}
 use Rattle.m3_program.specs.Runs.{HasCauses, IsFirstRun}
 use Rattle.m3_program.specs.Saved.{IsFound, LeavesMeta}
@@ -46,14 +45,14 @@ turns_of_part (Served turn) = turn ∷ []
 abbrev pub turns_of_parts : List Part → List Turn
 turns_of_parts parts = flat_map turns_of_part parts
 
--- Where this placement stands a request is put off only if no part of the program serves it, or none by this placement; and a served one is answered in its own shape.
-abbrev pub IsPart : Option Placement → Part → Type 0
-IsPart place (Deferred request) = ¬ IsServed request ⊎ IsTrue (is_put_off_by place request)
-IsPart place (Served turn) = (is_put_off_by place turn.request ≡ false) × IsAnsweredBy turn.request turn.reply
+-- A request is put off only if no part of the program serves it; and a served one is answered in its own shape.
+abbrev pub IsPart : Part → Type 0
+IsPart (Deferred request) = ¬ IsServed request
+IsPart (Served turn) = IsAnsweredBy turn.request turn.reply
 
--- each part comes after the turns of those before it
-abbrev pub AreParts : Option MetaState → List Part → Type 0
-AreParts start parts = (before : List Part) (part : Part) (after : List Part) → parts ≡ before ++ part ∷ after → IsPart (known_place start (turns_of_parts before)) part
+-- so is each of these
+abbrev pub AreParts : List Part → Type 0
+AreParts parts = (part : Part) → IsIn parts part → IsPart part
 
 -- the next request is the one that was taken and got no reply, if there is one
 abbrev pub IsTaken : Option Request → List Request → Type 0
@@ -61,14 +60,14 @@ IsTaken None later = Unit {0}
 IsTaken (Some request) [] = ⊥
 IsTaken (Some request) (next ∷ later) = next ≡ request
 
--- The course of a run of a number's script that opened with this state: what came of its requests in their order, as far as it got; the next one was taken and got no reply, or none was.
-pub record Play (start : Option MetaState) (number : ℕ) : Type 0 where
+-- The course of a run of a number's script: what came of its requests in their order, as far as it got; the next one was taken and got no reply, or none was.
+pub record Play (number : ℕ) : Type 0 where
   pub parts : List Part
   pub later : List Request
   pub unanswered : Option Request
   pub of_script : script number ≡ map request_of parts ++ later
   pub taken : IsTaken unanswered later
-  pub each : AreParts start parts
+  pub each : AreParts parts
 
 -- how far a run got that ended so: to the end of the script, and then its summary is written, or a front of that; or the meta disk failed or memory was wanted before
 abbrev pub PlayedTo : Status → List Part → List Request → List ℕ → Type 0
@@ -91,10 +90,11 @@ life_of_parts past start parts unanswered = record { past = past; present = reco
 pub record HasGenerated {D : Type 0} (state : D → DiskState) (first now : Depot D) (past : List Record) (start : Option MetaState) (number : ℕ) (ended : Status) (written : List ℕ) : Type 0 where
   pub found : IsFound state first start
   pub none_found : AreEmpty state first.held → start ≡ None
-  pub course : Play start number
+  pub course : Play number
   pub played_to : PlayedTo ended course.parts course.later written
   pub meta : LeavesMeta state (now.held meta_slot) start (turns_of_parts course.parts) course.unanswered
   pub kept : AreEmpty state first.held → Kept (life_of_parts past start course.parts course.unanswered)
+  pub joined : start ≡ None → Joined (life_of_parts past start course.parts course.unanswered)
   pub causes : (tells : Bool) → IsFirstRun tells state first start → HasCauses tells (counts_of first) (counts_of now) (life_of_parts past start course.parts course.unanswered)
 
 -- what any run of it did: where its cluster wasn't opened, nothing was written

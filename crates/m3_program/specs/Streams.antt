@@ -10,6 +10,7 @@ use Rattle.m3_outside.specs.Slots.{Held}
 use Rattle.m3_outside.specs.declared.slot.DiskSlot.{DiskSlot}
 use Rattle.m3_json.specs.Requests.{LineMeans}
 use Rattle.m3_outside.specs.Depots.{Depot, TellAll}
+use Rattle.transcripts.specs.Joined.{Joined}
 use Rattle.saved_cluster.specs.first_cluster.Bare.{AreBare}
 use Rattle.saved_cluster.specs.first_cluster.Depots.{meta_slot}
 use Rattle.saved_cluster.specs.served_cluster.Owned.{TracksTurns}
@@ -70,11 +71,12 @@ pub record AreTracked {D : Type 0} {G : Ghosts D} (state : D → DiskState) (tel
   pub few : length more ≤ one_for unanswered
   pub tracks : TracksTurns state tells first.depot now.depot (turns ++ more) now.saved.cluster
 
--- So it is after these turns and the request that was taken and got no reply; and what a stop leaves of the meta disk has the state that the turns left, or the one to which the request leads.
+-- So it is after these turns and the request that was taken and got no reply; what a stop leaves of the meta disk has the state that the turns left, or the one to which the request leads; and in a first run whoever turned available was joined.
 pub record HaveServed {D : Type 0} {G : Ghosts D} (state : D → DiskState) (first : Opening D) (now : Stage D G) (turns : List Turn) (unanswered : Option Request) : Type 0 where
   pub leaves : StopsLeave (state now.saved.meta) first.start turns unanswered
   pub counted : now.depot.counted meta_slot ≡ first.depot.counted meta_slot
   pub tracked : (tells : Bool) → MayTrack state tells first → AreTracked state tells first now turns unanswered
+  pub joined : first.start ≡ None → Joined (record { past = []; present = record { start = first.start; turns = turns; unanswered = unanswered } })
 
 -- so it is after these exchanges
 abbrev pub PromisesSo : {D : Type 0} {G : Ghosts D} → (D → DiskState) → Opening D → Stage D G → List Exchange → Option Request → Type 0

@@ -6,7 +6,6 @@ ghost use Rattle.saved_cluster.specs.declared.lost.Lost.TheVariants as lost;
 ghost use Rattle.m3_program.specs.Exchanges.{is_blank, reply_line};
 ghost use Rattle.m3_program.specs.Streams.{Advances, Drops, stage};
 
-use crate::joining::is_put_off_by;
 use line_fields::LineErr;
 use m3_json::read_line;
 use m3_model::{Answer, Placement, Reply};
@@ -78,17 +77,10 @@ pub fn answer_line<X: Disks>(
         return Ok(());
     }
     match read_line(alloc, line) {
-        Ok(request) => {
-            if is_put_off_by(cluster.place(), &request) {
-                drop(request);
-                let later = Reply::One(Answer::Later);
-                return put_reply(alloc, replies, &later, cluster.place());
-            }
-            match cluster.serve(alloc, disks, request) {
-                Ok(reply) => put_reply(alloc, replies, &reply, cluster.place()),
-                Err(lost) => Err(lost),
-            }
-        }
+        Ok(request) => match cluster.serve(alloc, disks, request) {
+            Ok(reply) => put_reply(alloc, replies, &reply, cluster.place()),
+            Err(lost) => Err(lost),
+        },
         Err(LineErr::Form) => {
             put_reply(alloc, replies, &Reply::One(Answer::Form), cluster.place())
         }

@@ -3,7 +3,6 @@
 
 mod exchange;
 mod input;
-mod joining;
 pub mod laws;
 mod output;
 pub mod run;

@@ -8,7 +8,6 @@ ghost use Rattle.m3_program.specs.Causes.{EndsScript};
 ghost use Rattle.m3_program.specs.Rounds.{Continues, Goes, HasPlayed, Loses, Stopped};
 ghost use Rattle.m3_program.specs.Streams.{IsFresh, opening_at, stage};
 
-use crate::joining::is_put_off_by;
 use crate::output::write_all;
 use crate::status::Status;
 use load_gen::{Script, Summary};
@@ -18,7 +17,7 @@ use m3_outside::{Disks, Sink};
 use saved_cluster::{Lost, SavedCluster};
 use std::alloc::Global;
 
-// Serves a request, or answers that no part of the program serves it yet, or not by the placement that stands.
+// Serves a request, or answers that no part of the program serves it yet.
 fn serve_request<X: Disks>(
     alloc: Global,
     cluster: &mut SavedCluster<X::D>,
@@ -36,10 +35,6 @@ fn serve_request<X: Disks>(
     ensures meta { CountsFaults (IsErrOf result lost.Meta) (X.D.state cluster.old.meta).faults (X.D.state cluster.new.meta).faults }
 {
     if !is_served(&request) {
-        drop(request);
-        return Ok(Reply::One(Answer::Later));
-    }
-    if is_put_off_by(cluster.place(), &request) {
         drop(request);
         return Ok(Reply::One(Answer::Later));
     }

@@ -31,8 +31,8 @@ fn stops_leave_one_of_two(rt: HostRuntime) -> Result<(), Fail> {
     Ok(())
 }
 
-// No write is pending beside more than one other.
-const PICKS: u64 = 16;
+// Those that decide four pending writes in every way.
+const PICKS: u64 = 256;
 
 #[test]
 fn each_pick_leaves_one_of_two(rt: HostRuntime) -> Result<(), Fail> {

@@ -347,7 +347,7 @@ full-refused caused =
     elim (caused.each p (position_after-stands (begun 100 []) (write 100 (pos 5)) answer.Full [])) as (λ _. ⊥) [
       | inl e ↦ cc
       | inr told ↦ elim told as (λ _. ⊥) [
-        | inl full ↦ not_many full.1.requests full.1.writes full.1.requests_are full.1.writes_are full.1.many
+        | inl full ↦ (let many = full.1 refl in not_many many.requests many.writes many.requests_are many.writes_are many.many)
         | inr is_due ↦ own_of is_due.0 is_due.1 is_due.2
       ]
     ]

@@ -55,13 +55,13 @@ opened : (from : Placement) (name : List ℕ) (asked : Option ℕ) (b : Answer) 
 opened from name asked b here = caused_by_positions true [] (reopened_with from (bootstrap name asked b ∷ [])) tt refl (only (due_from true [] [] (Some (held from)) [] [] _ _ here) also tt)
 
 pub ended-caused : Caused true (reopened_moving (a_joined ∷ [])) []
-ended-caused = opened b_to_a (codes "a") None a_took (record { before = b_to_a; stands = ([], after_all [] _ _, refl); made = inl refl; left = ends None refl; version_is = refl })
+ended-caused = opened b_to_a (codes "a") None a_took (record { before = b_to_a; stands = ([], after_all [] _ _, refl); made = inl refl; room = omega arith; left = ends None refl; version_is = refl })
 
 pub passed_over-caused : Caused true (reopened_moving (bootstrap (codes "a") None (answer.Available [] b_to_a 2) ∷ [])) []
-passed_over-caused = opened b_to_a (codes "a") None (answer.Available [] b_to_a 2) (record { before = b_to_a; stands = ([], after_all [] _ _, refl); made = inl refl; left = refl; version_is = refl })
+passed_over-caused = opened b_to_a (codes "a") None (answer.Available [] b_to_a 2) (record { before = b_to_a; stands = ([], after_all [] _ _, refl); made = inl refl; room = tt; left = refl; version_is = refl })
 
 pub of_shard-caused : Caused true (reopened_moving (bootstrap (codes "a") (Some 1) a_took ∷ [])) []
-of_shard-caused = opened b_to_a (codes "a") (Some 1) a_took (record { before = b_to_a; stands = ([], after_all [] _ _, refl); made = inl refl; left = ends (Some 1) refl; version_is = refl })
+of_shard-caused = opened b_to_a (codes "a") (Some 1) a_took (record { before = b_to_a; stands = ([], after_all [] _ _, refl); made = inl refl; room = omega arith; left = ends (Some 1) refl; version_is = refl })
 
 -- ---- refused
 
@@ -172,6 +172,7 @@ both-caused =
       before = both_to_a;
       stands = ([], after_all [] _ _, refl);
       made = inl refl;
+      room = omega arith;
       left = record {
         node = 0;
         named = record { instance_ = _; stands = refl; holds = refl };
@@ -190,6 +191,7 @@ first-caused =
       before = both_to_a;
       stands = ([], after_all [] _ _, refl);
       made = inl refl;
+      room = omega arith;
       left = record {
         node = 0;
         named = record { instance_ = _; stands = refl; holds = refl };

@@ -49,7 +49,7 @@ bootstrapped-refused faults caused =
 pub ended-caused : Caused true (reopened_moving (a_joined ∷ stopped (codes "b") ∷ restart (codes "b") (answer.Disk (codes "b") 1) ∷ [])) (fails_at 2 1 ∷ [])
 ended-caused =
     caused_by_positions true (fails_at 2 1 ∷ []) (reopened_moving (a_joined ∷ stopped (codes "b") ∷ restart (codes "b") (answer.Disk (codes "b") 1) ∷ [])) ((λ none. none), tt) refl (
-    only (due_from true (fails_at 2 1 ∷ []) [] (Some (held b_to_a)) [] _ _ _ (record { before = b_to_a; stands = ([], after_all [] _ _, refl); made = inl refl; left = ends None refl; version_is = refl }))
+    only (due_from true (fails_at 2 1 ∷ []) [] (Some (held b_to_a)) [] _ _ _ (record { before = b_to_a; stands = ([], after_all [] _ _, refl); made = inl refl; room = omega arith; left = ends None refl; version_is = refl }))
     also only (due_from true (fails_at 2 1 ∷ []) [] (Some (held b_to_a)) [] _ _ _ tt)
     also only (due_from true (fails_at 2 1 ∷ []) [] (Some (held b_to_a)) [] _ _ _ (refl, (1, record { place = on_a; stands = (_, after_all (a_joined ∷ stopped (codes "b") ∷ []) _ _, refl); named = record { instance_ = _; stands = refl; holds = refl } }, record { place = b_to_a; known = inl refl; member = refl }, inl refl)))
     also tt)

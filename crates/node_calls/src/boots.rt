@@ -13,8 +13,8 @@ use m3_model::{Answer, Duplicate, Seq, Text};
 use m3_outside::Disk;
 use std::alloc::Global;
 
-// The shard that is asked for, where there aren't so many.
-fn missing_shard(asked: Option<u32>, shards: usize) -> Option<u32>
+/// The shard that is asked for, where there aren't so many.
+pub fn missing_shard(asked: Option<u32>, shards: usize) -> Option<u32>
     ensures some { IfSome result (λ shard. (asked ≡ Some shard) × (shards ≤ shard)) }
     ensures none { IfNone result (IfSome asked (λ shard. shard < shards)) }
 {
@@ -24,8 +24,8 @@ fn missing_shard(asked: Option<u32>, shards: usize) -> Option<u32>
     }
 }
 
-// That there is no shard of this number.
-fn unknown_shard(alloc: Global, shard: u32) -> Answer
+/// That there is no shard of this number, or that memory is wanted to say so.
+pub fn unknown_shard(alloc: Global, shard: u32) -> Answer
     ensures { IsNumberOf shard result }
 {
     match format!(in alloc; "{shard}") {

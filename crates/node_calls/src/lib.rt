@@ -7,9 +7,9 @@ mod halts;
 pub mod nodes;
 mod refused;
 
-pub use boots::{bootstrap, restart};
+pub use boots::{bootstrap, missing_shard, restart, unknown_shard};
 pub use cluster_members::Members;
-pub use nodes::{deliver, set_fates, stop};
+pub use nodes::{deliver, node_named, set_fates, stop};
 
 // Of libraries that the rows of crates above need not name: what these crates name of them.
 /// Of `cluster_members`.

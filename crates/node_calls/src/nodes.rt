@@ -16,7 +16,7 @@ use net_plan::Fates;
 use std::alloc::Global;
 
 /// The number of the listed node of this name. There are at most 16.
-pub(crate) fn node_named(instances: &[Instance], name: &str) -> Option<usize>
+pub fn node_named(instances: &[Instance], name: &str) -> Option<usize>
     ensures found { result ≡ node_named name.now instances.now }
     ensures below { IfSome result (λ node. node < length instances.now) }
 {

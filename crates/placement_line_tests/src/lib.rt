@@ -6,6 +6,10 @@ mod limits;
 #[cfg(test)]
 mod lines;
 #[cfg(test)]
+mod model;
+#[cfg(test)]
 mod moves;
+#[cfg(test)]
+mod random;
 #[cfg(test)]
 mod refusals;

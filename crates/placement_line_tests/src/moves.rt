@@ -17,15 +17,11 @@ pub const CANCELLED: &str = r#"{"op":"now","now":100}
 {"op":"replace","node":"b","by":"e","group":"g2"}
 {"ok":true,"placement":{"instances":[["a","g1",false],["b","g2",true],["c","g3",false],["d","g1",false],["e","g2",false]],"rf":3,"shards":[[["a","available",1],["b","leaving",1],["c","available",1],["e","initializing",4,"b"]]]},"version":4}"#;
 
-// A replica that is joining can't be bootstrapped yet, also where its node is stopped or others are.
+// A bootstrap that covers a replica which is joining ends its move, once; not one of its source, nor where the node is stopped.
 pub const JOINING: &str = r#"{"op":"now","now":100}
 {"ok":true}
 {"op":"replace","node":"a","by":"d","group":"g1"}
 {"ok":true,"placement":{"instances":[["a","g1",true],["b","g2",false],["c","g3",false],["d","g1",false]],"rf":3,"shards":[[["a","leaving",1],["b","available",1],["c","available",1],["d","initializing",2,"a"]]]},"version":2}
-{"op":"bootstrap","node":"d"}
-{"code":16,"error":"later","ok":false}
-{"op":"bootstrap","node":"d","shard":0}
-{"code":16,"error":"later","ok":false}
 {"op":"bootstrap","node":"d","shard":1}
 {"code":4,"error":"unknown","name":"1","ok":false}
 {"op":"bootstrap","node":"a"}
@@ -33,11 +29,15 @@ pub const JOINING: &str = r#"{"op":"now","now":100}
 {"op":"stop","node":"d"}
 {"ok":true}
 {"op":"bootstrap","node":"d"}
-{"code":16,"error":"later","ok":false}
-{"op":"cancel","node":"d"}
-{"ok":true,"placement":{"instances":[["a","g1",false],["b","g2",false],["c","g3",false],["d","g1",false]],"rf":3,"shards":[[["a","available",1],["b","available",1],["c","available",1]]]},"version":3}
+{"code":12,"error":"state","node":"d","ok":false}
+{"op":"restart","node":"d"}
+{"ok":true}
+{"op":"bootstrap","node":"d","shard":0}
+{"available":[[0,["a","b"]]],"ok":true,"placement":{"instances":[["a","g1",true],["b","g2",false],["c","g3",false],["d","g1",false]],"rf":3,"shards":[[["b","available",1],["c","available",1],["d","available",2]]]},"version":3}
 {"op":"bootstrap","node":"d"}
-{"code":12,"error":"state","node":"d","ok":false}"#;
+{"available":[],"ok":true,"placement":{"instances":[["a","g1",true],["b","g2",false],["c","g3",false],["d","g1",false]],"rf":3,"shards":[[["b","available",1],["c","available",1],["d","available",2]]]},"version":3}
+{"op":"cancel","node":"d"}
+{"ok":true,"placement":{"instances":[["a","g1",true],["b","g2",false],["c","g3",false],["d","g1",false]],"rf":3,"shards":[[["b","available",1],["c","available",1],["d","available",2]]]},"version":4}"#;
 
 // While a shard moves two of its three replicas count. All get the write, and a call at a version goes by the placement of that version.
 pub const COUNTED: &str = r#"{"op":"now","now":100}

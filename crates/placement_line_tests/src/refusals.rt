@@ -130,10 +130,6 @@ pub const SPREAD: &str = r#"{"op":"init","rf":2,"shards":2,"seed":0,"nodes":[["a
 {"code":9,"error":"group","ok":false,"shard":0}
 {"op":"add","node":"d","group":"g3"}
 {"ok":true,"placement":{"instances":[["a","g1",false],["b","g2",false],["c","g2",false],["d","g3",false]],"rf":2,"shards":[[["a","leaving",1],["b","available",1],["d","initializing",4,"a"]],[["a","available",1],["b","available",1]]]},"version":4}
-{"op":"bootstrap","node":"d"}
-{"code":16,"error":"later","ok":false}
-{"op":"bootstrap","node":"d","shard":0}
-{"code":16,"error":"later","ok":false}
 {"op":"bootstrap","node":"d","shard":1}
 {"available":[],"ok":true,"placement":{"instances":[["a","g1",false],["b","g2",false],["c","g2",false],["d","g3",false]],"rf":2,"shards":[[["a","leaving",1],["b","available",1],["d","initializing",4,"a"]],[["a","available",1],["b","available",1]]]},"version":4}
 {"op":"cancel","node":"d"}

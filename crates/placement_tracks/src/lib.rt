@@ -23,7 +23,7 @@ pub mod of_first_cluster {
 }
 /// Of `node_calls`.
 pub mod of_node_calls {
-    pub use act_lines::of_node_calls::{bootstrap, deliver, restart, set_fates, stop};
+    pub use act_lines::of_node_calls::{deliver, restart, set_fates, stop};
 }
 /// Of `replica_calls`.
 pub mod of_replica_calls {

@@ -1,9 +1,9 @@
-//! Thousands of points of one series: put, flushed block by block, ticked, restarted and read.
+//! Thousands of points of one series: put, flushed block by block, ticked, restarted, read and streamed.
 ghost use Rattle.std.specs.Prelude.{◌≤◌};
 
 use m3_model::{Memory, Point, Text};
 use mem_disk::MemDisk;
-use replica_stories::{Replica, steps, wide_rules};
+use replica_stories::{Replica, steps, stream, wide_rules};
 use std::alloc::Global;
 use std::test::Fail;
 
@@ -63,11 +63,16 @@ fn last_day(mut replica: Replica<MemDisk>, said: String) -> Result<String, Memor
     Ok(format!(in alloc; "{said} {read} {order}")?)
 }
 
-// What the replica says of these days: between them it ticks, takes a snapshot and starts again.
-fn days(alloc: Global) -> Result<String, Memory> {
+// A replica at Boot on a disk of its own.
+fn fresh(alloc: Global) -> Result<Replica<MemDisk>, Memory> {
     let disk = MemDisk::new(alloc, &[], None)?;
     let rules = wide_rules(alloc)?;
-    let mut replica = Replica::new(alloc, disk, rules);
+    Ok(Replica::new(alloc, disk, rules))
+}
+
+// What the replica says of these days: between them it ticks, takes a snapshot and starts again.
+fn days(alloc: Global) -> Result<String, Memory> {
+    let mut replica = fresh(alloc)?;
     let mut said = first_day(&mut replica)?;
     let (replica, _) = steps(replica, "n x n s c b1 n", &mut said)?;
     last_day(replica, said)
@@ -78,6 +83,44 @@ fn days(alloc: Global) -> Result<String, Memory> {
 fn many_points_are_flushed(rt: HostRuntime) -> Result<(), Fail> {
     let said = days(rt.alloc())?;
     let due = "10000 50 4699 1 50 0|5200|24 0|1| 1 1 1|1 of 4800|24 0| 4699 1";
+    assert_eq!(rt; said.as_str(), due);
+    Ok(())
+}
+
+// Streams all points of one replica into the other: how many pages and points these were, and how many points were new.
+fn tell_stream(
+    from: &mut Replica<MemDisk>,
+    into: &mut Replica<MemDisk>,
+    out: &mut String,
+) -> Result<(), Memory> {
+    match stream(from, into, true) {
+        Ok(came) => write!(out, "{} {} {}|", came.pages, came.points, came.merged)?,
+        Err(_) => out.push_str("refused|")?,
+    }
+    Ok(())
+}
+
+// The points of the first day, streamed twice into a replica that begins without any.
+fn streams(alloc: Global, from: &mut Replica<MemDisk>) -> Result<String, Memory> {
+    let mut said = first_day(from)?;
+    let mut into = fresh(alloc)?;
+    let _ = into.boot(1);
+    into.set_moment(10_300);
+    tell_stream(from, &mut into, &mut said)?;
+    tell_stream(from, &mut into, &mut said)?;
+    last_day(into, said)
+}
+
+fn streams_of_a_replica(alloc: Global) -> Result<String, Memory> {
+    let mut from = fresh(alloc)?;
+    streams(alloc, &mut from)
+}
+
+// 10,000 points in 50 volumes are 157 pages, of which the last one has 16 points. Each of them is new once.
+#[test]
+fn many_points_are_streamed(rt: HostRuntime) -> Result<(), Fail> {
+    let said = streams_of_a_replica(rt.alloc())?;
+    let due = "10000 50 4699 1 157 10000 10000|157 10000 0| 4699 1";
     assert_eq!(rt; said.as_str(), due);
     Ok(())
 }

@@ -1,4 +1,4 @@
-//! Tests of a replica with thousands of points that it flushes, ticks, restarts over and reads, on a disk in memory.
+//! Tests of a replica with thousands of points that it flushes, ticks, restarts over, reads and streams, on a disk in memory.
 #![tactic(auto)]
 
 #[cfg(test)]

@@ -4,7 +4,7 @@ ghost use Rattle.std.specs.List.{All};
 ghost use Rattle.std.specs.Option.{option_copied};
 ghost use Rattle.replica_exchange.specs.m3_model.Reads.{space_picked};
 ghost use Rattle.replica_exchange.specs.wire_bytes.Entries.{IsBounded};
-ghost use Rattle.replica_exchange.specs.cluster_core.Earlier.{HasClock, HasSend, HasTenure};
+ghost use Rattle.replica_exchange.specs.cluster_core.Earlier.{HasClock, HasPage, HasSend, HasTenure};
 ghost use Rattle.replica_exchange.specs.cluster_core.Replicas.{replica, fresh};
 ghost use Rattle.replica_exchange.specs.cluster_core.declared.event.StepCall.TheVariants as call;
 ghost use Rattle.replica_exchange.specs.cluster_core.declared.event.StepReply.TheVariants as reply;
@@ -12,16 +12,16 @@ ghost use Rattle.event_book.specs.Lists.{most_entries};
 ghost use Rattle.replica_exchange.specs.event_trail.Trails.{IsLegalOver, IsLawfulOver};
 ghost use Rattle.replica_exchange.specs.MachineCalls.{HasRoom};
 ghost use Rattle.replica_exchange.specs.Exchanges.{seen_in, IsNothing, HasAdded};
-ghost use Rattle.replica_exchange.specs.Promises.{Begins, Puts, Reads, Flushes, Ticks, Saves, Fences, Ends, Stops, Restarts, Reports};
+ghost use Rattle.replica_exchange.specs.Promises.{Begins, Puts, Reads, Pages, Merges, Flushes, Ticks, Saves, Fences, Ends, Stops, Restarts, Reports};
 ghost use Rattle.replica_calls.specs.Calls.{first_member, AreMembersOf, MayCall, MayTell, IsNoStep};
 
 use event_book::Full;
 use replica_exchange::of_event_trail::{EventView, Trail};
-use replica_exchange::of_m3_model::{Pick, Point, Reason, Report, Rules, Seq, Series};
+use replica_exchange::of_m3_model::{Key, Page, Pick, Point, Reason, Report, Rules, Seq, Series};
 use replica_exchange::of_m3_outside::Disk;
 use replica_exchange::{
-    CallErr, CallId, Machine, Member, Slot, boot_on, end_on, fence_on, flush_on, put_on, read_on,
-    report_on, restart_on, snapshot_on, stop_on, tick_on,
+    CallErr, CallId, Machine, Member, Slot, boot_on, end_on, fence_on, flush_on, merge_on, page_on,
+    put_on, read_on, report_on, restart_on, snapshot_on, stop_on, tick_on,
 };
 use std::alloc::Global;
 use std::collections::BTreeMap;
@@ -210,6 +210,39 @@ impl<D: Disk> Replicas<D> {
                 from,
                 to,
             ),
+            None => Err(CallErr::Refused(Reason::NotOwned)),
+        }
+    }
+
+    /// Has the replica at the slot give the page of the first points above the key that it holds, the first 64 or all that there are. It goes
+    /// on from the key of its last point exactly where a point stands above that; without a key it has the first points of all.
+    ///
+    /// # Errors
+    ///
+    /// The replica's reason. `NotOwned` where the slot has no replica, or `Full` where the list has no room for two events: these change
+    /// nothing.
+    pub fn page(&mut self, slot: Slot, after: Option<&Key>) -> Result<Page, CallErr>
+        ensures { MayCall D.state slot (call.Page (option_copied after.entry)) (λ page. reply.Paged page) (Pages D.state (option_copied after.entry)) (λ page. page) result self.old self.new }
+    {
+        match self.map.get_mut(&slot) {
+            Some(member) => page_on(member, &mut self.trail, slot, after),
+            None => Err(CallErr::Refused(Reason::NotOwned)),
+        }
+    }
+
+    /// Has the replica at the slot merge a page that a replica of its shard gave, and answers how many of its points were new to it or
+    /// raised what stood at their keys.
+    ///
+    /// # Errors
+    ///
+    /// The replica's reason. `NotOwned` where the slot has no replica, or `Full` where the list has no room for two events: these change
+    /// nothing.
+    pub fn merge(&mut self, slot: Slot, page: &Page) -> Result<u64, CallErr>
+        requires given { HasPage self.old.events slot.shard page.now }
+        ensures { MayCall D.state slot (call.Merge page.now) (λ n. reply.Count n) (Merges D.state page.now) (λ n. n) result self.old self.new }
+    {
+        match self.map.get_mut(&slot) {
+            Some(member) => merge_on(member, &mut self.trail, slot, page),
             None => Err(CallErr::Refused(Reason::NotOwned)),
         }
     }

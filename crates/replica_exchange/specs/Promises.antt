@@ -1,10 +1,12 @@
 -- What a machine promises of each of its calls: what it answers, and what it is then.
-use Rattle.std.specs.Prelude.{◌≡◌, ◌≢◌, ◌↔◌, ◌-◌, ℕ, ⊤, ◌<◌, ◌≤◌, max, true, List, None, Result, Ok, OnOk, IfOk, IfErr, IsErrOf, length}
+use Rattle.std.specs.Prelude.{◌≡◌, ◌≢◌, ◌↔◌, ◌-◌, ℕ, ⊤, ◌<◌, ◌≤◌, max, true, List, Option, None, Result, Ok, OnOk, IfOk, IfErr, IsErrOf, length}
 use Rattle.std.specs.FinMap as finite
 use Rattle.replica_machine.specs.m3_model.Contents.{raised}
 use Rattle.replica_machine.specs.m3_model.Reads.{IsOrdered}
 use Rattle.replica_machine.specs.m3_model.Rules.{InWindow}
 use Rattle.replica_machine.specs.m3_model.declared.limits.TheConstants.{MOST_REPLICA_POINTS}
+use Rattle.replica_machine.specs.m3_model.declared.point.Key.{Key}
+use Rattle.replica_machine.specs.m3_model.declared.point.Page.{Page}
 use Rattle.replica_machine.specs.m3_model.declared.point.Pick.{Pick}
 use Rattle.replica_machine.specs.m3_model.declared.point.Point.{Point}
 use Rattle.replica_machine.specs.m3_model.declared.point.Series.{Series}
@@ -17,6 +19,7 @@ use Rattle.replica_machine.specs.m3_model.declared.rules.Rules.{Rules}
 use Rattle.replica_machine.specs.m3_outside.DiskCalls.{LeavesFiles}
 use Rattle.replica_machine.specs.m3_outside.DiskState.{DiskState, Told, Becomes}
 use Rattle.replica_machine.specs.block_buffer.Held.{without, has_expired}
+use Rattle.replica_machine.specs.first_points.Firsts.{IsPageOf}
 use Rattle.replica_machine.specs.commit_log.Contents.{numbers}
 use Rattle.replica_machine.specs.shard_files.Gains.{a_point, a_fence, a_tenure}
 use Rattle.replica_machine.specs.shard_files.Keeps.{HoldContent, Rearranges}
@@ -27,6 +30,9 @@ use Rattle.replica_machine.specs.cluster_core.declared.event.StepCall.{StepCall}
 use Rattle.replica_machine.specs.Boots.{BeganFrom, BeganAgain, MayBeUnowned, IsRefused, IsBootReason}
 use Rattle.replica_machine.specs.Damages.{IsDamageOf, IsFileDamage}
 use Rattle.replica_machine.specs.Machines.{MachineState, shut_machine, refusal, IsOwn, IsRefusedFor, IsLiveAnswer}
+use Rattle.replica_machine.specs.Beside.{risen_in}
+use Rattle.replica_machine.specs.Merged.{IsMerged}
+use Rattle.replica_machine.specs.Whole.{BringsWhole, of_points}
 use Rattle.replica_machine.specs.Reading.{IsRefusedReading}
 use Rattle.replica_machine.specs.Steps.{BringsTo, RestartsTo}
 use Rattle.replica_machine.specs.Upkeep.{IsFlushed, IsPartFlushed, IsSaved, IsTicked}
@@ -69,6 +75,25 @@ module _ {D : Type 0} (state : D → DiskState) where
     pub form : (damage : Damage) → IsErrOf said (reason.Corrupt damage) → IsFileDamage damage
     pub disk : LeavesFiles (IsErrOf said reason.Disk) (state old.disk) (state new.disk)
 
+  -- it gives the page of the first points above the key, and stays, unless a fault or damage closed it
+  pub record Pages (after : Option Key) (c : StepCall) (said : Result Page Reason) (old new : MachineState D) : Type 0 where
+    pub ok : (state old.disk).tells ≡ true → IfOk said (IsPageOf old.content after)
+    pub stays : OnOk said (new ≡ record old { disk = new.disk })
+    pub err : IfErr said (IsRefused old new)
+    pub plain : refusal old c ≢ None → new ≡ old
+    pub refused : IsRefusedReading state (refusal old c) old said
+    pub form : (damage : Damage) → IsErrOf said (reason.Corrupt damage) → IsFileDamage damage
+    pub disk : LeavesFiles (IsErrOf said reason.Disk) (state old.disk) (state new.disk)
+
+  -- It joins the points of the page, and answers how many were new to it or raised what it had. A fault or damage of its files closes it.
+  pub record Merges (page : Page) (c : StepCall) (said : Result ℕ Reason) (old new : MachineState D) : Type 0 where
+    pub ok : IfOk said (IsMerged state page.points old new)
+    pub err : IfErr said (IsRefused old new)
+    pub plain : refusal old c ≢ None → new ≡ old
+    pub refused : IsRefusedReading state (refusal old c) old said
+    pub form : (damage : Damage) → IsErrOf said (reason.Corrupt damage) → IsFileDamage damage
+    pub disk : BringsWhole (of_points (risen_in old.content page.points)) (IsErrOf said reason.Disk) said (state old.disk) (state new.disk)
+
   -- it raises its fence, or keeps all that it had, unless a fault closed it
   pub record Fences (version : ℕ) (c : StepCall) (said : Result ⊤ Reason) (old new : MachineState D) : Type 0 where
     pub ok : OnOk said (new ≡ record old { disk = new.disk; fence = max old.fence version })
@@ -91,7 +116,7 @@ module _ {D : Type 0} (state : D → DiskState) where
 
   -- It takes away what has expired, and answers how many keys its content lost. A fault or damage of its files closes it.
   pub record Ticks (rules : Rules) (c : StepCall) (said : Result ℕ Reason) (old new : MachineState D) : Type 0 where
-    pub ok : OnOk said (IsTicked state rules old new)
+    pub ok : IfOk said (IsTicked state rules old new)
     pub lost : (state old.disk).tells ≡ true → IfOk said (λ n. n ≡ finite.len old.content - finite.len new.content)
     pub there : OnOk said (Told (state old.disk) (HoldContent new.content))
     pub err : IfErr said (IsRefused old new)

@@ -2,27 +2,29 @@
 //! is given is the replica of the slot, and stays so. Replicas of other slots stay as the list has them.
 ghost use Rattle.std.specs.Prelude.{◌≡◌, ◌<◌, ◌≤◌, [], ◌∷◌, ◌++◌, length};
 ghost use Rattle.std.specs.List.{All};
+ghost use Rattle.std.specs.Option.{option_copied};
 ghost use Rattle.replica_machine.specs.m3_model.Reads.{space_picked};
 ghost use Rattle.replica_machine.specs.wire_bytes.Entries.{IsBounded};
-ghost use Rattle.replica_machine.specs.cluster_core.Earlier.{HasClock, HasSend, HasTenure};
+ghost use Rattle.replica_machine.specs.cluster_core.Earlier.{HasClock, HasPage, HasSend, HasTenure};
 ghost use Rattle.replica_machine.specs.cluster_core.declared.event.Event.TheVariants as event;
 ghost use Rattle.replica_machine.specs.cluster_core.declared.event.StepCall.TheVariants as call;
 ghost use Rattle.replica_machine.specs.cluster_core.declared.event.StepReply.TheVariants as reply;
 ghost use Rattle.event_trail.specs.Trails.{IsLawfulOver};
 ghost use Rattle.replica_exchange.specs.MachineCalls.{IsMemberOf, HasRoom, AddsStep, MayAnswerBy, MayAnswer, IsAnswer, OtherReplicasStay};
 ghost use Rattle.replica_exchange.specs.Exchanges.{ask_of};
-ghost use Rattle.replica_exchange.specs.Promises.{Begins, Puts, Reads, Flushes, Ticks, Saves, Fences, Ends, Stops, Restarts, Reports};
+ghost use Rattle.replica_exchange.specs.Promises.{Begins, Puts, Reads, Pages, Merges, Flushes, Ticks, Saves, Fences, Ends, Stops, Restarts, Reports};
 
 use crate::call_err::CallErr;
 use crate::call_id::CallId;
 use crate::member::Member;
 use crate::parts::{
-    began_of, began_view, count_of, count_view, done_of, done_view, found_of, found_view,
+    began_of, began_view, count_of, count_view, done_of, done_view, found_of, found_view, page_of,
+    paged_view,
 };
 use crate::slot::Slot;
 use event_trail::{CallView, EventView, ReplyView, Trail, tell_apart};
 use replica_machine::of_cluster_core::StepCall;
-use replica_machine::of_m3_model::{Pick, Point, Report, Rules, Seq, Series};
+use replica_machine::of_m3_model::{Key, Page, Pick, Point, Report, Rules, Seq, Series};
 use replica_machine::of_m3_outside::Disk;
 
 // Adds an Ask for the call.
@@ -160,6 +162,66 @@ pub fn read_on<D: Disk>(
     let reply = found_view(&said);
     answer(trail, slot, &call, &reply);
     found_of(said)
+}
+
+/// Has the machine give the page of the first points above the key that it holds, and adds an Ask and the step.
+///
+/// # Errors
+///
+/// The machine's reason. `Full` where the list has no room for two events: this changes nothing.
+pub fn page_on<D: Disk>(
+    member: &mut Member<D>,
+    trail: &mut Trail<D>,
+    slot: Slot,
+    after: Option<&Key>,
+) -> Result<Page, CallErr>
+    requires is { IsMemberOf D.state slot trail.old member.old }
+    requires opened { 2 ≤ length trail.old }
+    ensures is { IsMemberOf D.state slot trail.new member.new }
+    ensures others { OtherReplicasStay slot trail.old trail.new }
+    ensures opened { 2 ≤ length trail.new }
+    ensures answered { MayAnswer D.state slot (call.Page (option_copied after.entry)) (λ page. reply.Paged page) (Pages D.state (option_copied after.entry)) (λ page. page) result member.old trail.old member.new trail.new }
+{
+    if !trail.has_room(2) {
+        return Err(CallErr::Full);
+    }
+    let call = CallView::page(after);
+    ask(trail, slot, &call);
+    let said = member.machine.page(after);
+    let reply = paged_view(&said);
+    answer(trail, slot, &call, &reply);
+    page_of(said)
+}
+
+/// Has the machine merge a page that a replica of its shard gave, and adds an Ask and the step. Answers how many of its points were new to
+/// it or raised what stood at their keys.
+///
+/// # Errors
+///
+/// The machine's reason. `Full` where the list has no room for two events: this changes nothing.
+pub fn merge_on<D: Disk>(
+    member: &mut Member<D>,
+    trail: &mut Trail<D>,
+    slot: Slot,
+    page: &Page,
+) -> Result<u64, CallErr>
+    requires is { IsMemberOf D.state slot trail.old member.old }
+    requires opened { 2 ≤ length trail.old }
+    requires given { HasPage trail.old slot.shard page.now }
+    ensures is { IsMemberOf D.state slot trail.new member.new }
+    ensures others { OtherReplicasStay slot trail.old trail.new }
+    ensures opened { 2 ≤ length trail.new }
+    ensures answered { MayAnswer D.state slot (call.Merge page.now) (λ n. reply.Count n) (Merges D.state page.now) (λ n. n) result member.old trail.old member.new trail.new }
+{
+    if !trail.has_room(2) {
+        return Err(CallErr::Full);
+    }
+    let call = CallView::merge(page);
+    ask(trail, slot, &call);
+    let said = member.machine.merge(page);
+    let reply = count_view(&said);
+    answer(trail, slot, &call, &reply);
+    count_of(said)
 }
 
 /// Has the machine write its ended blocks as volumes, by rules of an earlier Clock, and adds an Ask and the step. Answers how many volumes

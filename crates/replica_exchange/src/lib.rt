@@ -11,8 +11,8 @@ pub mod slot;
 pub use call_err::CallErr;
 pub use call_id::CallId;
 pub use exchange::{
-    boot_on, end_on, fence_on, flush_on, put_on, read_on, report_on, restart_on, snapshot_on,
-    stop_on, tick_on,
+    boot_on, end_on, fence_on, flush_on, merge_on, page_on, put_on, read_on, report_on, restart_on,
+    snapshot_on, stop_on, tick_on,
 };
 pub use member::Member;
 pub use replica_machine::Machine;
@@ -25,7 +25,9 @@ pub mod of_event_trail {
 }
 /// Of `m3_model`.
 pub mod of_m3_model {
-    pub use replica_machine::of_m3_model::{Pick, Point, Reason, Report, Rules, Seq, Series};
+    pub use replica_machine::of_m3_model::{
+        Key, Page, Pick, Point, Reason, Report, Rules, Seq, Series,
+    };
 }
 /// Of `m3_outside`.
 pub mod of_m3_outside {

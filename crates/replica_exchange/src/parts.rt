@@ -7,7 +7,7 @@ ghost use Rattle.replica_exchange.specs.MachineCalls.{result_of};
 use crate::call_err::CallErr;
 use event_trail::ReplyView;
 use replica_machine::Began;
-use replica_machine::of_m3_model::{Reason, Seq, Series};
+use replica_machine::of_m3_model::{Page, Reason, Seq, Series};
 
 pub(crate) fn done_view(said: &Result<(), Reason>) -> ReplyView
     ensures { result ≡ reply_by (λ _. reply.Done) said.now }
@@ -59,6 +59,24 @@ pub(crate) fn found_of(said: Result<Seq<Series>, Reason>) -> Result<Seq<Series>,
 {
     match said {
         Ok(series) => Ok(series),
+        Err(reason) => Err(CallErr::Refused(reason)),
+    }
+}
+
+pub(crate) fn paged_view(said: &Result<Page, Reason>) -> ReplyView
+    ensures { result ≡ reply_by (λ page. reply.Paged page) said.now }
+{
+    match said {
+        Ok(page) => ReplyView::paged(page),
+        Err(reason) => ReplyView::refused(reason),
+    }
+}
+
+pub(crate) fn page_of(said: Result<Page, Reason>) -> Result<Page, CallErr>
+    ensures { result ≡ result_of (λ page. page) said }
+{
+    match said {
+        Ok(page) => Ok(page),
         Err(reason) => Err(CallErr::Refused(reason)),
     }
 }

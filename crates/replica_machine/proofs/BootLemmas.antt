@@ -35,6 +35,7 @@ use Rattle.cluster_core.specs.declared.event.StepReply.{StepReply}
 use Rattle.cluster_core.specs.declared.event.StepReply.TheVariants as reply
 use Rattle.cluster_core.specs.declared.replica_state.ReplicaState.{ReplicaState}
 use Rattle.cluster_core.proofs.ReplicaLemmas.{some_there}
+use Rattle.replica_machine.specs.declared.work.Work.{Work}
 use Rattle.replica_machine.specs.Bases.{CameFrom}
 use Rattle.replica_machine.specs.Machines.{MachineState, IsMachineOf, IsHeldBy, IsOwn, shut_machine, reason_of, left_by}
 use Rattle.replica_machine.specs.Steps.{IsStep, BringsTo}
@@ -153,9 +154,9 @@ module _ {D : Type 0} (state : D → DiskState) (old : MachineState D) (t : ℕ)
             ⊎_elim (λ (none : r.begun ≡ []). absurd (subst (λ (l : List Point). IsIn l p) (h.empty none) m))
             (λ (some : r.begun ≢ []). loaded_covers r points tenure_found fence_found (state old.disk).files (held told) (h.files some told (state old.disk).files (image told)) p m stays) (empty_or r.begun)
 
-        pub began_step : (buffered content : Contents) → ((state old.disk).tells ≡ true → content ≡ content_of points)
-            → IsStep state old (call.Begin t) (reply.Began fence points) (record { standing = standing.Open; tenure = Some t; begun = t; fence = fence; buffered = buffered; content = content; disk = d })
-        began_step buffered content content_is = record {
+        pub began_step : (buffered content : Contents) (work : Work) → ((state old.disk).tells ≡ true → content ≡ content_of points)
+            → IsStep state old (call.Begin t) (reply.Began fence points) (record { standing = standing.Open; tenure = Some t; begun = t; fence = fence; buffered = buffered; content = content; disk = d; work = work })
+        began_step buffered content work content_is = record {
           lawful = λ made r h past n s given. record {
             not_down = λ e. let clash : standing.Boot ≡ standing.Down = sym boot ∙ h.stands ∙ e in absurd (cc);
             fence_high = omega (arith, fence_is);
@@ -285,23 +286,23 @@ step_after_stays state old t a d new same counts steps clean step = record {
 
 -- ---- by a machine's parts
 
-module _ {D : Type 0} (state : D → DiskState) (s : Standing) (tenure : Option ℕ) (begun : ℕ) (old : MachineState D) (before now : StoreState D) (view : machine_of s tenure begun before ≡ old) (t : ℕ) where
+module _ {D : Type 0} (state : D → DiskState) (s : Standing) (tenure : Option ℕ) (begun : ℕ) (work : Work) (old : MachineState D) (before now : StoreState D) (view : machine_of s tenure begun work before ≡ old) (t : ℕ) where
   disk_is : before.disk ≡ old.disk
   disk_is = ap (λ (m : MachineState D). m.disk) view
 
-  pub begin_left_of : closed old.standing ≡ None → old.begun ≤ t → (e : DiskErr) (why : Reason) (new : MachineState D) → now ≡ record before { disk = now.disk } → why ≡ reason_of e → new ≡ left_by e (machine_of s tenure begun now)
+  pub begin_left_of : closed old.standing ≡ None → old.begun ≤ t → (e : DiskErr) (why : Reason) (new : MachineState D) → now ≡ record before { disk = now.disk } → why ≡ reason_of e → new ≡ left_by e (machine_of s tenure begun work now)
       → (let said : Result ⊤ DiskErr = Err e in Brings (a_tenure t) said (state before.disk) (state now.disk)) → BeginLeft state old t why new
   begin_left_of up high e why new moved is left brings =
-      begin_left state old t now.disk up high e why new is (left ∙ ap (left_by e) (ap (machine_of s tenure begun) moved ∙ ap (λ (m : MachineState D). record m { disk = now.disk }) view))
+      begin_left state old t now.disk up high e why new is (left ∙ ap (left_by e) (ap (machine_of s tenure begun work) moved ∙ ap (λ (m : MachineState D). record m { disk = now.disk }) view))
       (subst (λ (d : D). let said : Result ⊤ DiskErr = Err e in Brings (a_tenure t) said (state d) (state now.disk)) disk_is brings)
 
   -- of an open machine, whose store a fault closed
   pub again_left : closed old.standing ≡ None → old.begun ≤ t → (e : DiskErr) (now_s : Standing) (why : Reason) → (let said : Result ⊤ DiskErr = Err e in IsErrOf said refused.Memory → now ≡ record before { disk = now.disk })
       → (let said : Result ⊤ DiskErr = Err e in IsErrOf said refused.Failed → now ≡ closed_over now.disk) → why ≡ reason_of e → (e ≡ refused.Failed → now_s ≡ standing.Down) → ((e ≡ refused.Failed → ⊥) → now_s ≡ s)
-      → (let said : Result ⊤ DiskErr = Err e in Brings (a_tenure t) said (state before.disk) (state now.disk)) → BeginLeft state old t why (machine_of now_s tenure begun now)
+      → (let said : Result ⊤ DiskErr = Err e in Brings (a_tenure t) said (state before.disk) (state now.disk)) → BeginLeft state old t why (machine_of now_s tenure begun work now)
   again_left up high e now_s why memory fault is down stays brings =
-      let left = settled_is s tenure begun before now now_s (Err e) memory fault (λ f. down (failed_is e f)) (λ fine. stays (λ f. fine (ap Err f))) in
-      begin_left state old t now.disk up high e why (machine_of now_s tenure begun now) is (left ∙ ap (λ (m : MachineState D). left_by e (record m { disk = now.disk })) view)
+      let left = settled_is s tenure begun work before now now_s (Err e) memory fault (λ f. down (failed_is e f)) (λ fine. stays (λ f. fine (ap Err f))) in
+      begin_left state old t now.disk up high e why (machine_of now_s tenure begun work now) is (left ∙ ap (λ (m : MachineState D). left_by e (record m { disk = now.disk })) view)
       (subst (λ (d : D). let said : Result ⊤ DiskErr = Err e in Brings (a_tenure t) said (state d) (state now.disk)) disk_is brings)
 
 -- what an open machine's begin answers and leaves
@@ -310,12 +311,12 @@ pub record AgainDone {D : Type 0} (state : D → DiskState) (old : MachineState 
   pub disk : let result : Result Began Reason = Ok began in BringsTo (a_tenure t) result (state old.disk) (state new.disk)
   pub step : IsStep state old (call.Begin t) (reply.Began began.fence began.points) new
 
-module _ {D : Type 0} (state : D → DiskState) (s : Standing) (tenure : Option ℕ) (begun : ℕ) (old : MachineState D) (before now : StoreState D) (view : machine_of s tenure begun before ≡ old) (t : ℕ) (began : Began) (u : ⊤) where
+module _ {D : Type 0} (state : D → DiskState) (s : Standing) (tenure : Option ℕ) (begun : ℕ) (work : Work) (old : MachineState D) (before now : StoreState D) (view : machine_of s tenure begun work before ≡ old) (t : ℕ) (began : Began) (u : ⊤) where
   pub again_done : old.standing ≡ standing.Open → old.begun ≤ t → now ≡ record { disk = now.disk; open_ = true; buffered = before.buffered; content = before.content; tenure = max before.tenure t; fence = max before.fence t } → Brings (a_tenure t) (Ok u) (state before.disk) (state now.disk)
-      → began.fence ≡ now.fence → began.points ≡ [] → AgainDone state old t began (machine_of s (Some t) t now)
+      → began.fence ≡ now.fence → began.points ≡ [] → AgainDone state old t began (machine_of s (Some t) t work now)
   again_done is_open high ok brings fence none =
-      let new = machine_of s (Some t) t now in
-      let left : new ≡ record old { tenure = Some t; begun = t; fence = max old.fence t; disk = now.disk } = ap (machine_of s (Some t) t) ok ∙ ap (λ (m : MachineState D). record m { tenure = Some t; begun = t; fence = max m.fence t; disk = now.disk }) view in
+      let new = machine_of s (Some t) t work now in
+      let left : new ≡ record old { tenure = Some t; begun = t; fence = max old.fence t; disk = now.disk } = ap (machine_of s (Some t) t work) ok ∙ ap (λ (m : MachineState D). record m { tenure = Some t; begun = t; fence = max m.fence t; disk = now.disk }) view in
       let fence_is : began.fence ≡ max old.fence t = fence ∙ ap (λ (m : MachineState D). m.fence) left in
       let new_is : new ≡ record old { tenure = Some t; begun = t; fence = began.fence; disk = now.disk } = left ∙ ap (λ (f : ℕ). record old { tenure = Some t; begun = t; fence = f; disk = now.disk }) (sym fence_is) in
       let same = subst (λ (d : D). Brings (a_tenure t) (Ok u) (state d) (state now.disk)) (ap (λ (m : MachineState D). m.disk) view) brings in
@@ -333,17 +334,18 @@ pub record OpenDone {D : Type 0} (state : D → DiskState) (old : MachineState D
   pub disk : let result : Result Began Reason = Ok began in BringsTo (a_tenure t) result (state old.disk) (state new.disk)
   pub step : IsStep state old (call.Begin t) (reply.Began began.fence began.points) new
 
-module _ {D : Type 0} (state : D → DiskState) (s : Standing) (tenure : Option ℕ) (begun : ℕ) (old : MachineState D) (before now : StoreState D) (view : machine_of s tenure begun before ≡ old) (t : ℕ) (began : Began) (u : ⊤) where
+module _ {D : Type 0} (state : D → DiskState) (s : Standing) (tenure : Option ℕ) (begun : ℕ) (work : Work) (old : MachineState D) (before now : StoreState D) (view : machine_of s tenure begun work before ≡ old) (t : ℕ) (began : Began) (u : ⊤) where
   pub open_done : old.standing ≡ standing.Boot → old.begun ≤ t → (points : List Point) (tenure_found fence_found : ℕ) → tenure_found ≤ t → Told (state old.disk) (HeldOnce points tenure_found fence_found) → EachImage (state old.disk) (λ c. c ≡ (state old.disk).files)
       → Told (state old.disk) (state old.disk).images → (buffered : Contents) → now ≡ record { disk = now.disk; open_ = true; buffered = buffered; content = now.content; tenure = max tenure_found t; fence = max fence_found t } → ((state old.disk).tells ≡ true → now.content ≡ content_of points)
       → Told (state old.disk) (AreBesideVolumes points buffered) → Brings (a_tenure t) (Ok u) (state before.disk) (state now.disk)
-      → began.fence ≡ now.fence → began.points ≡ points → OpenDone state old t began (machine_of standing.Open (Some t) t now)
+      → began.fence ≡ now.fence → began.points ≡ points → OpenDone state old t began (machine_of standing.Open (Some t) t work now)
   open_done boot high points tenure_found fence_found low held only image buffered ok content_is beside brings fence there =
-      let new = machine_of standing.Open (Some t) t now in
+      let new = machine_of standing.Open (Some t) t work now in
       let fence_is : began.fence ≡ max fence_found t = fence ∙ ap (λ (store : StoreState D). store.fence) ok in
       let now_fence : now.fence ≡ began.fence = sym fence in
-      let new_is : new ≡ record { standing = standing.Open; tenure = Some t; begun = t; fence = began.fence; buffered = now.buffered; content = now.content; disk = now.disk } =
-      ap (λ (f : ℕ). let m : MachineState D = record { standing = standing.Open; tenure = Some t; begun = t; fence = f; buffered = now.buffered; content = now.content; disk = now.disk } in m) now_fence in
+      let work_is : work ≡ old.work = ap (λ (m : MachineState D). m.work) view in
+      let new_is : new ≡ record { standing = standing.Open; tenure = Some t; begun = t; fence = began.fence; buffered = now.buffered; content = now.content; disk = now.disk; work = old.work } =
+      λ i. record { standing = standing.Open; tenure = Some t; begun = t; fence = now_fence i; buffered = now.buffered; content = now.content; disk = now.disk; work = work_is i } in
       let buffered_is : now.buffered ≡ buffered = ap (λ (store : StoreState D). store.buffered) ok in
       let same = subst (λ (d : D). Brings (a_tenure t) (Ok u) (state d) (state now.disk)) (ap (λ (m : MachineState D). m.disk) view) brings in
       record {
@@ -361,5 +363,5 @@ module _ {D : Type 0} (state : D → DiskState) (s : Standing) (tenure : Option 
         step =
             subst (λ (ps : List Point). IsStep state old (call.Begin t) (reply.Began began.fence ps) new) (sym there)
             (subst (λ (m : MachineState D). IsStep state old (call.Begin t) (reply.Began began.fence points) m) (sym new_is)
-            (began_step state old t now.disk same.tells _ same.faults high began.fence (λ told. same.acknowledged told) boot points tenure_found fence_found low fence_is held only image now.buffered now.content content_is));
+            (began_step state old t now.disk same.tells _ same.faults high began.fence (λ told. same.acknowledged told) boot points tenure_found fence_found low fence_is held only image now.buffered now.content old.work content_is));
       }

@@ -25,6 +25,7 @@ use Rattle.cluster_core.specs.Rows.{IsOwner}
 use Rattle.cluster_core.specs.declared.event.StepCall.TheVariants as call
 use Rattle.cluster_core.specs.declared.event.StepReply.TheVariants as reply
 use Rattle.cluster_core.specs.declared.replica_state.ReplicaState.{ReplicaState}
+use Rattle.replica_machine.specs.declared.work.Work.{Work}
 use Rattle.replica_machine.specs.Machines.{MachineState, IsMachineOf, IsHeldBy, IsRefusedFor, refusal, shut_machine, settled, settled_answer}
 use Rattle.replica_machine.specs.Steps.{reply_by, IsStep, BringsTo}
 use Rattle.replica_machine.proofs.ReasonLemmas.{IsPlain, plain_lawful, plain_no_damage, plain_no_fault, fence_plain, shut_alike, refused_none, refused_some}
@@ -210,16 +211,16 @@ module _ {D : Type 0} (state : D → DiskState) (old : MachineState D) (version 
         subst (λ (x : Result ⊤ Reason). FenceDone state old version x new) (sym is) (subst (λ (m : MachineState D). FenceDone state old version (settled_answer said) m) (sym left) (fence_done_said said by))
 
 -- with what the store's fence did, or as it was where it was refused
-pub fence_by : {D : Type 0} (state : D → DiskState) (s : Standing) (tenure : Option ℕ) (begun : ℕ) (old : MachineState D) (before now : StoreState D) (version : ℕ) (said : Result ⊤ DiskErr) → machine_of s tenure begun before ≡ old
+pub fence_by : {D : Type 0} (state : D → DiskState) (s : Standing) (tenure : Option ℕ) (begun : ℕ) (work : Work) (old : MachineState D) (before now : StoreState D) (version : ℕ) (said : Result ⊤ DiskErr) → machine_of s tenure begun work before ≡ old
     → OnOk said (now ≡ record { disk = now.disk; open_ = true; buffered = before.buffered; content = before.content; tenure = before.tenure; fence = max before.fence version })
     → ((state before.disk).tells ≡ true → IsErrOf said refused.Memory → Becomes (λ files. files) (state before.disk) (state now.disk)) → Brings (a_fence version) said (state before.disk) (state now.disk)
-    → FenceBy state old (middle s tenure begun before now old said) version said
-fence_by {D} state s tenure begun old before now version said view ok unchanged brings = subst (λ (m : MachineState D). FenceBy state m (middle s tenure begun before now m said) version said) view (by said ok unchanged brings)
+    → FenceBy state old (middle s tenure begun work before now old said) version said
+fence_by {D} state s tenure begun work old before now version said view ok unchanged brings = subst (λ (m : MachineState D). FenceBy state m (middle s tenure begun work before now m said) version said) view (by said ok unchanged brings)
   where
     by : (said : Result ⊤ DiskErr) → OnOk said (now ≡ record { disk = now.disk; open_ = true; buffered = before.buffered; content = before.content; tenure = before.tenure; fence = max before.fence version })
         → ((state before.disk).tells ≡ true → IsErrOf said refused.Memory → Becomes (λ files. files) (state before.disk) (state now.disk)) → Brings (a_fence version) said (state before.disk) (state now.disk)
-        → FenceBy state (machine_of s tenure begun before) (middle s tenure begun before now (machine_of s tenure begun before) said) version said
-    by (Ok u) ok unchanged brings = record { ok = ap (machine_of s tenure begun) ok; err = tt; unchanged = unchanged; disk = brings }
+        → FenceBy state (machine_of s tenure begun work before) (middle s tenure begun work before now (machine_of s tenure begun work before) said) version said
+    by (Ok u) ok unchanged brings = record { ok = ap (machine_of s tenure begun work) ok; err = tt; unchanged = unchanged; disk = brings }
     by (Err why) ok unchanged brings = record { ok = tt; err = refl; unchanged = unchanged; disk = brings }
 
 -- an open machine's store is open, where nothing stands against a fence

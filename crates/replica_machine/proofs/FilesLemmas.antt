@@ -12,6 +12,7 @@ use Rattle.shard_store.specs.fileset_read.Volumes.{IsUndamaged}
 use Rattle.shard_store.specs.fileset_read.declared.file_err.FileErr.{FileErr}
 use Rattle.shard_store.specs.fileset_read.declared.file_err.FileErr.TheVariants as unread
 use Rattle.shard_store.specs.Stores.{StoreState, closed_over}
+use Rattle.replica_machine.specs.declared.work.Work.{Work}
 use Rattle.replica_machine.specs.Boots.{IsRefused}
 use Rattle.replica_machine.specs.Damages.{told_of, IsFileDamage}
 use Rattle.replica_machine.specs.Machines.{MachineState, IsStoreOf, shut_machine}
@@ -71,11 +72,11 @@ store_after_files s now_s now (Err unread.Memory) is_open ok down memory stays o
 store_after_files s now_s now (Err unread.Disk) is_open ok down memory stays open_ closed = subst (λ (x : Standing). IsStoreOf x now) (sym (down (λ e. cc))) (closed (λ e. cc))
 store_after_files s now_s now (Err (unread.Form file)) is_open ok down memory stays open_ closed = subst (λ (x : Standing). IsStoreOf x now) (sym (down (λ e. cc))) (closed (λ e. cc))
 
-module _ {D : Type 0} (s : Standing) (tenure : Option ℕ) (begun : ℕ) (before now : StoreState D) where
+module _ {D : Type 0} (s : Standing) (tenure : Option ℕ) (begun : ℕ) (work : Work) (before now : StoreState D) where
   -- a machine whose store is closed
-  pub shut_is : (now_s : Standing) → now_s ≡ standing.Down → now ≡ closed_over now.disk → machine_of now_s tenure begun now ≡ shut_machine standing.Down (machine_of s tenure begun before) now.disk
-  shut_is now_s down closed = ap (λ (x : Standing). machine_of x tenure begun now) down ∙ ap (machine_of standing.Down tenure begun) closed
+  pub shut_is : (now_s : Standing) → now_s ≡ standing.Down → now ≡ closed_over now.disk → machine_of now_s tenure begun work now ≡ shut_machine standing.Down (machine_of s tenure begun work before) now.disk
+  shut_is now_s down closed = ap (λ (x : Standing). machine_of x tenure begun work now) down ∙ ap (machine_of standing.Down tenure begun work) closed
 
   -- one of whose store the points changed, and its disk
-  pub moved_is : now.fence ≡ before.fence → machine_of s tenure begun now ≡ record (machine_of s tenure begun before) { disk = now.disk; buffered = now.buffered; content = now.content }
-  moved_is same = ap (λ (f : ℕ). let m : MachineState D = record { standing = s; tenure = tenure; begun = begun; fence = f; buffered = now.buffered; content = now.content; disk = now.disk } in m) same
+  pub moved_is : now.fence ≡ before.fence → machine_of s tenure begun work now ≡ record (machine_of s tenure begun work before) { disk = now.disk; buffered = now.buffered; content = now.content }
+  moved_is same = ap (λ (f : ℕ). let m : MachineState D = record { standing = s; tenure = tenure; begun = begun; fence = f; buffered = now.buffered; content = now.content; disk = now.disk; work = work } in m) same

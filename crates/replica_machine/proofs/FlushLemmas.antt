@@ -26,17 +26,19 @@ use Rattle.cluster_core.specs.Replicas.{after, down}
 use Rattle.cluster_core.specs.declared.event.StepCall.TheVariants as call
 use Rattle.cluster_core.specs.declared.event.StepReply.TheVariants as reply
 use Rattle.cluster_core.specs.declared.replica_state.ReplicaState.{ReplicaState}
+use Rattle.replica_machine.specs.declared.work.Work.{Work}
 use Rattle.replica_machine.specs.Boots.{IsRefused}
 use Rattle.replica_machine.specs.Damages.{told_of, IsFileDamage}
 use Rattle.replica_machine.specs.Machines.{MachineState, IsMachineOf, refusal, shut_machine}
 use Rattle.replica_machine.specs.Reading.{IsRefusedReading, files_answer}
+use Rattle.replica_machine.specs.Works.{with_flush, work_after}
 use Rattle.replica_machine.specs.Steps.{reply_by, IsStep}
 use Rattle.replica_machine.specs.Upkeep.{IsFlushed, IsPartFlushed}
 use Rattle.replica_machine.proofs.FilesLemmas.{damage_named, plain_named, plain_left, refused_some, refused_none, shut_is, moved_is}
 use Rattle.replica_machine.proofs.KeptLemmas.{images_of}
 use Rattle.replica_machine.proofs.ReasonLemmas.{IsPlain, plain_lawful, plain_no_damage, plain_no_fault, shut_by}
 use Rattle.replica_machine.proofs.RearrangedLemmas as rearranged
-use Rattle.replica_machine.proofs.StepLemmas.{machine_of}
+use Rattle.replica_machine.proofs.StepLemmas.{machine_of, whatever_work}
 
 -- what a flush answers and leaves
 pub record FlushDone {D : Type 0} (state : D → DiskState) (old : MachineState D) (rules : Rules) (result : Result ℕ Reason) (new : MachineState D) : Type 0 where
@@ -106,17 +108,17 @@ module _ {D : Type 0} (state : D → DiskState) (old : MachineState D) (rules : 
       reply_damage damage e = cc
 
 -- by a machine's parts: what the store's flush did
-module _ {D : Type 0} (state : D → DiskState) (s : Standing) (tenure : Option ℕ) (begun : ℕ) (before now : StoreState D) (rules : Rules) (is_open : s ≡ standing.Open) (F : Type 0) (moves : Rearranges before.content F (state before.disk) (state now.disk)) where
+module _ {D : Type 0} (state : D → DiskState) (s : Standing) (tenure : Option ℕ) (begun : ℕ) (work : Work) (before now : StoreState D) (rules : Rules) (is_open : s ≡ standing.Open) (F : Type 0) (moves : Rearranges before.content F (state before.disk) (state now.disk)) where
   abbrev m : MachineState D
-  m = machine_of s tenure begun before
+  m = machine_of s tenure begun work before
 
   taken : refusal m (call.Flush rules) ≡ None
   taken = ap shut is_open
 
   -- an open machine, of which some points left memory
-  follows_open : now.fence ≡ before.fence → ((state before.disk).tells ≡ true → now.content ≡ before.content) → (made : D) (r : ReplicaState) → IsMachineOf state (state made).images r m → IsMachineOf state (state made).images r (machine_of s tenure begun now)
+  follows_open : now.fence ≡ before.fence → ((state before.disk).tells ≡ true → now.content ≡ before.content) → (made : D) (r : ReplicaState) → IsMachineOf state (state made).images r m → IsMachineOf state (state made).images r (machine_of s tenure begun work now)
   follows_open same content made r h =
-      subst (IsMachineOf state (state made).images r) (sym (moved_is s tenure begun before now same))
+      subst (IsMachineOf state (state made).images r) (sym (moved_is s tenure begun work before now same))
       ((rearranged.kept_machine state).open_ made r m now.disk now.buffered now.content is_open (images_of before.content F (state before.disk) (state now.disk) moves) content h)
 
   follows_shut : (made : D) (r : ReplicaState) → IsMachineOf state (state made).images r m → IsMachineOf state (state made).images (down r) (shut_machine standing.Down m now.disk)
@@ -128,9 +130,9 @@ module _ {D : Type 0} (state : D → DiskState) (s : Standing) (tenure : Option 
   abbrev Done : Said → MachineState D → Type 0
   Done result new = FlushDone state m rules result new
 
-  flush_ok : (n : ℕ) (blocks : List (ℕ × ℕ)) → AreFlushed rules before.buffered blocks → HasFlushed state rules blocks before now → n ≡ length blocks → Done (Ok n) (machine_of s tenure begun now)
+  flush_ok : (n : ℕ) (blocks : List (ℕ × ℕ)) → AreFlushed rules before.buffered blocks → HasFlushed state rules blocks before now → n ≡ length blocks → Done (Ok n) (machine_of s tenure begun (with_flush n work) now)
   flush_ok n blocks are done count = record {
-    ok = record { blocks = blocks; are = are; count = count; same = ap (machine_of s tenure begun) done.same; content = done.content; volumes = done.volumes };
+    ok = record { blocks = blocks; are = are; count = count; same = ap (machine_of s tenure begun (with_flush n work)) done.same; content = done.content; volumes = done.volumes };
     memory = λ f. absurd (never reason.Memory f);
     err = tt;
     plain = λ not. absurd (not taken);
@@ -139,7 +141,7 @@ module _ {D : Type 0} (state : D → DiskState) (s : Standing) (tenure : Option 
     disk = rearranges_for before.content F _ (state before.disk) (state now.disk) (λ f. absurd (never reason.Disk f)) moves;
     step = record {
       lawful = λ made r h past n s given. (sym h.stands ∙ is_open, given);
-      follows = follows_open (ap (λ (x : StoreState D). x.fence) done.same) done.content;
+      follows = λ made r h. whatever_work state (state made).images r (machine_of s tenure begun work now) (with_flush n work) (follows_open (ap (λ (x : StoreState D). x.fence) done.same) done.content made r h);
       opens = λ made r h told none. tt;
       sound = λ damage e. absurd (cc);
       tells = moves.tells;
@@ -150,10 +152,10 @@ module _ {D : Type 0} (state : D → DiskState) (s : Standing) (tenure : Option 
       never : (why : Reason) → (let r : Said = Ok n in IsErrOf r why) → ⊥
       never why f = cc
 
-  flush_memory : store.IsPartFlushed state before now → Done (Err reason.Memory) (machine_of s tenure begun now)
+  flush_memory : store.IsPartFlushed state before now → Done (Err reason.Memory) (machine_of s tenure begun work now)
   flush_memory part = record {
     ok = tt;
-    memory = λ f. record { same = ap (machine_of s tenure begun) part.same; content = part.content; fewer = part.fewer };
+    memory = λ f. record { same = ap (machine_of s tenure begun work) part.same; content = part.content; fewer = part.fewer };
     err = λ not. absurd (not refl);
     plain = λ not. absurd (not taken);
     refused = refused_none ℕ state m (refusal m (call.Flush rules)) (Err unread.Memory) taken (λ tells. tt);
@@ -220,26 +222,26 @@ module _ {D : Type 0} (state : D → DiskState) (s : Standing) (tenure : Option 
           err_is f = cc
 
 -- what the store answered, and what it left
-module _ {D : Type 0} (state : D → DiskState) (s : Standing) (tenure : Option ℕ) (begun : ℕ) (before now : StoreState D) (rules : Rules) (is_open : s ≡ standing.Open) where
+module _ {D : Type 0} (state : D → DiskState) (s : Standing) (tenure : Option ℕ) (begun : ℕ) (work : Work) (before now : StoreState D) (rules : Rules) (is_open : s ≡ standing.Open) where
   flush_said : (said : Result ℕ FileErr) (now_s : Standing) → IfOk said (λ n. (blocks : List (ℕ × ℕ)) × AreFlushed rules before.buffered blocks × HasFlushed state rules blocks before now × (n ≡ length blocks)) → (IsErrOf said unread.Memory → store.IsPartFlushed state before now)
       → IfErr said (λ why. why ≢ unread.Memory → now ≡ closed_over now.disk) → ((state before.disk).tells ≡ true → IfErr said IsUndamaged) → Rearranges before.content (IsErrOf said unread.Disk) (state before.disk) (state now.disk)
-      → OnOk said (now_s ≡ s) → IfErr said (λ why. why ≢ unread.Memory → now_s ≡ standing.Down) → (IsErrOf said unread.Memory → now_s ≡ s) → FlushDone state (machine_of s tenure begun before) rules (files_answer said) (machine_of now_s tenure begun now)
+      → OnOk said (now_s ≡ s) → IfErr said (λ why. why ≢ unread.Memory → now_s ≡ standing.Down) → (IsErrOf said unread.Memory → now_s ≡ s) → FlushDone state (machine_of s tenure begun work before) rules (files_answer said) (machine_of now_s tenure begun (work_after with_flush said work) now)
   flush_said (Ok n) now_s done part closed sound moves stays down same =
-      subst (λ (x : Standing). FlushDone state (machine_of s tenure begun before) rules (Ok n) (machine_of x tenure begun now)) (sym stays) (flush_ok state s tenure begun before now rules is_open _ moves n done.0 done.1 done.2 done.3)
+      subst (λ (x : Standing). FlushDone state (machine_of s tenure begun work before) rules (Ok n) (machine_of x tenure begun (with_flush n work) now)) (sym stays) (flush_ok state s tenure begun work before now rules is_open _ moves n done.0 done.1 done.2 done.3)
   flush_said (Err unread.Memory) now_s done part closed sound moves stays down same =
-      subst (λ (x : Standing). FlushDone state (machine_of s tenure begun before) rules (Err reason.Memory) (machine_of x tenure begun now)) (sym (same refl)) (flush_memory state s tenure begun before now rules is_open _ moves (part refl))
+      subst (λ (x : Standing). FlushDone state (machine_of s tenure begun work before) rules (Err reason.Memory) (machine_of x tenure begun work now)) (sym (same refl)) (flush_memory state s tenure begun work before now rules is_open _ moves (part refl))
   flush_said (Err unread.Disk) now_s done part closed sound moves stays down same =
-      subst (FlushDone state (machine_of s tenure begun before) rules (Err reason.Disk)) (sym (shut_is s tenure begun before now now_s (down (λ e. cc)) (closed (λ e. cc)))) (flush_fault state s tenure begun before now rules is_open _ moves refl)
+      subst (FlushDone state (machine_of s tenure begun work before) rules (Err reason.Disk)) (sym (shut_is s tenure begun work before now now_s (down (λ e. cc)) (closed (λ e. cc)))) (flush_fault state s tenure begun work before now rules is_open _ moves refl)
   flush_said (Err (unread.Form file)) now_s done part closed sound moves stays down same =
-      subst (FlushDone state (machine_of s tenure begun before) rules (Err (reason.Corrupt (told_of (OfForm file 0))))) (sym (shut_is s tenure begun before now now_s (down (λ e. cc)) (closed (λ e. cc)))) (flush_damage state s tenure begun before now rules is_open _ moves file (λ tells. sound tells))
+      subst (FlushDone state (machine_of s tenure begun work before) rules (Err (reason.Corrupt (told_of (OfForm file 0))))) (sym (shut_is s tenure begun work before now now_s (down (λ e. cc)) (closed (λ e. cc)))) (flush_damage state s tenure begun work before now rules is_open _ moves file (λ tells. sound tells))
 
   pub flush_done : (said : Result ℕ FileErr) (result : Result ℕ Reason) (now_s : Standing) → result ≡ files_answer said → IfOk said (λ n. (blocks : List (ℕ × ℕ)) × AreFlushed rules before.buffered blocks × HasFlushed state rules blocks before now × (n ≡ length blocks))
       → (IsErrOf said unread.Memory → store.IsPartFlushed state before now) → IfErr said (λ why. why ≢ unread.Memory → now ≡ closed_over now.disk) → ((state before.disk).tells ≡ true → IfErr said IsUndamaged) → Rearranges before.content (IsErrOf said unread.Disk) (state before.disk) (state now.disk)
-      → OnOk said (now_s ≡ s) → IfErr said (λ why. why ≢ unread.Memory → now_s ≡ standing.Down) → (IsErrOf said unread.Memory → now_s ≡ s) → FlushDone state (machine_of s tenure begun before) rules result (machine_of now_s tenure begun now)
+      → OnOk said (now_s ≡ s) → IfErr said (λ why. why ≢ unread.Memory → now_s ≡ standing.Down) → (IsErrOf said unread.Memory → now_s ≡ s) → FlushDone state (machine_of s tenure begun work before) rules result (machine_of now_s tenure begun (work_after with_flush said work) now)
   flush_done said result now_s is done part closed sound moves stays down same =
-      subst (λ (r : Said). FlushDone state (machine_of s tenure begun before) rules r (machine_of now_s tenure begun now)) (sym is) (flush_said said now_s done part closed sound moves stays down same)
+      subst (λ (r : Said). FlushDone state (machine_of s tenure begun work before) rules r (machine_of now_s tenure begun (work_after with_flush said work) now)) (sym is) (flush_said said now_s done part closed sound moves stays down same)
 
 -- memory was wanted before the store was called
-pub flush_wanted : {D : Type 0} (state : D → DiskState) (s : Standing) (tenure : Option ℕ) (begun : ℕ) (before : StoreState D) (rules : Rules) → s ≡ standing.Open → Rearranges before.content ⊥ (state before.disk) (state before.disk)
-    → FlushDone state (machine_of s tenure begun before) rules (Err reason.Memory) (machine_of s tenure begun before)
-flush_wanted state s tenure begun before rules is_open nothing = flush_memory state s tenure begun before before rules is_open ⊥ nothing (record { same = refl; content = λ tells. refl; fewer = λ p h. h })
+pub flush_wanted : {D : Type 0} (state : D → DiskState) (s : Standing) (tenure : Option ℕ) (begun : ℕ) (work : Work) (before : StoreState D) (rules : Rules) → s ≡ standing.Open → Rearranges before.content ⊥ (state before.disk) (state before.disk)
+    → FlushDone state (machine_of s tenure begun work before) rules (Err reason.Memory) (machine_of s tenure begun work before)
+flush_wanted state s tenure begun work before rules is_open nothing = flush_memory state s tenure begun work before before rules is_open ⊥ nothing (record { same = refl; content = λ tells. refl; fewer = λ p h. h })

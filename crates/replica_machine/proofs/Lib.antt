@@ -21,6 +21,9 @@ pub mod BaseSteps
 pub mod FilesLemmas
 pub mod KeptLemmas
 pub mod ReadLemmas
+pub mod PageLemmas
+pub mod PagedLemmas
+pub mod MergedLemmas
 pub mod FlushLemmas
 pub mod TickLemmas
 pub mod SavedLemmas

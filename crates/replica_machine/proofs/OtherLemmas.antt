@@ -29,6 +29,7 @@ use Rattle.cluster_core.specs.Rows.{open_fence}
 use Rattle.cluster_core.specs.declared.event.StepCall.TheVariants as call
 use Rattle.cluster_core.specs.declared.event.StepReply.TheVariants as reply
 use Rattle.cluster_core.specs.declared.replica_state.ReplicaState.{ReplicaState}
+use Rattle.replica_machine.specs.declared.work.Work.{Work}
 use Rattle.replica_machine.specs.Bases.{CameFrom}
 use Rattle.replica_machine.specs.Machines.{MachineState, IsStoreOf, IsMachineOf, IsHeldBy, IsLiveAnswer, IsOwn, first_machine, shut_machine, unserved, reason_of, left_by, settled_answer}
 use Rattle.replica_machine.specs.Steps.{reply_by, IsStep, RestartsTo}
@@ -247,21 +248,21 @@ module _ {D : Type 0} (state : D → DiskState) (old : MachineState D) (d : D) w
       subst (λ (w : Reason). RestartDone state old (Err w) new) (sym is) (subst (λ (m : MachineState D). RestartDone state old (Err (reason_of e)) m) (sym left) (restart_left e restarts))
 
 -- the same of a machine by its parts
-pub end_step_of : {D : Type 0} (state : D → DiskState) (s : Standing) (tenure : Option ℕ) (begun : ℕ) (old : MachineState D) (store : StoreState D) → machine_of s tenure begun store ≡ old → IsStep state old call.End reply.Done (machine_of s None begun store)
-end_step_of state s tenure begun old store view = subst (λ (m : MachineState _). IsStep state m call.End reply.Done (machine_of s None begun store)) view (end_step state (machine_of s tenure begun store))
+pub end_step_of : {D : Type 0} (state : D → DiskState) (s : Standing) (tenure : Option ℕ) (begun : ℕ) (work : Work) (old : MachineState D) (store : StoreState D) → machine_of s tenure begun work store ≡ old → IsStep state old call.End reply.Done (machine_of s None begun work store)
+end_step_of state s tenure begun work old store view = subst (λ (m : MachineState _). IsStep state m call.End reply.Done (machine_of s None begun work store)) view (end_step state (machine_of s tenure begun work store))
 
-module _ {D : Type 0} (state : D → DiskState) (s : Standing) (tenure : Option ℕ) (begun : ℕ) (old : MachineState D) (before now : StoreState D) (view : machine_of s tenure begun before ≡ old) where
-  pub restart_refused_of : (e : DiskErr) (why : Reason) (new : MachineState D) → now ≡ record before { disk = now.disk } → why ≡ reason_of e → new ≡ left_by e (machine_of s tenure begun now) → (let x : Result ⊤ DiskErr = Err e in Restarts x (state before.disk) (state now.disk))
+module _ {D : Type 0} (state : D → DiskState) (s : Standing) (tenure : Option ℕ) (begun : ℕ) (work : Work) (old : MachineState D) (before now : StoreState D) (view : machine_of s tenure begun work before ≡ old) where
+  pub restart_refused_of : (e : DiskErr) (why : Reason) (new : MachineState D) → now ≡ record before { disk = now.disk } → why ≡ reason_of e → new ≡ left_by e (machine_of s tenure begun work now) → (let x : Result ⊤ DiskErr = Err e in Restarts x (state before.disk) (state now.disk))
       → RestartDone state old (Err why) new
   restart_refused_of e why new moved is left restarts =
-      subst (λ (m : MachineState D). RestartDone state m (Err why) new) view (restart_refused state (machine_of s tenure begun before) now.disk e why new is (left ∙ ap (left_by e) (ap (machine_of s tenure begun) moved)) restarts)
+      subst (λ (m : MachineState D). RestartDone state m (Err why) new) view (restart_refused state (machine_of s tenure begun work before) now.disk e why new is (left ∙ ap (left_by e) (ap (machine_of s tenure begun work) moved)) restarts)
 
-  pub restart_ok_of : (u : ⊤) → now ≡ closed_over now.disk → Restarts (Ok u) (state before.disk) (state now.disk) → RestartDone state old (Ok u) (machine_of standing.Boot tenure begun now)
+  pub restart_ok_of : (u : ⊤) → now ≡ closed_over now.disk → Restarts (Ok u) (state before.disk) (state now.disk) → RestartDone state old (Ok u) (machine_of standing.Boot tenure begun work now)
   restart_ok_of u closed restarts =
-      subst (λ (m : MachineState D). RestartDone state m (Ok u) (machine_of standing.Boot tenure begun now)) view
-      (subst (λ (store : StoreState D). RestartDone state (machine_of s tenure begun before) (Ok u) (machine_of standing.Boot tenure begun store)) (sym closed) (restart_ok state (machine_of s tenure begun before) now.disk u restarts))
+      subst (λ (m : MachineState D). RestartDone state m (Ok u) (machine_of standing.Boot tenure begun work now)) view
+      (subst (λ (store : StoreState D). RestartDone state (machine_of s tenure begun work before) (Ok u) (machine_of standing.Boot tenure begun work store)) (sym closed) (restart_ok state (machine_of s tenure begun work before) now.disk u restarts))
 
-  pub stop_step_of : now ≡ closed_over before.disk → IsStep state old call.Stop reply.Done (machine_of standing.Down tenure begun now)
+  pub stop_step_of : now ≡ closed_over before.disk → IsStep state old call.Stop reply.Done (machine_of standing.Down tenure begun work now)
   stop_step_of closed =
-      subst (λ (m : MachineState D). IsStep state m call.Stop reply.Done (machine_of standing.Down tenure begun now)) view
-      (subst (λ (store : StoreState D). IsStep state (machine_of s tenure begun before) call.Stop reply.Done (machine_of standing.Down tenure begun store)) (sym closed) (stop_step state (machine_of s tenure begun before)))
+      subst (λ (m : MachineState D). IsStep state m call.Stop reply.Done (machine_of standing.Down tenure begun work now)) view
+      (subst (λ (store : StoreState D). IsStep state (machine_of s tenure begun work before) call.Stop reply.Done (machine_of standing.Down tenure begun work store)) (sym closed) (stop_step state (machine_of s tenure begun work before)))

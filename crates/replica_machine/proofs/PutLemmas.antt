@@ -25,6 +25,7 @@ use Rattle.cluster_core.specs.Replicas.{after}
 use Rattle.cluster_core.specs.declared.event.StepCall.TheVariants as call
 use Rattle.cluster_core.specs.declared.event.StepReply.TheVariants as reply
 use Rattle.cluster_core.specs.declared.replica_state.ReplicaState.{ReplicaState}
+use Rattle.replica_machine.specs.declared.work.Work.{Work}
 use Rattle.replica_machine.specs.Machines.{MachineState, IsMachineOf, IsHeldBy, IsRefusedFor, refusal, unserved, shut_machine, settled, settled_answer}
 use Rattle.replica_machine.specs.Steps.{reply_by, IsStep, BringsTo}
 use Rattle.replica_machine.proofs.RefusalLemmas.{up}
@@ -196,14 +197,14 @@ module _ {D : Type 0} (state : D → DiskState) (old : MachineState D) (version 
         subst (λ (x : Result ⊤ Reason). PutDone state old version rules p x new) (sym is) (subst (λ (m : MachineState D). PutDone state old version rules p (settled_answer said) m) (sym left) (put_done_said said by))
 
 -- with what the store's put did, or as it was where it was refused
-pub put_by : {D : Type 0} (state : D → DiskState) (s : Standing) (tenure : Option ℕ) (begun : ℕ) (old : MachineState D) (before now : StoreState D) (p : Point) (said : Result ⊤ DiskErr) → machine_of s tenure begun before ≡ old
+pub put_by : {D : Type 0} (state : D → DiskState) (s : Standing) (tenure : Option ℕ) (begun : ℕ) (work : Work) (old : MachineState D) (before now : StoreState D) (p : Point) (said : Result ⊤ DiskErr) → machine_of s tenure begun work before ≡ old
     → OnOk said (now ≡ record before { disk = now.disk; buffered = raised before.buffered p; content = raised before.content p }) → ((state before.disk).tells ≡ true → IsErrOf said refused.Memory → Becomes (λ files. files) (state before.disk) (state now.disk))
-    → Brings (a_point p) said (state before.disk) (state now.disk) → PutBy state old (middle s tenure begun before now old said) p said
-put_by {D} state s tenure begun old before now p said view ok unchanged brings = subst (λ (m : MachineState D). PutBy state m (middle s tenure begun before now m said) p said) view (by said ok unchanged brings)
+    → Brings (a_point p) said (state before.disk) (state now.disk) → PutBy state old (middle s tenure begun work before now old said) p said
+put_by {D} state s tenure begun work old before now p said view ok unchanged brings = subst (λ (m : MachineState D). PutBy state m (middle s tenure begun work before now m said) p said) view (by said ok unchanged brings)
   where
     by : (said : Result ⊤ DiskErr) → OnOk said (now ≡ record before { disk = now.disk; buffered = raised before.buffered p; content = raised before.content p }) → ((state before.disk).tells ≡ true → IsErrOf said refused.Memory → Becomes (λ files. files) (state before.disk) (state now.disk))
-        → Brings (a_point p) said (state before.disk) (state now.disk) → PutBy state (machine_of s tenure begun before) (middle s tenure begun before now (machine_of s tenure begun before) said) p said
+        → Brings (a_point p) said (state before.disk) (state now.disk) → PutBy state (machine_of s tenure begun work before) (middle s tenure begun work before now (machine_of s tenure begun work before) said) p said
     by (Ok u) ok unchanged brings =
-        let is = ap (machine_of s tenure begun) ok in
-        record { ok = is; memory = λ f. absurd (cc); fault = is ∙ ap (λ (x : StoreState D). record (machine_of s tenure begun before) { disk = now.disk; buffered = x.buffered; content = x.content }) (sym ok); unchanged = unchanged; disk = brings }
+        let is = ap (machine_of s tenure begun work) ok in
+        record { ok = is; memory = λ f. absurd (cc); fault = is ∙ ap (λ (x : StoreState D). record (machine_of s tenure begun work before) { disk = now.disk; buffered = x.buffered; content = x.content }) (sym ok); unchanged = unchanged; disk = brings }
     by (Err why) ok unchanged brings = record { ok = tt; memory = λ f. refl; fault = refl; unchanged = unchanged; disk = brings }

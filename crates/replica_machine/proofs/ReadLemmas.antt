@@ -32,6 +32,7 @@ use Rattle.cluster_core.specs.declared.event.StepCall.{StepCall}
 use Rattle.cluster_core.specs.declared.event.StepCall.TheVariants as call
 use Rattle.cluster_core.specs.declared.event.StepReply.TheVariants as reply
 use Rattle.cluster_core.specs.declared.replica_state.ReplicaState.{ReplicaState}
+use Rattle.replica_machine.specs.declared.work.Work.{Work}
 use Rattle.replica_machine.specs.Boots.{IsRefused}
 use Rattle.replica_machine.specs.Damages.{told_of, IsFileDamage}
 use Rattle.replica_machine.specs.Machines.{MachineState, IsMachineOf, IsHeldBy, IsLiveAnswer, refusal, unserved, shut_machine}
@@ -220,27 +221,27 @@ module _ {D : Type 0} (state : D → DiskState) (old : MachineState D) (rules : 
         never f = cc
 
 -- by a machine's parts: what the store's fetch said, and what it left
-module _ {D : Type 0} (state : D → DiskState) (s : Standing) (tenure : Option ℕ) (begun : ℕ) (before now : StoreState D) (rules : Rules) (version : ℕ) (pick : Pick) (from to : ℕ) (served : unserved (machine_of s tenure begun before) version ≡ None) (space : Space)
+module _ {D : Type 0} (state : D → DiskState) (s : Standing) (tenure : Option ℕ) (begun : ℕ) (work : Work) (before now : StoreState D) (rules : Rules) (version : ℕ) (pick : Pick) (from to : ℕ) (served : unserved (machine_of s tenure begun work before) version ≡ None) (space : Space)
     (at : slice_get rules.spaces (space_picked pick) ≡ Some space) where
   abbrev Done : Result (List Series) Reason → MachineState D → Type 0
-  Done result new = ReadDone state (machine_of s tenure begun before) rules version pick from to result new
+  Done result new = ReadDone state (machine_of s tenure begun work before) rules version pick from to result new
 
-  moved : (now_s : Standing) → now_s ≡ s → now ≡ record before { disk = now.disk } → machine_of now_s tenure begun now ≡ record (machine_of s tenure begun before) { disk = now.disk }
-  moved now_s same is = ap (λ (x : Standing). machine_of x tenure begun now) same ∙ ap (machine_of s tenure begun) is
+  moved : (now_s : Standing) → now_s ≡ s → now ≡ record before { disk = now.disk } → machine_of now_s tenure begun work now ≡ record (machine_of s tenure begun work before) { disk = now.disk }
+  moved now_s same is = ap (λ (x : Standing). machine_of x tenure begun work now) same ∙ ap (machine_of s tenure begun work) is
 
   read_said : (said : Result (List Series) FileErr) (now_s : Standing) → ((state before.disk).tells ≡ true → IfOk said (IsLiveAnswer before.content rules pick from to)) → IfOk said IsOrdered → OnOk said (now ≡ record before { disk = now.disk })
       → (IsErrOf said unread.Memory → now ≡ record before { disk = now.disk }) → IfErr said (λ why. why ≢ unread.Memory → now ≡ closed_over now.disk) → ((state before.disk).tells ≡ true → IfErr said IsUndamaged)
-      → LeavesFiles (IsErrOf said unread.Disk) (state before.disk) (state now.disk) → OnOk said (now_s ≡ s) → IfErr said (λ why. why ≢ unread.Memory → now_s ≡ standing.Down) → (IsErrOf said unread.Memory → now_s ≡ s) → Done (files_answer said) (machine_of now_s tenure begun now)
+      → LeavesFiles (IsErrOf said unread.Disk) (state before.disk) (state now.disk) → OnOk said (now_s ≡ s) → IfErr said (λ why. why ≢ unread.Memory → now_s ≡ standing.Down) → (IsErrOf said unread.Memory → now_s ≡ s) → Done (files_answer said) (machine_of now_s tenure begun work now)
   read_said (Ok series) now_s answer ordered ok memory closed sound leaves stays down same =
-      subst (Done (Ok series)) (sym (moved now_s stays ok)) (read_ok state (machine_of s tenure begun before) rules version pick from to served _ now.disk leaves space series at answer ordered)
+      subst (Done (Ok series)) (sym (moved now_s stays ok)) (read_ok state (machine_of s tenure begun work before) rules version pick from to served _ now.disk leaves space series at answer ordered)
   read_said (Err unread.Memory) now_s answer ordered ok memory closed sound leaves stays down same =
-      subst (Done (Err reason.Memory)) (sym (moved now_s (same refl) (memory refl))) (read_memory state (machine_of s tenure begun before) rules version pick from to served _ now.disk leaves)
+      subst (Done (Err reason.Memory)) (sym (moved now_s (same refl) (memory refl))) (read_memory state (machine_of s tenure begun work before) rules version pick from to served _ now.disk leaves)
   read_said (Err unread.Disk) now_s answer ordered ok memory closed sound leaves stays down same =
-      subst (Done (Err reason.Disk)) (sym (shut_is s tenure begun before now now_s (down (λ e. cc)) (closed (λ e. cc)))) (read_fault state (machine_of s tenure begun before) rules version pick from to served _ now.disk leaves refl)
+      subst (Done (Err reason.Disk)) (sym (shut_is s tenure begun work before now now_s (down (λ e. cc)) (closed (λ e. cc)))) (read_fault state (machine_of s tenure begun work before) rules version pick from to served _ now.disk leaves refl)
   read_said (Err (unread.Form file)) now_s answer ordered ok memory closed sound leaves stays down same =
-      subst (Done (Err (reason.Corrupt (told_of (OfForm file 0))))) (sym (shut_is s tenure begun before now now_s (down (λ e. cc)) (closed (λ e. cc)))) (read_damage state (machine_of s tenure begun before) rules version pick from to served _ now.disk leaves file (λ tells. sound tells))
+      subst (Done (Err (reason.Corrupt (told_of (OfForm file 0))))) (sym (shut_is s tenure begun work before now now_s (down (λ e. cc)) (closed (λ e. cc)))) (read_damage state (machine_of s tenure begun work before) rules version pick from to served _ now.disk leaves file (λ tells. sound tells))
 
   pub read_done : (said : Result (List Series) FileErr) (result : Result (List Series) Reason) (now_s : Standing) → result ≡ files_answer said → ((state before.disk).tells ≡ true → IfOk said (IsLiveAnswer before.content rules pick from to)) → IfOk said IsOrdered
       → OnOk said (now ≡ record before { disk = now.disk }) → (IsErrOf said unread.Memory → now ≡ record before { disk = now.disk }) → IfErr said (λ why. why ≢ unread.Memory → now ≡ closed_over now.disk) → ((state before.disk).tells ≡ true → IfErr said IsUndamaged)
-      → LeavesFiles (IsErrOf said unread.Disk) (state before.disk) (state now.disk) → OnOk said (now_s ≡ s) → IfErr said (λ why. why ≢ unread.Memory → now_s ≡ standing.Down) → (IsErrOf said unread.Memory → now_s ≡ s) → Done result (machine_of now_s tenure begun now)
-  read_done said result now_s is answer ordered ok memory closed sound leaves stays down same = subst (λ (r : Result (List Series) Reason). Done r (machine_of now_s tenure begun now)) (sym is) (read_said said now_s answer ordered ok memory closed sound leaves stays down same)
+      → LeavesFiles (IsErrOf said unread.Disk) (state before.disk) (state now.disk) → OnOk said (now_s ≡ s) → IfErr said (λ why. why ≢ unread.Memory → now_s ≡ standing.Down) → (IsErrOf said unread.Memory → now_s ≡ s) → Done result (machine_of now_s tenure begun work now)
+  read_done said result now_s is answer ordered ok memory closed sound leaves stays down same = subst (λ (r : Result (List Series) Reason). Done r (machine_of now_s tenure begun work now)) (sym is) (read_said said now_s answer ordered ok memory closed sound leaves stays down same)

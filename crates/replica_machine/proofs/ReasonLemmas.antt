@@ -14,7 +14,7 @@ use Rattle.m3_outside.specs.Files.{Files}
 use Rattle.m3_outside.specs.DiskState.{DiskState}
 use Rattle.m3_outside.specs.declared.disk_err.DiskErr.{DiskErr}
 use Rattle.m3_outside.specs.declared.disk_err.DiskErr.TheVariants as refused
-use Rattle.cluster_core.specs.Refusals.{reason_if, shut, unowned, outdated, outside_of, outside, first_refusal}
+use Rattle.cluster_core.specs.Refusals.{reason_if, shut, unowned, untenured, outdated, outside_of, outside, first_refusal}
 use Rattle.cluster_core.specs.Rows.{ReplicaMayRefuse, MayBeUnowned}
 use Rattle.cluster_core.specs.declared.event.Event.{Event}
 use Rattle.cluster_core.specs.declared.event.StepCall.{StepCall}
@@ -84,6 +84,13 @@ put_plain s t fence version rules p why e =
 
 pub fence_plain : (s : Standing) (t : Option ℕ) (version : ℕ) (why : Reason) → option_or (shut s) (unowned t version) ≡ Some why → IsPlain why
 fence_plain s t version why e = at_some (option_or (shut s) (unowned t version)) why (plain_or (shut s) _ (shut_plain s) (unowned_plain t version)) e
+
+untenured_plain : (t : Option ℕ) → ArePlain (untenured t)
+untenured_plain None = tt
+untenured_plain (Some since) = tt
+
+pub unheld_plain : (s : Standing) (t : Option ℕ) (why : Reason) → option_or (shut s) (untenured t) ≡ Some why → IsPlain why
+unheld_plain s t why e = at_some (option_or (shut s) (untenured t)) why (plain_or (shut s) _ (shut_plain s) (untenured_plain t)) e
 
 pub plain_no_damage : (why : Reason) → IsPlain why → (damage : Damage) → why ≢ reason.Corrupt damage
 plain_no_damage why plain damage e = subst IsPlain e plain

@@ -24,15 +24,17 @@ use Rattle.cluster_core.specs.Replicas.{after, down}
 use Rattle.cluster_core.specs.declared.event.StepCall.TheVariants as call
 use Rattle.cluster_core.specs.declared.event.StepReply.TheVariants as reply
 use Rattle.cluster_core.specs.declared.replica_state.ReplicaState.{ReplicaState}
+use Rattle.replica_machine.specs.declared.work.Work.{Work}
 use Rattle.replica_machine.specs.Boots.{IsRefused}
 use Rattle.replica_machine.specs.Machines.{MachineState, IsMachineOf, IsRefusedFor, refusal, settled_answer, shut_machine}
+use Rattle.replica_machine.specs.Works.{with_snapshot, work_after}
 use Rattle.replica_machine.specs.Steps.{reply_by, IsStep}
 use Rattle.replica_machine.specs.Upkeep.{IsSaved}
 use Rattle.replica_machine.proofs.FilesLemmas.{plain_left, shut_is, moved_is}
 use Rattle.replica_machine.proofs.KeptLemmas.{images_of}
 use Rattle.replica_machine.proofs.ReasonLemmas.{IsPlain, plain_lawful, plain_no_damage, plain_no_fault, shut_by, refused_none, refused_some}
 use Rattle.replica_machine.proofs.RearrangedLemmas as rearranged
-use Rattle.replica_machine.proofs.StepLemmas.{machine_of}
+use Rattle.replica_machine.proofs.StepLemmas.{machine_of, whatever_work}
 
 -- the volumes that count are the same after a call as before it
 abbrev pub SameVolumes : Files → Files → Type 0
@@ -98,17 +100,17 @@ module _ {D : Type 0} (state : D → DiskState) (old : MachineState D) where
       reply_damage damage e = cc
 
 -- by a machine's parts: what the store's snapshot did
-module _ {D : Type 0} (state : D → DiskState) (s : Standing) (tenure : Option ℕ) (begun : ℕ) (before now : StoreState D) (is_open : s ≡ standing.Open) (F : Type 0) (moves : Rearranges before.content F (state before.disk) (state now.disk)) where
+module _ {D : Type 0} (state : D → DiskState) (s : Standing) (tenure : Option ℕ) (begun : ℕ) (work : Work) (before now : StoreState D) (is_open : s ≡ standing.Open) (F : Type 0) (moves : Rearranges before.content F (state before.disk) (state now.disk)) where
   abbrev m : MachineState D
-  m = machine_of s tenure begun before
+  m = machine_of s tenure begun work before
 
   taken : refusal m call.Snapshot ≡ None
   taken = ap shut is_open
 
   -- an open machine, of which only the disk has changed
-  follows_open : now ≡ record before { disk = now.disk } → (made : D) (r : ReplicaState) → IsMachineOf state (state made).images r m → IsMachineOf state (state made).images r (machine_of s tenure begun now)
+  follows_open : now ≡ record before { disk = now.disk } → (made : D) (r : ReplicaState) → IsMachineOf state (state made).images r m → IsMachineOf state (state made).images r (machine_of s tenure begun work now)
   follows_open same made r h =
-      subst (IsMachineOf state (state made).images r) (sym (moved_is s tenure begun before now (ap (λ (x : StoreState D). x.fence) same)))
+      subst (IsMachineOf state (state made).images r) (sym (moved_is s tenure begun work before now (ap (λ (x : StoreState D). x.fence) same)))
       ((rearranged.kept_machine state).open_ made r m now.disk now.buffered now.content is_open (images_of before.content F (state before.disk) (state now.disk) moves) (λ tells. ap (λ (x : StoreState D). x.content) same) h)
 
   first_none : {base : Files → Type 0} → (r : ReplicaState) → IsMachineOf state base r m → first_refusal r call.Snapshot ≡ None
@@ -119,9 +121,9 @@ module _ {D : Type 0} (state : D → DiskState) (s : Standing) (tenure : Option 
 
   saved_ok : (n : ℕ) → now ≡ record before { disk = now.disk } → ((state before.disk).tells ≡ true → n ≡ next_snapshot (state before.disk).files)
       → EachImage (state now.disk) (HasOneSnapshot n (next_after (numbers (state before.disk).files)) before.buffered before.tenure before.fence)
-      → ((state before.disk).tells ≡ true → SameVolumes (state before.disk).files (state now.disk).files) → Done (Ok n) (machine_of s tenure begun now)
+      → ((state before.disk).tells ≡ true → SameVolumes (state before.disk).files (state now.disk).files) → Done (Ok n) (machine_of s tenure begun (with_snapshot n work) now)
   saved_ok n same number saved volumes = record {
-    ok = record { same = ap (machine_of s tenure begun) same; number = number; tenure = before.tenure; saved = saved };
+    ok = record { same = ap (machine_of s tenure begun (with_snapshot n work)) same; number = number; tenure = before.tenure; saved = saved };
     volumes = λ tells fine. volumes tells;
     err = tt;
     plain = λ not. absurd (not taken);
@@ -129,7 +131,7 @@ module _ {D : Type 0} (state : D → DiskState) (s : Standing) (tenure : Option 
     disk = rearranges_for before.content F _ (state before.disk) (state now.disk) (λ f. absurd (never f)) moves;
     step = record {
       lawful = λ made r h past k t given. sym h.stands ∙ is_open;
-      follows = follows_open same;
+      follows = λ made r h. whatever_work state (state made).images r (machine_of s tenure begun work now) (with_snapshot n work) (follows_open same made r h);
       opens = λ made r h told none. tt;
       sound = λ damage e. absurd (cc);
       tells = moves.tells;
@@ -140,11 +142,11 @@ module _ {D : Type 0} (state : D → DiskState) (s : Standing) (tenure : Option 
       never : (let r : Said = Ok n in IsErrOf r reason.Disk) → ⊥
       never f = cc
 
-  saved_memory : now ≡ record before { disk = now.disk } → ((state before.disk).tells ≡ true → SameVolumes (state before.disk).files (state now.disk).files) → Done (Err reason.Memory) (machine_of s tenure begun now)
+  saved_memory : now ≡ record before { disk = now.disk } → ((state before.disk).tells ≡ true → SameVolumes (state before.disk).files (state now.disk).files) → Done (Err reason.Memory) (machine_of s tenure begun work now)
   saved_memory same volumes = record {
     ok = tt;
     volumes = λ tells fine. volumes tells;
-    err = ap (machine_of s tenure begun) same;
+    err = ap (machine_of s tenure begun work) same;
     plain = λ not. absurd (not taken);
     refused = refused_none {X = ℕ} (refusal m call.Snapshot) (Err refused.Memory) taken;
     disk = rearranges_for before.content F _ (state before.disk) (state now.disk) (λ f. absurd (never f)) moves;
@@ -180,25 +182,25 @@ module _ {D : Type 0} (state : D → DiskState) (s : Standing) (tenure : Option 
   }
 
 -- what the store answered, and what it left
-module _ {D : Type 0} (state : D → DiskState) (s : Standing) (tenure : Option ℕ) (begun : ℕ) (before now : StoreState D) (is_open : s ≡ standing.Open) where
-  abbrev Left : Standing → Result ℕ Reason → Type 0
-  Left now_s result = SavedDone state (machine_of s tenure begun before) result (machine_of now_s tenure begun now)
+module _ {D : Type 0} (state : D → DiskState) (s : Standing) (tenure : Option ℕ) (begun : ℕ) (work : Work) (before now : StoreState D) (is_open : s ≡ standing.Open) where
+  abbrev Left : Standing → Work → Result ℕ Reason → Type 0
+  Left now_s w result = SavedDone state (machine_of s tenure begun work before) result (machine_of now_s tenure begun w now)
 
   saved_said : (said : Result ℕ DiskErr) (now_s : Standing) → OnOk said (now ≡ record before { disk = now.disk }) → ((state before.disk).tells ≡ true → IfOk said (λ n. n ≡ next_snapshot (state before.disk).files))
       → IfOk said (λ n. EachImage (state now.disk) (HasOneSnapshot n (next_after (numbers (state before.disk).files)) before.buffered before.tenure before.fence))
       → ((state before.disk).tells ≡ true → ¬ (IsErrOf said refused.Failed) → SameVolumes (state before.disk).files (state now.disk).files) → (IsErrOf said refused.Memory → now ≡ record before { disk = now.disk })
       → (IsErrOf said refused.Failed → now ≡ closed_over now.disk) → Rearranges before.content (IsErrOf said refused.Failed) (state before.disk) (state now.disk)
-      → (IsErrOf said refused.Failed → now_s ≡ standing.Down) → (¬ (IsErrOf said refused.Failed) → now_s ≡ s) → Left now_s (settled_answer said)
+      → (IsErrOf said refused.Failed → now_s ≡ standing.Down) → (¬ (IsErrOf said refused.Failed) → now_s ≡ s) → Left now_s (work_after with_snapshot said work) (settled_answer said)
   saved_said (Ok n) now_s ok number saved volumes memory fault moves down stays =
-      subst (λ (x : Standing). Left x (Ok n)) (sym (stays (λ f. cc))) (saved_ok state s tenure begun before now is_open _ moves n ok number saved (λ tells. volumes tells (λ f. cc)))
+      subst (λ (x : Standing). Left x (with_snapshot n work) (Ok n)) (sym (stays (λ f. cc))) (saved_ok state s tenure begun work before now is_open _ moves n ok number saved (λ tells. volumes tells (λ f. cc)))
   saved_said (Err refused.Memory) now_s ok number saved volumes memory fault moves down stays =
-      subst (λ (x : Standing). Left x (Err reason.Memory)) (sym (stays (λ f. cc))) (saved_memory state s tenure begun before now is_open _ moves (memory refl) (λ tells. volumes tells (λ f. cc)))
+      subst (λ (x : Standing). Left x work (Err reason.Memory)) (sym (stays (λ f. cc))) (saved_memory state s tenure begun work before now is_open _ moves (memory refl) (λ tells. volumes tells (λ f. cc)))
   saved_said (Err refused.Failed) now_s ok number saved volumes memory fault moves down stays =
-      subst (SavedDone state (machine_of s tenure begun before) (Err reason.Disk)) (sym (shut_is s tenure begun before now now_s (down refl) (fault refl))) (saved_fault state s tenure begun before now is_open _ moves refl)
+      subst (SavedDone state (machine_of s tenure begun work before) (Err reason.Disk)) (sym (shut_is s tenure begun work before now now_s (down refl) (fault refl))) (saved_fault state s tenure begun work before now is_open _ moves refl)
 
   pub saved_done : (said : Result ℕ DiskErr) (result : Result ℕ Reason) (now_s : Standing) → result ≡ settled_answer said → OnOk said (now ≡ record before { disk = now.disk }) → ((state before.disk).tells ≡ true → IfOk said (λ n. n ≡ next_snapshot (state before.disk).files))
       → IfOk said (λ n. EachImage (state now.disk) (HasOneSnapshot n (next_after (numbers (state before.disk).files)) before.buffered before.tenure before.fence))
       → ((state before.disk).tells ≡ true → ¬ (IsErrOf said refused.Failed) → SameVolumes (state before.disk).files (state now.disk).files) → (IsErrOf said refused.Memory → now ≡ record before { disk = now.disk })
       → (IsErrOf said refused.Failed → now ≡ closed_over now.disk) → Rearranges before.content (IsErrOf said refused.Failed) (state before.disk) (state now.disk)
-      → (IsErrOf said refused.Failed → now_s ≡ standing.Down) → (¬ (IsErrOf said refused.Failed) → now_s ≡ s) → Left now_s result
-  saved_done said result now_s is ok number saved volumes memory fault moves down stays = subst (Left now_s) (sym is) (saved_said said now_s ok number saved volumes memory fault moves down stays)
+      → (IsErrOf said refused.Failed → now_s ≡ standing.Down) → (¬ (IsErrOf said refused.Failed) → now_s ≡ s) → Left now_s (work_after with_snapshot said work) result
+  saved_done said result now_s is ok number saved volumes memory fault moves down stays = subst (Left now_s (work_after with_snapshot said work)) (sym is) (saved_said said now_s ok number saved volumes memory fault moves down stays)

@@ -19,6 +19,7 @@ use Rattle.cluster_core.specs.declared.replica_state.ReplicaState.{ReplicaState}
 use Rattle.m3_outside.specs.declared.disk_err.DiskErr.{DiskErr}
 use Rattle.m3_outside.specs.declared.disk_err.DiskErr.TheVariants as refused
 use Rattle.shard_store.specs.Stores.{StoreState, closed_over}
+use Rattle.replica_machine.specs.declared.work.Work.{Work}
 use Rattle.replica_machine.specs.Bases.{CameFrom}
 use Rattle.replica_machine.specs.Machines.{MachineState, IsStoreOf, IsMachineOf, IsHeldBy, IsGreatest, shut_machine, settled, unserved}
 use Rattle.replica_machine.proofs.DiskLemmas.{each_step, each_whole}
@@ -133,6 +134,19 @@ module _ {D : Type 0} (state : D → DiskState) (base : Files → Type 0) where
   pub shown : (r : ReplicaState) (m : MachineState D) (version : ℕ) → IsMachineOf state base r m → unserved m version ≡ None → (state m.disk).tells ≡ true → Shows r m.content
   shown r m version h e tells = (h.open_ (up m.standing m.tenure m.fence version e).open_).shows tells
 
+  -- its work is no matter of the replica
+  pub whatever_work : (r : ReplicaState) (m : MachineState D) (w : Work) → IsMachineOf state base r m → IsMachineOf state base r (record m { work = w })
+  whatever_work r m w h = record {
+    stands = h.stands;
+    begun = h.begun;
+    below = h.below;
+    empty = h.empty;
+    open_ = λ o. let a = h.open_ o in record { begun = a.begun; tenure = a.tenure; fence = a.fence; sure = a.sure; sure_fences = a.sure_fences; shows = a.shows };
+    files = h.files;
+    unbegun = h.unbegun;
+    snapshots = h.snapshots;
+  }
+
 -- the store of an open machine is open
 pub store_open : {D : Type 0} (s : Standing) (store : StoreState D) → IsStoreOf s store → s ≡ standing.Open → store.open_ ≡ true
 store_open s store of is_open = subst (λ (x : Standing). IsStoreOf x store) is_open of
@@ -141,25 +155,25 @@ pub store_stays : {D : Type 0} (s : Standing) (store : StoreState D) → s ≡ s
 store_stays s store is_open open_ = subst (λ (x : Standing). IsStoreOf x store) (sym is_open) open_
 
 -- a machine by its own fields and its store
-abbrev pub machine_of : {D : Type 0} → Standing → Option ℕ → ℕ → StoreState D → MachineState D
-machine_of s tenure begun store = record { standing = s; tenure = tenure; begun = begun; fence = store.fence; buffered = store.buffered; content = store.content; disk = store.disk }
+abbrev pub machine_of : {D : Type 0} → Standing → Option ℕ → ℕ → Work → StoreState D → MachineState D
+machine_of s tenure begun work store = record { standing = s; tenure = tenure; begun = begun; fence = store.fence; buffered = store.buffered; content = store.content; disk = store.disk; work = work }
 
 pub failed_is : (e : DiskErr) → (let said : Result ⊤ DiskErr = Err e in IsErrOf said refused.Failed) → e ≡ refused.Failed
 failed_is e f = cc
 
 -- ---- what a store's call leaves of an open machine, which a fault takes down
 
-module _ {D : Type 0} (s : Standing) (tenure : Option ℕ) (begun : ℕ) (before now : StoreState D) where
+module _ {D : Type 0} (s : Standing) (tenure : Option ℕ) (begun : ℕ) (work : Work) (before now : StoreState D) where
   -- the machine with what the call did, or as it was where it was refused
   abbrev pub middle : MachineState D → Result ⊤ DiskErr → MachineState D
-  middle old (Ok u) = machine_of s tenure begun now
+  middle old (Ok u) = machine_of s tenure begun work now
   middle old (Err why) = record old { disk = now.disk }
 
   pub settled_is : (now_s : Standing) (said : Result ⊤ DiskErr) → (IsErrOf said refused.Memory → now ≡ record before { disk = now.disk }) → (IsErrOf said refused.Failed → now ≡ closed_over now.disk) → (IsErrOf said refused.Failed → now_s ≡ standing.Down)
-      → ((IsErrOf said refused.Failed → ⊥) → now_s ≡ s) → machine_of now_s tenure begun now ≡ settled said (middle (machine_of s tenure begun before) said)
-  settled_is now_s (Ok u) memory fault down stays = ap (λ (x : Standing). machine_of x tenure begun now) (stays (λ f. cc))
-  settled_is now_s (Err refused.Memory) memory fault down stays = ap (λ (x : Standing). machine_of x tenure begun now) (stays (λ f. cc)) ∙ ap (machine_of s tenure begun) (memory refl)
-  settled_is now_s (Err refused.Failed) memory fault down stays = ap (λ (x : Standing). machine_of x tenure begun now) (down refl) ∙ ap (machine_of standing.Down tenure begun) (fault refl)
+      → ((IsErrOf said refused.Failed → ⊥) → now_s ≡ s) → machine_of now_s tenure begun work now ≡ settled said (middle (machine_of s tenure begun work before) said)
+  settled_is now_s (Ok u) memory fault down stays = ap (λ (x : Standing). machine_of x tenure begun work now) (stays (λ f. cc))
+  settled_is now_s (Err refused.Memory) memory fault down stays = ap (λ (x : Standing). machine_of x tenure begun work now) (stays (λ f. cc)) ∙ ap (machine_of s tenure begun work) (memory refl)
+  settled_is now_s (Err refused.Failed) memory fault down stays = ap (λ (x : Standing). machine_of x tenure begun work now) (down refl) ∙ ap (machine_of standing.Down tenure begun work) (fault refl)
 
   pub store_after : {X : Type 0} (now_s : Standing) (said : Result X DiskErr) → s ≡ standing.Open → before.open_ ≡ true → OnOk said (now.open_ ≡ true) → (IsErrOf said refused.Memory → now ≡ record before { disk = now.disk }) → (IsErrOf said refused.Failed → now ≡ closed_over now.disk)
       → (IsErrOf said refused.Failed → now_s ≡ standing.Down) → ((IsErrOf said refused.Failed → ⊥) → now_s ≡ s) → IsStoreOf now_s now

@@ -31,7 +31,7 @@ pub record BeganFrom {D : Type 0} (state : D → DiskState) (tenure : ℕ) (old 
   pub held : Told (state old.disk) (HeldOnce began.points tenure_found fence_found)
   pub not_higher : tenure_found ≤ tenure
   pub fence_is : began.fence ≡ max fence_found tenure
-  pub new_is : new ≡ record { standing = standing.Open; tenure = Some tenure; begun = tenure; fence = began.fence; buffered = new.buffered; content = new.content; disk = new.disk }
+  pub new_is : new ≡ record { standing = standing.Open; tenure = Some tenure; begun = tenure; fence = began.fence; buffered = new.buffered; content = new.content; disk = new.disk; work = old.work }
   pub content : (state old.disk).tells ≡ true → new.content ≡ content_of began.points
   pub buffered : Told (state old.disk) (AreBesideVolumes began.points new.buffered)
 

@@ -24,16 +24,19 @@ use Rattle.m3_outside.specs.declared.disk_err.DiskErr.TheVariants as refused
 use Rattle.shard_store.specs.shard_files.Parts.{AreWhole}
 use Rattle.shard_store.specs.shard_files.FilesHold.{FilesHold}
 use Rattle.shard_store.specs.Stores.{StoreState, closed_over}
-use Rattle.cluster_core.specs.Refusals.{shut, unowned, outdated, first_refusal}
+use Rattle.cluster_core.specs.Refusals.{shut, unowned, untenured, outdated, first_refusal}
 use Rattle.cluster_core.specs.Replicas.{Shows, IsGone, fresh}
 use Rattle.cluster_core.specs.declared.event.StepCall.{StepCall}
 use Rattle.cluster_core.specs.declared.replica_state.ReplicaState.{ReplicaState}
+use Rattle.replica_machine.specs.declared.work.Work.{Work}
 use Rattle.replica_machine.specs.Bases.{CameFrom}
+use Rattle.replica_machine.specs.Works.{no_work}
 
 -- ---- a machine
 
 -- What a machine is: how it stands, the version that gave it its shard, the greatest with which it began, and its disk; and, while it is open, the
--- version below which it refuses, the points that it has in memory, and its content, which is these joined with the points of its volumes.
+-- version below which it refuses, the points that it has in memory, and its content, which is these joined with the points of its volumes. Also what it has
+-- done since it was made.
 pub record MachineState (D : Type 0) : Type 0 where
   pub standing : Standing
   pub tenure : Option ℕ
@@ -42,6 +45,7 @@ pub record MachineState (D : Type 0) : Type 0 where
   pub buffered : Contents
   pub content : Contents
   pub disk : D
+  pub work : Work
 
 abbrev pub standing_bits : Standing → Option Bool
 standing_bits standing.Down = None
@@ -61,11 +65,16 @@ standing_by_own_bits standing.Open = refl
 abbrev pub standing_code : Coded Standing
 standing_code = code_by (Option Bool) (coded_option coded_bool) standing_bits standing_by_bits standing_by_own_bits
 
+abbrev pub work_code : Coded Work
+work_code =
+    code_by (ℕ × (ℕ × (ℕ × ℕ))) (coded× coded_ℕ (coded× coded_ℕ (coded× coded_ℕ coded_ℕ)))
+    (λ w. (w.ticks, (w.flushes, (w.snapshots, w.sum)))) (λ p. record { ticks = p.0; flushes = p.1.0; snapshots = p.1.1.0; sum = p.1.1.1 }) (λ _. refl)
+
 abbrev pub machine_code : {D : Type 0} → Coded D → Coded (MachineState D)
 machine_code {D} disk_code =
-    code_by (Standing × (Option ℕ × (ℕ × (ℕ × (Contents × (Contents × D)))))) (coded× standing_code (coded× (coded_option coded_ℕ) (coded× coded_ℕ (coded× coded_ℕ (coded× contents_code (coded× contents_code disk_code))))))
-    (λ m. (m.standing, (m.tenure, (m.begun, (m.fence, (m.buffered, (m.content, m.disk)))))))
-    (λ p. record { standing = p.0; tenure = p.1.0; begun = p.1.1.0; fence = p.1.1.1.0; buffered = p.1.1.1.1.0; content = p.1.1.1.1.1.0; disk = p.1.1.1.1.1.1 }) (λ _. refl)
+    code_by (Standing × (Option ℕ × (ℕ × (ℕ × (Contents × (Contents × (D × Work))))))) (coded× standing_code (coded× (coded_option coded_ℕ) (coded× coded_ℕ (coded× coded_ℕ (coded× contents_code (coded× contents_code (coded× disk_code work_code)))))))
+    (λ m. (m.standing, (m.tenure, (m.begun, (m.fence, (m.buffered, (m.content, (m.disk, m.work))))))))
+    (λ p. record { standing = p.0; tenure = p.1.0; begun = p.1.1.0; fence = p.1.1.1.0; buffered = p.1.1.1.1.0; content = p.1.1.1.1.1.0; disk = p.1.1.1.1.1.1.0; work = p.1.1.1.1.1.1.1 }) (λ _. refl)
 
 -- the machine's store is open exactly where the machine is, and else has nothing in memory
 abbrev pub IsStoreOf : {D : Type 0} → Standing → StoreState D → Type 0
@@ -73,13 +82,13 @@ IsStoreOf standing.Down s = s ≡ closed_over s.disk
 IsStoreOf standing.Boot s = s ≡ closed_over s.disk
 IsStoreOf standing.Open s = s.open_ ≡ true
 
--- over a disk from which nothing was read yet
+-- over a disk from which nothing was read yet, and without work
 abbrev pub first_machine : {D : Type 0} → D → MachineState D
-first_machine disk = record { standing = standing.Boot; tenure = None; begun = 0; fence = 0; buffered = finite.empty; content = finite.empty; disk = disk }
+first_machine disk = record { standing = standing.Boot; tenure = None; begun = 0; fence = 0; buffered = finite.empty; content = finite.empty; disk = disk; work = no_work }
 
 -- without points in memory
 abbrev pub shut_machine : {D : Type 0} → Standing → MachineState D → D → MachineState D
-shut_machine s m disk = record { standing = s; tenure = m.tenure; begun = m.begun; fence = 0; buffered = finite.empty; content = finite.empty; disk = disk }
+shut_machine s m disk = record { standing = s; tenure = m.tenure; begun = m.begun; fence = 0; buffered = finite.empty; content = finite.empty; disk = disk; work = m.work }
 
 -- ---- what it answers for its disk, what it refuses, and what it finds
 
@@ -111,6 +120,10 @@ refusal m c = first_refusal (standing_like m) c
 -- why a write or a read of this version is refused, whatever the write's time
 abbrev pub unserved : {D : Type 0} → MachineState D → ℕ → Option Reason
 unserved m version = option_or (shut m.standing) (option_or (unowned m.tenure version) (outdated m.fence version))
+
+-- why a call that asks for the shard alone is refused
+abbrev pub unheld : {D : Type 0} → MachineState D → Option Reason
+unheld m = option_or (shut m.standing) (untenured m.tenure)
 
 -- want of memory, or a fault of the disk
 abbrev pub IsOwn : Reason → Type 0

@@ -5,12 +5,16 @@ mod boot;
 mod damage;
 pub mod laws;
 pub mod machine;
+mod merging;
 mod opening;
+mod paging;
 mod reading;
 mod refusals;
 mod upkeep;
+pub mod work;
 
 pub use machine::{Began, Machine};
+pub use work::Work;
 
 // Of libraries that the rows of crates above need not name: what these crates name of them.
 /// Of `cluster_core`.
@@ -19,7 +23,7 @@ pub mod of_cluster_core {
 }
 /// Of `m3_model`.
 pub mod of_m3_model {
-    pub use m3_model::{Pick, Point, Reason, Report, Rules, Seq, Series};
+    pub use m3_model::{Key, Page, Pick, Point, Reason, Report, Rules, Seq, Series};
 }
 /// Of `m3_outside`.
 pub mod of_m3_outside {

@@ -15,10 +15,11 @@ ghost use Rattle.cluster_core.specs.Replicas.{fresh};
 ghost use Rattle.cluster_core.specs.Rows.{open_fence};
 ghost use Rattle.cluster_core.specs.declared.event.StepCall.TheVariants as call;
 ghost use Rattle.cluster_core.specs.declared.event.StepReply.TheVariants as reply;
-ghost use Rattle.replica_machine.specs.Machines.{first_machine, shut_machine, IsMachineOf, reason_of, left_by, settled_answer, refusal, unserved, IsOwn, IsRefusedFor};
+ghost use Rattle.replica_machine.specs.Machines.{first_machine, shut_machine, IsMachineOf, reason_of, left_by, settled_answer, refusal, unheld, unserved, IsOwn, IsRefusedFor};
 ghost use Rattle.replica_machine.specs.Steps.{reply_by, IsStep, BringsTo, RestartsTo};
 
-use crate::refusals::{check_fence, check_open, check_owner, check_window};
+use crate::refusals::{check_fence, check_open, check_owner, check_tenure, check_window};
+use crate::work::Work;
 use m3_model::{Point, Reason, Report, Rules, Seq, Standing};
 use m3_outside::{Disk, DiskErr};
 use shard_store::Store;
@@ -49,6 +50,7 @@ pub struct Machine<D: Disk> {
     // The greatest tenure with which it began, and 0 where it hasn't.
     pub(crate) begun: u64,
     pub(crate) store: Store<D>,
+    pub(crate) work: Work,
 }
 
 impl<D: Disk> Model for Machine<D> {
@@ -59,7 +61,7 @@ impl<D: Disk> Model for Machine<D> {
 
     ghost coded = { machine_code D.code };
 
-    ghost view = { λ m. record { standing = m.standing; tenure = m.tenure; begun = m.begun; fence = m.store.fence; buffered = m.store.buffered; content = m.store.content; disk = m.store.disk } };
+    ghost view = { λ m. record { standing = m.standing; tenure = m.tenure; begun = m.begun; fence = m.store.fence; buffered = m.store.buffered; content = m.store.content; disk = m.store.disk; work = m.work } };
 
     ghost invariant = { λ m. IsStoreOf m.standing m.store };
 }
@@ -101,6 +103,7 @@ impl<D: Disk> Machine<D> {
             tenure: None,
             begun: 0,
             store: Store::new(alloc, disk),
+            work: Work::none(),
         }
     }
 
@@ -112,6 +115,15 @@ impl<D: Disk> Machine<D> {
         check_open(self.standing)?;
         check_owner(self.tenure, version)?;
         check_fence(self.store.present_fence(), version)
+    }
+
+    // Whether a call that asks for the shard alone may go on.
+    pub(crate) fn check_owned(&self) -> Result<(), Reason>
+        ensures ok { OnOk result (unheld self.now ≡ None) }
+        ensures err { IfErr result (λ why. unheld self.now ≡ Some why) }
+    {
+        check_open(self.standing)?;
+        check_tenure(self.tenure)
     }
 
     // What the machine answers for what its disk refused: a fault closes it.
@@ -223,6 +235,14 @@ impl<D: Disk> Machine<D> {
             snapshot: self.store.newest_snapshot(),
             volumes: self.store.volumes_known(),
         }
+    }
+
+    /// What it has done since it was made. No call but `tick`, `flush`, `snapshot` and `merge` changes it, and none of these where it
+    /// was refused. It takes no memory.
+    pub fn work(&self) -> Work
+        ensures { result ≡ self.now.work }
+    {
+        self.work
     }
 
     /// The process stops here and starts again: the machine stands at Boot, over what its disk kept.

@@ -1,6 +1,6 @@
 //! Why a machine refuses a call before it looks at its points.
 ghost use Rattle.std.specs.Prelude.{◌≡◌, ◌<◌, None, Some, OnOk, IfErr, length};
-ghost use Rattle.cluster_core.specs.Refusals.{shut, unowned, outdated, outside};
+ghost use Rattle.cluster_core.specs.Refusals.{shut, unowned, untenured, outdated, outside};
 
 use m3_model::{Point, Reason, Rules, Standing};
 
@@ -24,6 +24,17 @@ pub(crate) fn check_owner(tenure: Option<u64>, version: u64) -> Result<(), Reaso
     match tenure {
         Some(since) if since <= version => Ok(()),
         _ => Err(Reason::NotOwned),
+    }
+}
+
+/// Whether the replica has its shard.
+pub(crate) fn check_tenure(tenure: Option<u64>) -> Result<(), Reason>
+    ensures ok { OnOk result (untenured tenure ≡ None) }
+    ensures err { IfErr result (λ why. untenured tenure ≡ Some why) }
+{
+    match tenure {
+        Some(_) => Ok(()),
+        None => Err(Reason::NotOwned),
     }
 }
 

@@ -47,6 +47,7 @@ impl<D: Disk> Machine<D> {
         self.store.images_hold();
         let room = ask_room(self.alloc)?;
         let said = self.store.flush(rules);
+        self.work.note_flush(&said);
         settle_files(&mut self.standing, room, said)
     }
 
@@ -59,7 +60,7 @@ impl<D: Disk> Machine<D> {
     /// files too. `Disk`, by a fault, and `Corrupt`, as in `read`, close the machine. In any case a stop at any moment leaves each
     /// point of the machine that hasn't expired.
     pub fn tick(&mut self, rules: &Rules) -> Result<u64, Reason>
-        ensures ok { OnOk result (IsTicked D.state rules.entry.now self.old self.new) }
+        ensures ok { IfOk result (IsTicked D.state rules.entry.now self.old self.new) }
         ensures lost { (D.state self.old.disk).tells ≡ true → IfOk result (λ n. n ≡ finite.len self.old.content - finite.len self.new.content) }
         ensures there { OnOk result (Told (D.state self.old.disk) (HoldContent self.new.content)) }
         ensures err { IfErr result (IsRefused self.old self.new) }
@@ -74,6 +75,7 @@ impl<D: Disk> Machine<D> {
         self.store.images_hold();
         let room = ask_room(self.alloc)?;
         let said = self.store.tick(rules);
+        self.work.note_tick(&said);
         settle_files(&mut self.standing, room, said)
     }
 
@@ -97,6 +99,7 @@ impl<D: Disk> Machine<D> {
     {
         check_open(self.standing)?;
         let said = self.store.snapshot();
+        self.work.note_snapshot(&said);
         settle(&mut self.standing, said)
     }
 }

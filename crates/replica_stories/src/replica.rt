@@ -3,9 +3,9 @@ ghost use Rattle.std.specs.Prelude.{◌≡◌, ◌<◌, IfOk, length};
 ghost use Rattle.std.specs.List.{All};
 
 use m3_model::limits::{MOST_ID_BYTES, TIME_END};
-use m3_model::{Memory, Pick, Point, Reason, Report, Rules, Seq, Series, Space, Text};
+use m3_model::{Key, Memory, Page, Pick, Point, Reason, Report, Rules, Seq, Series, Space, Text};
 use m3_outside::Disk;
-use replica_machine::{Began, Machine};
+use replica_machine::{Began, Machine, Work};
 use std::alloc::Global;
 
 // The version of all calls.
@@ -127,6 +127,18 @@ impl<D: Disk> Replica<D> {
 
     pub fn snapshot(&mut self) -> Result<u64, Reason> {
         self.machine.snapshot()
+    }
+
+    pub fn page(&mut self, after: Option<&Key>) -> Result<Page, Reason> {
+        self.machine.page(after)
+    }
+
+    pub fn merge(&mut self, page: &Page) -> Result<u64, Reason> {
+        self.machine.merge(page)
+    }
+
+    pub fn work(&self) -> Work {
+        self.machine.work()
     }
 
     pub fn report(&self) -> Report {

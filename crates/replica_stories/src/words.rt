@@ -1,4 +1,5 @@
 //! Words, and what a replica does for each.
+use crate::pages::{merge, page};
 use crate::replica::Replica;
 use crate::tells::{tell_all, tell_fault, tell_kind, tell_reason};
 use disk_stories::{number, part, small, text};
@@ -7,8 +8,8 @@ use m3_outside::{Disk, FileName};
 use replica_machine::Began;
 use std::alloc::Global;
 
-// The point `0,hello,100,5`: its namespace, its identifier, its time and its value.
-fn point(alloc: Global, words: &str) -> Result<Point, Memory> {
+/// The point `0,hello,100,5`: its namespace, its identifier, its time and its value.
+pub(crate) fn point(alloc: Global, words: &str) -> Result<Point, Memory> {
     Ok(Point {
         ns: small(part(words, ',', 0)),
         id: Text::from_str(alloc, part(words, ',', 1))?,
@@ -17,14 +18,23 @@ fn point(alloc: Global, words: &str) -> Result<Point, Memory> {
     })
 }
 
-// Tells why it was refused.
-fn refused(alloc: Global, reason: &Reason, full: bool, out: &mut String) -> Result<bool, Memory> {
+/// Tells why it was refused.
+pub(crate) fn refused(
+    alloc: Global,
+    reason: &Reason,
+    full: bool,
+    out: &mut String,
+) -> Result<bool, Memory> {
     tell_reason(alloc, reason, full, out)?;
     Ok(false)
 }
 
-// Tells a count.
-fn counted(alloc: Global, said: Result<u64, Reason>, out: &mut String) -> Result<bool, Memory> {
+/// Tells a count.
+pub(crate) fn counted(
+    alloc: Global,
+    said: Result<u64, Reason>,
+    out: &mut String,
+) -> Result<bool, Memory> {
     match said {
         Ok(count) => {
             write!(out, "{count}")?;
@@ -128,6 +138,17 @@ fn restart<D: Disk>(replica: &mut Replica<D>, pick: u64, out: &mut String) -> Re
     done(replica.alloc, said, out)
 }
 
+// `w` tells how many ticks, flushes and snapshots answered a number, and the sum of all that did.
+fn work<D: Disk>(replica: &Replica<D>, out: &mut String) -> Result<bool, Memory> {
+    let work = replica.work();
+    write!(
+        out,
+        "{} {} {} {}",
+        work.ticks, work.flushes, work.snapshots, work.sum
+    )?;
+    Ok(true)
+}
+
 // `t1000` makes the moment this one.
 fn set_moment<D: Disk>(replica: &mut Replica<D>, now: u64) -> Result<bool, Memory> {
     replica.set_moment(now);
@@ -143,10 +164,13 @@ fn act<D: Disk>(replica: &mut Replica<D>, word: &str, out: &mut String) -> Resul
         [b'p', rest @ ..] => put(replica, text(rest), out),
         [b'r', rest @ ..] => read(replica, text(rest), out),
         [b'z', rest @ ..] => restart(replica, number(text(rest)), out),
+        [b'g', rest @ ..] => page(replica, text(rest), out),
+        [b'm', rest @ ..] => merge(replica, text(rest), out),
         [b'f'] => flush(replica, out),
         [b'x'] => tick(replica, out),
         [b's'] => snapshot(replica, out),
         [b'n'] => report(replica, out),
+        [b'w'] => work(replica, out),
         _ => Ok(false),
     }
 }

@@ -1,13 +1,13 @@
 // Runs whose meta disk fails, stops or was damaged, and runs that go on with what an earlier one saved.
-ghost use Rattle.std.specs.Prelude.{◌≡◌, IfOk};
+ghost use Rattle.std.specs.Prelude.{◌≡◌};
 ghost use Rattle.m3_outside.specs.Slots.{Out};
 ghost use Rattle.m3_outside.specs.declared.slot.DiskSlot.{DiskSlot as AtSlot};
 ghost use Rattle.mem_disk.specs.Slots.{held_of};
 
-use disk_stories::files::turn;
+use disk_stories::meta::{DIGEST, STATE, disks_with_meta, restart_meta, turn_in_log};
 use line_runs::{INIT, NAMESPACE, PLACED, Status, ended_over};
 use m3_model::Memory;
-use m3_outside::{Disk, DiskSlot, FileName};
+use m3_outside::DiskSlot;
 use mem_disk::{MemDisk, MemDisks};
 use std::alloc::Global;
 use std::test::Fail;
@@ -17,15 +17,6 @@ const OK: &str = "{\"ok\":true}\n";
 const ORDER: &str = "{\"code\":3,\"error\":\"order\",\"ok\":false}\n";
 
 const NOW: &str = "{\"op\":\"now\",\"now\":100}\n";
-
-// Disks that never fail, but for the meta disk: all its calls after so many.
-fn disks_with_meta(alloc: Global, fuse: u64) -> Result<MemDisks, Memory>
-    ensures { IfOk result (λ d. (slot : AtSlot) → ¬ (held_of d slot ≡ Out)) }
-{
-    let mut disks = MemDisks::new(alloc)?;
-    let _ = disks.put(DiskSlot::META, MemDisk::new(alloc, &[], Some(fuse))?);
-    Ok(disks)
-}
 
 // How the lines of a run are answered over these disks, and how it ends.
 fn run_over(alloc: Global, input: &str, disks: &mut MemDisks) -> Result<(Status, String), Memory>
@@ -58,19 +49,6 @@ fn opening_fails(rt: HostRuntime) -> Result<(), Fail> {
                 .put(DiskSlot::META, MemDisk::new(alloc, &[], None)?)
                 .is_some()
         );
-    }
-    Ok(())
-}
-
-// The meta disk goes on, with this of its pending writes.
-fn restart_meta(alloc: Global, disks: &mut MemDisks, pick: u64) -> Result<(), Fail>
-    requires { (slot : AtSlot) → ¬ (held_of disks.old slot ≡ Out) }
-    ensures { (slot : AtSlot) → ¬ (held_of disks.new slot ≡ Out) }
-{
-    let spare = MemDisk::new(alloc, &[], None)?;
-    if let Some(mut meta) = disks.put(DiskSlot::META, spare) {
-        meta.restart(pick)?;
-        drop(disks.put(DiskSlot::META, meta));
     }
     Ok(())
 }
@@ -129,31 +107,6 @@ fn meta_disk_stops_at_each_call(rt: HostRuntime) -> Result<(), Fail> {
         assert!(rt; found.as_str() == same.as_str() || found.as_str() == one_more.as_str());
     }
     assert_eq!(rt; most, FIRST.len());
-    Ok(())
-}
-
-// The segment of the first run, and where the digest of its first state begins, and the state behind it.
-const SEGMENT: FileName = FileName {
-    kind: 0,
-    ns: 0,
-    block: 0,
-    number: 1,
-};
-
-const DIGEST: usize = 5;
-
-const STATE: usize = 37;
-
-// Turns a bit of that segment.
-fn turn_in_log(alloc: Global, disks: &mut MemDisks, at: usize) -> Result<(), Fail>
-    requires { (slot : AtSlot) → ¬ (held_of disks.old slot ≡ Out) }
-    ensures { (slot : AtSlot) → ¬ (held_of disks.new slot ≡ Out) }
-{
-    let spare = MemDisk::new(alloc, &[], None)?;
-    if let Some(mut meta) = disks.put(DiskSlot::META, spare) {
-        turn(alloc, &mut meta, SEGMENT, at, 1)?;
-        drop(disks.put(DiskSlot::META, meta));
-    }
     Ok(())
 }
 

@@ -20,7 +20,7 @@ use Rattle.cluster_tracks.specs.cluster_core.declared.event.StepCall.TheVariants
 use Rattle.cluster_tracks.specs.cluster_members.Calls.{IsFetchAnswer, IsMissing, IsWritten, NamedPoint}
 use Rattle.cluster_tracks.specs.cluster_members.declared.calls.Range.{Range}
 use Rattle.cluster_tracks.specs.cluster_members.declared.members.Members.{Members}
-use Rattle.cluster_tracks.specs.node_calls.Nodes.{IsBootstrapAnswer, IsDeliverAnswer, IsFated, IsRestarted, IsStopped}
+use Rattle.cluster_tracks.specs.node_calls.Nodes.{IsDeliverAnswer, IsFated, IsRestarted, IsStopped}
 use Rattle.cluster_tracks.specs.cluster_upkeep.Upkeep.{IsSwept, IsTold}
 use Rattle.cluster_tracks.specs.Acts.{Does, IsServedBy, MayCall, OnMembers, next_call}
 use Rattle.served_cluster.specs.Acts.{Serves}
@@ -85,17 +85,6 @@ module _ {D : Type 0} {G : Ghosts D} (state : D → DiskState) (m g : Members D 
   restarted_so name answer.Full h = all_stays h.1.same
   restarted_so name _ h = absurd h
 
-  bootstrapped_so : (name : List ℕ) (asked : Option ℕ) (b : Answer) → IsBootstrapAnswer state m name asked b g → Stays
-  bootstrapped_so name asked (answer.Available available place version) h = h.3.keeps.keeps.state
-  bootstrapped_so name asked (answer.Unknown unknown) h = all_stays h.1
-  bootstrapped_so name asked (answer.State node) h = all_stays h.3
-  bootstrapped_so name asked (answer.Disk node shard) h = h.1.keeps.keeps.state
-  bootstrapped_so name asked (answer.Corrupt node shard damage) h = h.1.keeps.keeps.state
-  bootstrapped_so name asked answer.Memory (inl same) = all_stays same
-  bootstrapped_so name asked answer.Memory (inr h) = h.1.keeps.keeps.state
-  bootstrapped_so name asked answer.Full h = all_stays h.1.same
-  bootstrapped_so name asked _ h = absurd h
-
   -- ---- upkeep
 
   swept_so : (c : StepCall) (b : Answer) → IsSwept state c m b g → Stays
@@ -120,7 +109,7 @@ module _ {D : Type 0} {G : Ghosts D} (state : D → DiskState) (m g : Members D 
   does_so id act.Deliver b other h = delivered_so b h
   does_so id (act.Stop node) b other h = stopped_so node b h
   does_so id (act.Restart node by) b other h = restarted_so node b h
-  does_so id (act.Bootstrap node asked) b other h = bootstrapped_so node asked b h
+  does_so id (act.Bootstrap node asked) b other h = cc
   does_so id act.Tick b other h = swept_so (call.Tick m.net.state.rules) b h
   does_so id act.Flush b other h = swept_so (call.Flush m.net.state.rules) b h
   does_so id act.Snapshot b other h = swept_so call.Snapshot b h
@@ -153,7 +142,7 @@ state_stays {D} {G} state depot old a b after new other h = by a other h.members
     by act.Deliver none it = on old.members act.Deliver none it.0
     by (act.Stop node) none it = on old.members (act.Stop node) none it.0
     by (act.Restart node pick) none it = on old.members (act.Restart node pick) none it.0
-    by (act.Bootstrap node asked) none it = on old.members (act.Bootstrap node asked) none it.0
+    by (act.Bootstrap node asked) none it = cc
     by act.Tick none it = on old.members act.Tick none it.0
     by act.Flush none it = on old.members act.Flush none it.0
     by act.Snapshot none it = on old.members act.Snapshot none it.0

@@ -1,6 +1,7 @@
 pub mod CloseLemmas
 mod DiskLemmas
 mod FirstLemmas
+mod JoinLemmas
 pub mod KeepLemmas
 mod OpenLemmas
 pub mod OutLemmas

@@ -33,6 +33,7 @@ planned_lawful m _ (plan.Rules rules) limits h was = absurd h
 step_leads : {D : Type 0} {G : Ghosts D} (m : Members D G) (a : Act) (change : Change) → is_step_act a ≡ true → IsChange m (kept_in m) a change → LeadsToState (Some m.net.state) (kept_in m) a (by_plan (plan.Next change) m.net.state)
 step_leads m (act.Namespace name block past future retention) change step h = cc
 step_leads m (act.Now now) change step h = cc
+step_leads m (act.Bootstrap node shard) change step h = cc
 step_leads m _ change step h = record { leads = h.leads.leads; rules = refl; seed_is = refl }
 
 -- and the one to which the line leads

@@ -1,8 +1,9 @@
 -- What a line that is saved leads to, what it may be answered, and what stops leave as it is served.
 use Rattle.std.proofs.Common.{◌≡◌, ◌≢◌, ◌≤◌, ◌<◌, ℕ, List, [], refl, sym, ap, subst, ◌∙◌, inl, inr, arith, Bool, true, false}
-use Rattle.std.specs.Prelude.{Option, Some, None, Result, Ok, Err, IfErr, IsErrOf, option_map}
+use Rattle.std.specs.Prelude.{Option, Some, None, Result, Ok, Err, IfErr, IfOk, IfSome, IsErrOf, option_map}
 use Rattle.std.specs.FinMap.{empty}
 use Rattle.std.specs.Option.{is_some}
+use Rattle.std.specs.Result.{result_ok}
 use Rattle.std.proofs.lemmas.List.Elements.{All-nil}
 use Rattle.std.proofs.lemmas.Option.{same_Some}
 use Rattle.m3_model.specs.Limits.{IsInit, MeetsLimits}
@@ -10,6 +11,7 @@ use Rattle.m3_model.specs.declared.act.Act.{Act}
 use Rattle.m3_model.specs.declared.act.Act.TheVariants as act
 use Rattle.m3_model.specs.declared.answer.Answer.{Answer}
 use Rattle.m3_model.specs.declared.answer.Answer.TheVariants as answer
+use Rattle.m3_model.specs.declared.memory.Memory.{Memory}
 use Rattle.m3_model.specs.declared.rules.MetaState.{MetaState}
 use Rattle.m3_model.specs.declared.rules.Rules.{Rules}
 use Rattle.m3_model.specs.declared.turn.Request.TheVariants as request
@@ -18,7 +20,7 @@ use Rattle.m3_outside.specs.DiskState.{DiskState, Elapses}
 use Rattle.m3_outside.specs.Slots.{Held, Out}
 use Rattle.m3_outside.specs.declared.disk.Disk.{Ghosts}
 use Rattle.m3_outside.specs.declared.slot.DiskSlot.{DiskSlot}
-use Rattle.placement_log.specs.MetaHolds.{KeepsLast}
+use Rattle.placement_log.specs.MetaHolds.{KeepsLast, MetaEnd}
 use Rattle.placement_log.specs.States.{MayBeState}
 use Rattle.meta_bytes.specs.States.{AreSpaces, IsMetaState, IsSpaceOf}
 use Rattle.cluster_tracks.specs.placement_core.Lawful.{IsLawful}
@@ -41,6 +43,7 @@ use Rattle.served_cluster.specs.declared.plan.Plan.TheVariants as plan
 use Rattle.served_cluster.proofs.KeptLemmas.{first_ready, first_serves}
 use Rattle.served_cluster.proofs.OwnLemmas.{none_returned, refused_returned}
 use Rattle.served_cluster.proofs.PlanLemmas.{planned_changes, refused_serves}
+use Rattle.saved_cluster.specs.Saved.{IsReadyFor}
 use Rattle.saved_cluster.specs.States.{LeadsToState, is_init_request, kept_of, saves_by}
 use Rattle.saved_cluster.specs.declared.lost.Lost.{Lost}
 use Rattle.saved_cluster.specs.declared.lost.Lost.TheVariants as lost
@@ -73,10 +76,10 @@ wanted_serves state c a made planned = refused_serves state c planned.0 a answer
 
 -- ---- the state that a plan leads to
 
-state_is : {D : Type 0} {G : Ghosts D} (c : Cluster D G) (m : Members D G) → c.members ≡ Some m → state_of c ≡ Some m.net.state
+pub state_is : {D : Type 0} {G : Ghosts D} (c : Cluster D G) (m : Members D G) → c.members ≡ Some m → state_of c ≡ Some m.net.state
 state_is {D} {G} c m is = ap (option_map (λ (x : Members D G). x.net.state)) is
 
-kept_is : {D : Type 0} {G : Ghosts D} (c : Cluster D G) (m : Members D G) → c.members ≡ Some m → kept_of c ≡ kept_in m
+pub kept_is : {D : Type 0} {G : Ghosts D} (c : Cluster D G) (m : Members D G) → c.members ≡ Some m → kept_of c ≡ kept_in m
 kept_is {D} {G} c m is = ap (λ (o : Option (Members D G)). kept_of (record c { members = o })) is
 
 module _ {D : Type 0} {G : Ghosts D} (c : Cluster D G) (a : Act) (made : Plan) (planned : IsPlannedBy c a made) (next : MetaState) (leads : Some next ≡ option_map (by_plan made) (state_of c)) where
@@ -103,6 +106,15 @@ state_made b made (Some s) is = ap (λ t. Some (state_after t made s)) is
 pub state_unmade : (b : Bool) (made : Plan) (o : Option MetaState) → b ≡ false → option_map (state_after b made) o ≡ o
 state_unmade b made None is = refl
 state_unmade b made (Some s) is = ap (λ t. Some (state_after t made s)) is
+
+-- a state that was made is this one, where memory sufficed to make it
+pub made_lawful : (made : Result MetaState Memory) (o : Option MetaState) → IfOk made (λ next. Some next ≡ o) → ((next : MetaState) → Some next ≡ o → IsMetaState next) → IfSome (result_ok made) IsMetaState
+made_lawful (Ok next) o is lawful = lawful next is
+made_lawful (Err e) o is lawful = tt
+
+pub made_ready : (made : Result MetaState Memory) (o : Option MetaState) (log : MetaEnd) (d : DiskState) → IfOk made (λ next. Some next ≡ o) → IsReadyFor (result_ok made) log d → IsReadyFor o log d
+made_ready (Ok next) o log d is ready = subst (λ x. IsReadyFor x log d) is ready
+made_ready (Err e) o log d is ready = absurd ready
 
 -- ---- a first cluster
 
@@ -150,10 +162,16 @@ stands_by {D} {G} c now found is = sym (some_by (λ (m : Members D G). m.net.sta
 
 -- ---- which act it is
 
--- an act that may change the state, and is no `init`, changes that of a cluster that stands
-pub changes_by : (a : Act) → saves_by a ≡ true → ((rf shards seed : ℕ) (nodes : List (List ℕ × List ℕ)) → a ≡ act.Init rf shards seed nodes → ⊥) → changes_state a ≡ true
-changes_by (act.Init rf shards seed nodes) saves other = absurd (other rf shards seed nodes refl)
-changes_by _ saves other = saves
+-- an act that may change the state, and is neither an `init` nor a bootstrap, changes that of a cluster that stands
+pub changes_by : (a : Act) → saves_by a ≡ true → is_init a ≡ false → ((node : List ℕ) (shard : Option ℕ) → a ≡ act.Bootstrap node shard → ⊥) → changes_state a ≡ true
+changes_by (act.Init rf shards seed nodes) saves none other = cc
+changes_by (act.Bootstrap node shard) saves none other = absurd (other node shard refl)
+changes_by _ saves none other = saves
+
+-- an act that is no `init`
+pub no_init_so : (a : Act) → ((rf shards seed : ℕ) (nodes : List (List ℕ × List ℕ)) → a ≡ act.Init rf shards seed nodes → ⊥) → is_init a ≡ false
+no_init_so (act.Init rf shards seed nodes) other = absurd (other rf shards seed nodes refl)
+no_init_so _ other = refl
 
 pub no_init : (a : Act) → ((rf shards seed : ℕ) (nodes : List (List ℕ × List ℕ)) → a ≡ act.Init rf shards seed nodes → ⊥) → is_init a ≡ true → ⊥
 no_init (act.Init rf shards seed nodes) other is = other rf shards seed nodes refl

@@ -1,8 +1,7 @@
 //! Lines that change the state, each saved before it is answered.
-ghost use Rattle.std.specs.Prelude.{◌≡◌, ◌∷◌, [], ◌≢◌, ◌≤◌, ◌-◌, ℕ, List, Bool, true, false, Option, Some, None, option_map, IsOk, IsErr, IfOk, IfErr, OnOk, IsErrOf};
+ghost use Rattle.std.specs.Prelude.{◌≡◌, ◌∷◌, [], ◌≢◌, ◌≤◌, ◌-◌, ℕ, List, Bool, true, false, Option, Some, None, IsOk, IsErr, IfOk, IfErr, IfSome, OnOk, IsErrOf};
 ghost use Rattle.std.specs.Option.{option_copied};
 ghost use Rattle.m3_model.specs.Limits.{IsInit, KeepsLimits, MeetsLimits};
-ghost use Rattle.m3_model.specs.declared.act.Act.{Act as Line};
 ghost use Rattle.m3_model.specs.declared.act.Act.TheVariants as act;
 ghost use Rattle.m3_model.specs.declared.answer.Answer.{Answer as Reported};
 ghost use Rattle.m3_model.specs.declared.rules.MetaState.{MetaState as State};
@@ -14,8 +13,8 @@ ghost use Rattle.m3_outside.specs.Depots.{Depot};
 ghost use Rattle.m3_outside.specs.DiskState.{Elapses};
 ghost use Rattle.m3_outside.specs.declared.disk_err.DiskErr.TheVariants as disk_err;
 ghost use Rattle.placement_log.specs.MetaHolds.{IsReadyToSave, KeepsLast, MaySave, MetaStands};
-ghost use Rattle.placement_log.specs.States.{MayBeState};
-ghost use Rattle.m3_outside.specs.Slots.{Here, Out};
+ghost use Rattle.meta_bytes.specs.States.{IsMetaState};
+ghost use Rattle.m3_outside.specs.Slots.{Held, Here, Out};
 ghost use Rattle.m3_outside.specs.declared.slot.DiskSlot.{DiskSlot as AtSlot};
 ghost use Rattle.cluster_tracks.specs.transcripts.Placements.{placement_after};
 ghost use Rattle.cluster_tracks.specs.transcripts.Record.{IsAnsweredBy, inner_turns};
@@ -29,18 +28,20 @@ ghost use Rattle.served_cluster.specs.Owned.{TracksTurns, held_at, place_of};
 ghost use Rattle.cluster_tracks.specs.first_cluster.First.{IsLent, IsSomeLent};
 ghost use Rattle.cluster_tracks.specs.first_cluster.Lending.{AreAsTheyWere};
 ghost use Rattle.served_cluster.specs.Acts.{is_init};
-ghost use Rattle.served_cluster.specs.Plans.{IsPlannedBy, by_plan, changes_state, state_of};
+ghost use Rattle.served_cluster.specs.Joins.{EndsSources, MayEndSources};
+ghost use Rattle.served_cluster.specs.Plans.{changes_state, state_of};
 ghost use Rattle.saved_cluster.specs.Saved.{AnswersSaved, ElapsesBy, IsReadyFor, IsSaved, IsUnbegun, MayClose, MayServeSaved, ServesRequestSome, TracksRequest};
-ghost use Rattle.saved_cluster.specs.States.{is_init_request, kept_of, saves, saves_by, unplanned};
+ghost use Rattle.saved_cluster.specs.States.{is_init_request, kept_of, saves, saves_by, unplanned, unready};
 ghost use Rattle.saved_cluster.specs.declared.lost.Lost.TheVariants as lost;
 
 use crate::lost::Lost;
+use cluster_tracks::of_cluster_joins::{Booting, Marked};
 use cluster_tracks::of_first_cluster::{Lent, begin_first, give_back, lend_first, plan_first};
-use m3_model::{Act, Answer, Placement, Reply, Request, Seq, Text};
+use m3_model::{Act, Answer, MetaState, Placement, Reply, Request, Seq, Text};
 use m3_outside::{Disk, DiskErr, DiskSlot, Disks};
 use placement_log::MetaLog;
 use placement_plan::PlaceErr;
-use served_cluster::{Cluster, Plan};
+use served_cluster::Cluster;
 use std::alloc::Global;
 
 /// A cluster, and the meta disk that keeps its state: its moment, its namespaces and its placement.
@@ -58,7 +59,7 @@ fn saves_by(act: &Act) -> bool
     match act {
         Act::Init { .. } | Act::Namespace { .. } | Act::Now { .. } => true,
         Act::Add { .. } | Act::Drain { .. } | Act::Cancel { .. } => true,
-        Act::Remove { .. } | Act::Replace { .. } => true,
+        Act::Remove { .. } | Act::Replace { .. } | Act::Bootstrap { .. } => true,
         _ => false,
     }
 }
@@ -73,6 +74,16 @@ fn unplanned(why: PlaceErr) -> Answer
     }
 }
 
+// What a line gets that led to nothing, since its save couldn't be readied.
+fn unready(why: DiskErr) -> Result<Answer, Lost>
+    ensures { result ≡ unready why }
+{
+    match why {
+        DiskErr::Memory => Ok(Answer::Memory),
+        DiskErr::Failed => Err(Lost::Meta),
+    }
+}
+
 impl<D: Disk> SavedCluster<D> {
     /// The placement, from `init` on: that which the turns so far left, where they are tracked.
     pub fn place(&self) -> Option<&Placement>
@@ -82,22 +93,23 @@ impl<D: Disk> SavedCluster<D> {
         self.cluster.place()
     }
 
-    // Takes all that a save needs of the state to which the plan leads.
-    fn ready(&mut self, alloc: Global, plan: &Plan) -> Result<(), DiskErr>
-        requires planned { (a : Line) × MeetsLimits a × IsPlannedBy self.old.cluster a plan.now }
-        requires state { MayBeState (state_of self.old.cluster) }
+    // Takes all that a save needs of this state, which is there unless memory was wanted to make it.
+    fn ready(&mut self, next: Option<MetaState>) -> Result<(), DiskErr>
+        requires state { IfSome next IsMetaState }
         requires log { MetaStands self.old.log (D.state self.old.meta) }
         ensures cluster { self.new.cluster ≡ self.old.cluster }
-        ensures ok { OnOk result (IsReadyFor (option_map (by_plan plan.now) (state_of self.old.cluster)) self.new.log (D.state self.new.meta)) }
+        ensures ok { OnOk result (IsReadyFor next self.new.log (D.state self.new.meta)) }
         ensures log { MetaStands self.new.log (D.state self.new.meta) }
         ensures any_moment { (D.state self.old.meta).tells ≡ true → Elapses KeepsLast (D.state self.old.meta) (D.state self.new.meta) }
         ensures tells { (D.state self.new.meta).tells ≡ (D.state self.old.meta).tells }
         ensures faults { CountsFaults (IsErrOf result disk_err.Failed) (D.state self.old.meta).faults (D.state self.new.meta).faults }
     {
-        match self.cluster.state_by(alloc, plan) {
-            Ok(state) => self.log.ready(&mut self.meta, &state),
-            Err(_) => Err(DiskErr::Memory),
-        }
+        let Some(state) = next else {
+            return Err(DiskErr::Memory);
+        };
+        let readied = self.log.ready(&mut self.meta, &state);
+        drop(state);
+        readied
     }
 
     // Saves the state that stands, which is the one that was readied.
@@ -138,7 +150,8 @@ impl<D: Disk> SavedCluster<D> {
             Ok(plan) => plan,
             Err(refused) => return Ok(refused),
         };
-        match self.ready(alloc, &plan) {
+        let next = self.cluster.state_by(alloc, &plan).ok();
+        match self.ready(next) {
             Ok(()) => {}
             Err(DiskErr::Memory) => return Ok(Answer::Memory),
             Err(DiskErr::Failed) => return Err(Lost::Meta),
@@ -150,6 +163,51 @@ impl<D: Disk> SavedCluster<D> {
         match self.save() {
             Ok(()) => Ok(answer),
             Err(lost) => Err(lost),
+        }
+    }
+
+    // Ends the tenures of the nodes from which a node took over, whose shards stand marked in the state that is saved, and answers its line.
+    fn end_saved(&mut self, marked: Marked) -> Answer
+        requires saved { IsSaved (state_of self.old.cluster) (D.state self.old.meta) }
+        requires may { MayEndSources self.old.cluster marked }
+        ensures ended { EndsSources D.state self.old.cluster marked result self.new.cluster }
+        ensures meta { (self.new.meta ≡ self.old.meta) × (self.new.log ≡ self.old.log) }
+    {
+        self.cluster.end_sources(marked)
+    }
+
+    // Serves the bootstrap of a node. Where it joined shards, all memory that the save takes is there before they are marked. The state is saved
+    // then, and after that the tenures of the nodes end from which it took over. Tenures are in memory alone: where the save failed, they end, too,
+    // and so does the run.
+    fn serve_bootstrap(
+        &mut self,
+        alloc: Global,
+        node: Text,
+        shard: Option<u32>,
+    ) -> Result<Answer, Lost>
+        requires may { (held : AtSlot → Held D) × MayServeSaved D.state self.old held }
+        ensures answered { (depot : Depot D) → MayServeSaved D.state self.old depot.held → AnswersSaved D.state depot self.old (act.Bootstrap node shard) result depot self.new }
+        ensures meta { IfErr result (λ e. e ≡ lost.Meta) }
+    {
+        let marking = match self.cluster.open_node(alloc, node, shard) {
+            Booting::Answered(answer) => return Ok(answer),
+            Booting::Joined(marking) => marking,
+        };
+        let next = self.cluster.state_with(alloc, &marking).ok();
+        match self.ready(next) {
+            Ok(()) => {}
+            Err(why) => {
+                marking.give_up();
+                return unready(why);
+            }
+        }
+        let marked = self.cluster.mark(marking);
+        match self.save() {
+            Ok(()) => Ok(self.end_saved(marked)),
+            Err(lost) => {
+                drop(self.cluster.end_sources(marked));
+                Err(lost)
+            }
         }
     }
 
@@ -241,6 +299,26 @@ impl<D: Disk> SavedCluster<D> {
         self.serve_first(alloc, disks, rf, shards, seed, nodes)
     }
 
+    // Serves an act that may change the state of a cluster that stands.
+    fn serve_standing<X: Disks<D = D>>(
+        &mut self,
+        alloc: Global,
+        disks: &mut X,
+        act: Act,
+    ) -> Result<Answer, Lost>
+        requires limits { MeetsLimits act }
+        requires saving { saves_by act ≡ true }
+        requires no_init { is_init act ≡ false }
+        requires may { MayServeSaved D.state self.old (X.held disks.old) }
+        ensures answered { AnswersSaved D.state (depot_by X.held X.counted X.all_faults disks.old) self.old act result (depot_by X.held X.counted X.all_faults disks.new) self.new }
+        ensures meta { IfErr result (λ e. e ≡ lost.Meta) }
+    {
+        if let Act::Bootstrap { node, shard } = act {
+            return self.serve_bootstrap(alloc, node, shard);
+        }
+        self.serve_change(alloc, disks, act)
+    }
+
     // Serves an act that may change the state.
     fn serve_saving<X: Disks<D = D>>(
         &mut self,
@@ -266,7 +344,7 @@ impl<D: Disk> SavedCluster<D> {
         {
             return self.serve_init(alloc, disks, rf, shards, seed, nodes);
         }
-        self.serve_change(alloc, disks, act)
+        self.serve_standing(alloc, disks, act)
     }
 
     // Answers an act.
@@ -294,8 +372,9 @@ impl<D: Disk> SavedCluster<D> {
         }
     }
 
-    /// Answers one request. A namespace, a moment, a first placement and a next one are saved before they are answered: whatever a stop leaves after the
-    /// reply, it has the state that the cluster has. A refusal has changed nothing, also one for want of memory.
+    /// Answers one request. A namespace, a moment, a first placement and a next one are saved before they are answered, also the one that ends moves as a
+    /// node is bootstrapped: whatever a stop leaves after the reply, it has the state that the cluster has. A refusal has changed nothing of the state,
+    /// also one for want of memory.
     ///
     /// # Errors
     ///

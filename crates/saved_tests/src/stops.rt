@@ -1,29 +1,8 @@
 //! What a further run finds where the meta disk stopped within a save.
-ghost use Rattle.std.specs.Prelude.{◌≡◌};
-ghost use Rattle.m3_outside.specs.Slots.{Out};
-ghost use Rattle.m3_outside.specs.declared.slot.DiskSlot.{DiskSlot as AtSlot};
-ghost use Rattle.mem_disk.specs.Slots.{held_of};
-
 use crate::runs::run;
-use m3_model::Memory;
-use m3_outside::{Disk, DiskSlot};
-use mem_disk::{MemDisk, MemDisks};
+use disk_stories::meta::{disks_with_meta, restart_meta};
 use std::alloc::Global;
 use std::test::Fail;
-use test_disks::put;
-
-// The meta disk goes on, with this of its pending writes.
-fn restart_meta(alloc: Global, disks: &mut MemDisks, pick: u64) -> Result<(), Fail>
-    requires { (slot : AtSlot) → ¬ (held_of disks.old slot ≡ Out) }
-    ensures { (slot : AtSlot) → ¬ (held_of disks.new slot ≡ Out) }
-{
-    let spare = MemDisk::new(alloc, &[], None)?;
-    if let Some(mut meta) = disks.put(DiskSlot::META, spare) {
-        meta.restart(pick)?;
-        drop(disks.put(DiskSlot::META, meta));
-    }
-    Ok(())
-}
 
 // What is answered to these words where the meta disk stops after so many calls, and what a further run over it tells of the placement,
 // of the namespaces and of the moment.
@@ -33,12 +12,7 @@ fn told_and_found(
     fuse: u64,
     pick: u64,
 ) -> Result<(String, String), Fail> {
-    let mut disks = MemDisks::new(alloc)?;
-    put(
-        &mut disks,
-        DiskSlot::META,
-        MemDisk::new(alloc, &[], Some(fuse))?,
-    );
+    let mut disks = disks_with_meta(alloc, fuse)?;
     let mut told = String::new(alloc);
     run(alloc, &mut disks, words, &mut told)?;
     restart_meta(alloc, &mut disks, pick)?;
@@ -48,14 +22,15 @@ fn told_and_found(
 }
 
 // Lines that are saved, and what is found of the state after none, one and more of them.
-const WORDS: &str = "i1 nm t5 %ad1";
+const WORDS: &str = "i1 nm t5 %ad1 od";
 
-const STATES: [&str; 5] = [
+const STATES: [&str; 6] = [
     "none:order:order:",
     "v1[abc]:ok:ok:",
     "v1[abc]:order:ok:",
     "v1[abc]:order:clock5:",
     "v2[a-bcd+]:order:clock5:",
+    "v3[bcd]:order:clock5:",
 ];
 
 // So many of the lines were answered.
@@ -68,13 +43,13 @@ fn answered(told: &str) -> usize {
 fn what_was_answered_is_found(rt: HostRuntime) -> Result<(), Fail> {
     for pick in [0, 85, 255] {
         let mut all = false;
-        for fuse in 0..96 {
+        for fuse in 0..120 {
             let (told, found) = told_and_found(rt.alloc(), WORDS, fuse, pick)?;
             let count = answered(told.as_str());
             let after = STATES.get(count) == Some(&found.as_str());
-            let next = count < 4 && STATES[count + 1] == found.as_str();
+            let next = count < 5 && STATES[count + 1] == found.as_str();
             assert!(rt; after || next);
-            all = count == 4;
+            all = count == 5;
         }
         assert!(rt; all);
     }

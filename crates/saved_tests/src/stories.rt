@@ -11,6 +11,7 @@ i1 p;p i1 t0;p t0|v1[abc]:v1[abc]:;v1[abc]:order:ok:;v1[abc]:ok:
 i1 t100;t99 nm;nm nn t101;nn t100|v1[abc]:ok:;clock100:ok:;order:ok:ok:;order:clock101:
 i1 nm t100 wmuA100=5 sc;rmuA oa ob oc rmuA|v1[abc]:ok:ok:abc:ok:;0/3a^b^c^:v1[abc]:v1[abc]:v1[abc]:u100=5,.:
 i1 %ad1;p -b ~d;p /d %bd2;p|v1[abc]:v2[a-bcd+]:;v2[a-bcd+]:!d0:v3[abc]:;v3[abc]:v4[abc]:v5[ab-cd+]:;v5[ab-cd+]:
+i1 nm t100 wmuA100=5 %ad1 od;p od oa /a;p ob oc od rmuA|v1[abc]:ok:ok:abc:v2[a-bcd+]:v3[bcd]0ab:;v3[bcd]:v3[bcd]:v3[bcd]:v4[bcd]:;v4[bcd]:v4[bcd]:v4[bcd]:v4[bcd]:u100=5,.:
 i1 i1;i1 p|v1[abc]:order:;order:v1[abc]:";
 
 // Each row's words with what is answered to them, run after run.

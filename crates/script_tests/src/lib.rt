@@ -2,6 +2,14 @@
 #![tactic(auto)]
 
 #[cfg(test)]
+mod causes;
+#[cfg(test)]
+mod members;
+#[cfg(test)]
 mod model;
+#[cfg(test)]
+mod moves;
+#[cfg(test)]
+mod points;
 #[cfg(test)]
 mod random;

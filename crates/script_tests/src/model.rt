@@ -1,18 +1,12 @@
 //! What answers to a script have to be, by what was written and acknowledged, by the moment and by the nodes that are stopped.
-ghost use Rattle.std.specs.Prelude.{◌<◌, ◌≤◌, IfSome};
+ghost use Rattle.std.specs.Prelude.{◌≤◌};
 
+use crate::causes::{Asked, Causes};
+use crate::members::{Members, members_of, position_of};
+use crate::points::{Point, ascend, found_in, has_expired, is_in_window, is_same_key, shard_of};
 use cluster_words::{number, text, value};
 use m3_model::Memory;
 use std::alloc::Global;
-
-// A point: the letters of its namespace and its series, its time and its value.
-#[derive(Clone, Copy)]
-struct Point {
-    ns: u8,
-    series: u8,
-    t: u64,
-    v: i64,
-}
 
 // What a read asks for: a series, or those whose tag `dc` is x (`=`) or isn't (`!`), from one time to below another.
 #[derive(Clone, Copy)]
@@ -26,33 +20,30 @@ struct Read {
 
 #[derive(Drop)]
 struct Model {
-    shards: u64,
+    members: Members,
+    causes: Causes,
     now: u64,
     // All points that some node may have taken.
     written: Vec<Point>,
     // Those that two nodes or more took.
     acknowledged: Vec<Point>,
-    stopped: [bool; 3],
+    // Nodes that were named, and not removed since.
+    listed: [bool; 5],
     // How often a read had to find an acknowledged point.
     owed: u64,
-}
-
-// How far from the moment a write may lie, and how long a point is read: the rules of n and of m.
-fn rules(ns: u8) -> (u64, u64) {
-    if ns == b'n' { (20, 30) } else { (50, 60) }
-}
-
-fn is_in_window(now: u64, p: &Point) -> bool {
-    let (window, _) = rules(p.ns);
-    now < p.t.saturating_add(window) && p.t < now.saturating_add(window)
-}
-
-fn has_expired(now: u64, p: &Point) -> bool {
-    let (_, retention) = rules(p.ns);
-    p.t.saturating_add(retention) <= now
+    // How often a move ended.
+    moved: u64,
 }
 
 impl Read {
+    // The shard of a series; none of those that are matched.
+    fn shard_in(&self, members: &Members) -> Option<usize> {
+        match self.series {
+            b'=' | b'!' => None,
+            series => Some(shard_of(series, members.shards.len())),
+        }
+    }
+
     fn asks_for(&self, p: &Point) -> bool {
         let series = match self.series {
             b'=' => p.series == b'x',
@@ -77,45 +68,17 @@ fn read_of(ns: u8, series: u8, level: u8, range: &str) -> Read {
     }
 }
 
-fn is_same_key(a: &Point, b: &Point) -> bool {
-    a.ns == b.ns && a.series == b.series && a.t == b.t
-}
-
-// The points of an answer as `u100=5,101=6,x100=7,`.
-fn found_in(alloc: Global, ns: u8, answer: &str) -> Result<Vec<Point>, Memory> {
-    let mut found = Vec::new(alloc);
-    let mut series = b'?';
-    for part in answer.split(',') {
-        let digits = match part.as_bytes() {
-            [letter, rest @ ..] if letter.is_ascii_alphabetic() => {
-                series = *letter;
-                text(rest)
-            }
-            _ => part,
-        };
-        if let Some((t, v)) = digits.split_once('=') {
-            found.push(Point {
-                ns,
-                series,
-                t: number(t),
-                v: value(v),
-            })?;
-        }
-    }
-    Ok(found)
-}
-
-// Whether all of these are points that were written, that the read asks for and that haven't expired, each position once.
+// Whether all of these are points that were written, that the read asks for and that haven't expired, in order.
 fn are_written(model: &Model, read: &Read, found: &[Point]) -> bool {
-    found.iter().all(|p| {
-        read.asks_for(p)
-            && !has_expired(model.now, p)
-            && found.iter().filter(|q| is_same_key(p, q)).count() == 1
-            && model
-                .written
-                .iter()
-                .any(|q| is_same_key(p, q) && p.v == q.v)
-    })
+    ascend(found)
+        && found.iter().all(|p| {
+            read.asks_for(p)
+                && !has_expired(model.now, p)
+                && model
+                    .written
+                    .iter()
+                    .any(|q| is_same_key(p, q) && p.v == q.v)
+        })
 }
 
 // Whether the point is among those found, or a higher value is.
@@ -144,8 +107,13 @@ impl Model {
 
     // A read that a majority answered, which one at level One need not be, owes what was acknowledged.
     fn is_read(&mut self, alloc: Global, read: &Read, answer: &str) -> Result<bool, Memory> {
-        if is_refusal(read.level, answer) {
-            return Ok(true);
+        let asked = Asked {
+            shard: read.shard_in(&self.members),
+            call: Some(self.causes.next_call()),
+            point: None,
+        };
+        if let Some(is_right) = self.is_refused(needed(read.level), &asked, false, answer) {
+            return Ok(is_right);
         }
         let (points, is_short) = match answer.split_once('!') {
             Some((points, _)) => (points, true),
@@ -160,69 +128,239 @@ impl Model {
         Ok(kept && are_written(self, read, found.as_slice()))
     }
 
-    // Whether these are nodes that run, by name, and as many as the level needs.
-    fn are_acks(&self, level: u8, acks: &[u8]) -> bool {
+    // Whether the answer refuses as it may: of the shard that was asked, with each node that is cut off among those that gave a reason, and
+    // a cause for each reason. None where it is no refusal.
+    fn is_refused(
+        &mut self,
+        needed: usize,
+        asked: &Asked,
+        joins: bool,
+        answer: &str,
+    ) -> Option<bool> {
+        let Some((shard, reasons)) = self.members.refusal_of(needed, joins, answer) else {
+            return None;
+        };
+        let own = Asked {
+            shard: Some(shard),
+            call: asked.call,
+            point: asked.point,
+        };
+        let fits = match asked.shard {
+            Some(wanted) => wanted == shard,
+            None => true,
+        };
+        Some(
+            fits && self.names_cut(shard, asked.call, reasons)
+                && self.causes.may_all_refuse(self.now, reasons, &own),
+        )
+    }
+
+    // Whether each node that counts and that the call can't reach is named.
+    fn names_cut(&self, shard: usize, call: Option<u64>, reasons: &[u8]) -> bool {
+        let Some(call) = call else {
+            return true;
+        };
+        b"abcde".iter().all(|node| {
+            !self.members.counts(shard, *node)
+                || !self.causes.is_cut(call, *node)
+                || reasons.contains(node)
+        })
+    }
+
+    // Whether these are nodes that run and count for the shard, by name, which the call reaches, and as many as the level needs.
+    fn are_acks(&self, level: u8, shard: usize, call: u64, acks: &[u8]) -> bool {
         needed(level) <= acks.len()
-            && acks.iter().all(|node| self.runs(*node))
             && acks.windows(2).all(|two| two[0] < two[1])
+            && acks.iter().all(|node| {
+                self.runs(*node)
+                    && self.members.counts(shard, *node)
+                    && !self.causes.is_cut(call, *node)
+            })
     }
 
     fn runs(&self, node: u8) -> bool {
         match position_of(node) {
-            Some(position) => !self.stopped[position],
+            Some(_) => !self.causes.is_stopped(node),
+            None => false,
+        }
+    }
+
+    fn is_listed(&self, node: u8) -> bool {
+        match position_of(node) {
+            Some(position) => self.listed[position],
             None => false,
         }
     }
 
     fn is_write(&mut self, p: Point, level: u8, answer: &str) -> Result<bool, Memory> {
         self.written.push(p)?;
-        if is_refusal(level, answer) {
-            return Ok(true);
+        let shard = shard_of(p.series, self.members.shards.len());
+        let call = self.causes.next_call();
+        self.causes.keep_late(&self.members, shard, call, p)?;
+        let asked = Asked {
+            shard: Some(shard),
+            call: Some(call),
+            point: Some(p),
+        };
+        if let Some(is_right) = self.is_refused(needed(level), &asked, false, answer) {
+            return Ok(is_right);
         }
         let acks = answer.as_bytes();
         if acks.len() >= 2 {
             self.acknowledged.push(p)?;
         }
-        Ok(is_in_window(self.now, &p) && self.are_acks(level, acks))
+        Ok(is_in_window(self.now, &p) && self.are_acks(level, shard, call, acks))
     }
 
     fn is_stop(&mut self, node: u8, answer: &str) -> bool {
         match position_of(node) {
-            None => answer == "?x",
-            Some(position) if self.stopped[position] => answer.starts_with('='),
-            Some(position) => {
-                self.stopped[position] = true;
-                answer == "ok"
+            Some(position) if self.listed[position] => {
+                let was_stopped = self.causes.is_stopped(node);
+                self.causes.stop(node, true);
+                if was_stopped {
+                    is_of('=', node, answer)
+                } else {
+                    answer == "ok"
+                }
             }
+            _ => is_unknown(node, answer),
         }
     }
 
     // A disk that fails leaves the node stopped.
     fn is_restart(&mut self, node: u8, answer: &str) -> bool {
         match position_of(node) {
-            None => answer == "?x",
-            Some(position) if !self.stopped[position] => answer.starts_with('='),
-            Some(position) => {
-                self.stopped[position] = answer != "ok";
-                answer == "ok" || answer.starts_with('~')
+            Some(position) if self.listed[position] && self.causes.is_stopped(node) => {
+                if answer == "ok" {
+                    self.causes.stop(node, false);
+                    return true;
+                }
+                self.is_fault(node, answer)
+            }
+            Some(position) if self.listed[position] => is_of('=', node, answer),
+            _ => is_unknown(node, answer),
+        }
+    }
+
+    fn is_bootstrap(
+        &mut self,
+        alloc: Global,
+        node: u8,
+        shard: &str,
+        answer: &str,
+    ) -> Result<bool, Memory> {
+        if !self.is_listed(node) {
+            return Ok(is_unknown(node, answer));
+        }
+        if self.members.shards.len() as u64 <= number(shard) {
+            return Ok(answer.strip_prefix("?") == Some(shard));
+        }
+        if !self.runs(node) {
+            return Ok(is_of('=', node, answer));
+        }
+        match members_of(alloc, answer)? {
+            Some((next, told)) => Ok(self.is_joined(next, node, shard, told)),
+            None => Ok(self.is_no_join(node, answer)),
+        }
+    }
+
+    fn is_joined(&mut self, next: Members, node: u8, shard: &str, told: &str) -> bool {
+        let is_right = self.members.ends_in(&next, node, told);
+        if !told.is_empty() {
+            self.moved = self.moved.saturating_add(1);
+        }
+        for position in 0..next.shards.len() {
+            let is_asked = shard.is_empty() || number(shard) as usize == position;
+            if is_asked && next.is_member(position, node) {
+                self.causes.wait(node, position, false);
+                if next.joins_shard(position, node) {
+                    self.causes.blame(node);
+                }
+            }
+        }
+        self.members = next;
+        is_right
+    }
+
+    // Too few streamed, or a disk failed.
+    fn is_no_join(&mut self, node: u8, answer: &str) -> bool {
+        match answer.strip_prefix("p") {
+            Some(refusal) => {
+                let asked = Asked {
+                    shard: None,
+                    call: None,
+                    point: None,
+                };
+                self.is_refused(2, &asked, true, refusal).unwrap_or(false)
+            }
+            None => self.is_fault(node, answer),
+        }
+    }
+
+    // Whether the answer is that a disk of the node failed, for which it is blamed.
+    fn is_fault(&mut self, node: u8, answer: &str) -> bool {
+        match answer.as_bytes() {
+            [b'~', name, ..] if *name == node => {
+                self.causes.blame(node);
+                true
+            }
+            _ => false,
+        }
+    }
+
+    // A line that makes a placement, or is refused: a node that is listed or isn't, a shard that moves, a group that is in the way.
+    fn is_placed(&mut self, alloc: Global, word: &[u8], answer: &str) -> Result<bool, Memory> {
+        let Some((next, behind)) = members_of(alloc, answer)? else {
+            return Ok(
+                answer == "order"
+                    || answer.starts_with('?')
+                    || answer.starts_with('!')
+                    || answer.starts_with("group"),
+            );
+        };
+        let is_right = self.members.leads_to(&next) && behind.is_empty();
+        self.await_bootstraps(&next);
+        self.members = next;
+        match word {
+            [b'+', node, ..] | [b'%', _, node, ..] => self.list(*node, true),
+            [b'/', node] => self.list(*node, false),
+            _ => {}
+        }
+        Ok(is_right)
+    }
+
+    // A replica that is to join waits for a bootstrap.
+    fn await_bootstraps(&mut self, next: &Members) {
+        for shard in 0..next.shards.len() {
+            for node in *b"abcde" {
+                if next.joins_shard(shard, node) && !self.members.joins_shard(shard, node) {
+                    self.causes.wait(node, shard, true);
+                }
             }
         }
     }
 
-    fn is_bootstrap(&self, node: u8, shard: &str, answer: &str) -> bool {
-        match position_of(node) {
-            None => answer == "?x",
-            Some(_) if self.shards <= number(shard) => answer.trim_start_matches('?') == shard,
-            Some(position) if self.stopped[position] => answer.starts_with('='),
-            Some(_) => answer.starts_with("v1") || answer.starts_with('~'),
+    fn list(&mut self, node: u8, is_listed: bool) {
+        if let Some(position) = position_of(node) {
+            self.listed[position] = is_listed;
         }
     }
 
+    // The first placement, of the nodes a, b and c.
+    fn is_init(&mut self, alloc: Global, answer: &str) -> Result<bool, Memory> {
+        let Some((first, behind)) = members_of(alloc, answer)? else {
+            return Ok(false);
+        };
+        let is_right = first.version == 1 && behind.is_empty();
+        self.members = first;
+        self.listed = [true, true, true, false, false];
+        Ok(is_right)
+    }
+
     // Whether each replica is named once: those that did it run, and of the others there is a reason.
-    fn is_swept(&self, answer: &str) -> bool {
+    fn is_swept(&mut self, answer: &str) -> bool {
         let (done, failed) = answer.split_once('/').unwrap_or(("", "?"));
-        let all = self.shards.saturating_mul(3);
-        let mut named: u64 = 0;
+        let mut named = failed.len() as u64 / 2;
         for node in done.bytes() {
             if !node.is_ascii_digit() {
                 named = named.saturating_add(1);
@@ -231,45 +369,63 @@ impl Model {
                 }
             }
         }
-        let reasons = failed
-            .bytes()
-            .filter(|letter| b"-^~".contains(letter))
-            .count() as u64;
-        failed.bytes().all(|letter| b"abc-^~".contains(&letter))
-            && failed.len() as u64 == reasons.saturating_mul(2)
-            && named.saturating_add(reasons) == all
+        let asked = Asked {
+            shard: None,
+            call: None,
+            point: None,
+        };
+        self.causes
+            .may_all_refuse(self.now, failed.as_bytes(), &asked)
+            && named == self.members.count()
     }
 
-    // Whether each replica is named once, and none of a node that is stopped is open or waits.
-    fn is_status(&self, answer: &str) -> bool {
+    // Whether each replica is named once, and none of a node that is stopped is open, or waits where it joins no shard. One that is down though
+    // the node runs is closed by a fault.
+    fn is_status(&mut self, answer: &str) -> bool {
         let mut named: u64 = 0;
         let mut node = b'?';
         for letter in answer.bytes() {
             match letter {
-                b'a' | b'b' | b'c' => {
+                b'a'..=b'e' => {
                     named = named.saturating_add(1);
                     node = letter;
                 }
+                b'-' if self.runs(node) => self.causes.blame(node),
                 b'-' => {}
-                b'^' | b'.' | b'0'..=b'9' if self.runs(node) => {}
+                b'^' if self.members.joins(node) && self.causes.waits(node, None) => {}
+                b'^' if self.runs(node) && self.causes.waits(node, None) => {}
+                b'.' | b'0'..=b'9' if self.runs(node) => {}
                 _ => return false,
             }
         }
-        named == self.shards.saturating_mul(3)
+        named == self.members.count()
     }
 
     // A moment, fates, or late writes.
-    fn is_other(&mut self, word: &[u8], answer: &str) -> bool {
+    fn is_other(&mut self, alloc: Global, word: &[u8], answer: &str) -> bool {
         match word {
             [b't', now @ ..] => {
                 self.now = number(text(now));
                 answer == "ok"
             }
-            [b'd'] => answer.bytes().all(|letter| b"abc+<>-^~".contains(&letter)),
+            [b'd'] => {
+                let version = self.members.version;
+                self.causes
+                    .are_delivered(alloc, self.now, version, answer.as_bytes())
+            }
             [b'k' | b'l'] => self.is_swept(answer),
             [b'u'] => self.is_status(answer),
             _ => answer == "ok",
         }
+    }
+
+    // Fates that name a node which isn't listed change nothing.
+    fn are_fates(&mut self, told: &str, answer: &str) -> Result<bool, Memory> {
+        if answer == "ok" {
+            self.causes.tell_fates(told)?;
+            return Ok(true);
+        }
+        Ok(answer.starts_with('?'))
     }
 
     // Whether a word may be answered so, and what it changes.
@@ -291,22 +447,31 @@ impl Model {
             }
             [b's', node] => Ok(self.is_stop(*node, answer)),
             [b'b', node, ..] => Ok(self.is_restart(*node, answer)),
-            [b'o', node, shard @ ..] => Ok(self.is_bootstrap(*node, text(shard), answer)),
-            [b'i', _] => Ok(answer.starts_with("v1")),
-            other => Ok(self.is_other(other, answer)),
+            [b'o', node, shard @ ..] => self.is_bootstrap(alloc, *node, text(shard), answer),
+            [b'i', _] => self.is_init(alloc, answer),
+            [b'+' | b'-' | b'~' | b'/' | b'%', ..] => self.is_placed(alloc, word, answer),
+            [b'f', told @ ..] => self.are_fates(text(told), answer),
+            other => Ok(self.is_other(alloc, other, answer)),
         }
     }
 }
 
-fn position_of(node: u8) -> Option<usize>
-    ensures { IfSome result (λ position. position < 3) }
-{
-    match node {
-        b'a' => Some(0),
-        b'b' => Some(1),
-        b'c' => Some(2),
-        _ => None,
+// Whether the answer is this mark and the node.
+fn is_of(mark: char, node: u8, answer: &str) -> bool {
+    match answer.strip_prefix(mark) {
+        Some(name) => name.len() == 1 && name.bytes().all(|letter| letter == node),
+        None => false,
     }
+}
+
+// Whether the answer is that no node of this name is listed.
+fn is_unknown(node: u8, answer: &str) -> bool {
+    let name = if position_of(node).is_some() {
+        node
+    } else {
+        b'x'
+    };
+    is_of('?', name, answer)
 }
 
 // How many of three a level needs.
@@ -320,49 +485,73 @@ fn needed(level: u8) -> usize
     }
 }
 
-// Whether the answer says that fewer than needed answered, and gives a reason for each of the others: `1/2b-c-`.
-fn is_refusal(level: u8, answer: &str) -> bool {
-    let (count, _) = answer.split_once('#').unwrap_or((answer, ""));
-    match count.as_bytes() {
-        [got, b'/', all, reasons @ ..] => {
-            let got = (*got & 15) as usize;
-            *all & 15 == needed(level) as u8
-                && got < needed(level)
-                && reasons.len() == (3 - got.min(3)) * 2
-                && reasons.iter().all(|letter| b"abcx-^~<>".contains(letter))
+/// What was at stake in a script: how often a read had to find an acknowledged point, how often a move ended, and how often a disk failed.
+#[derive(Clone, Copy)]
+pub struct Stakes {
+    pub owed: u64,
+    pub moved: u64,
+    pub faults: u64,
+}
+
+impl Stakes {
+    /// Whether one of these is less than that of the other.
+    pub fn are_below(&self, least: &Stakes) -> bool {
+        self.owed < least.owed || self.moved < least.moved || self.faults < least.faults
+    }
+
+    /// What was at stake in another script, too.
+    pub fn add(&mut self, other: &Stakes) {
+        self.owed = self.owed.saturating_add(other.owed);
+        self.moved = self.moved.saturating_add(other.moved);
+        self.faults = self.faults.saturating_add(other.faults);
+    }
+
+    /// So many times as much.
+    pub fn times(&self, count: u64) -> Stakes {
+        Stakes {
+            owed: self.owed.saturating_mul(count),
+            moved: self.moved.saturating_mul(count),
+            faults: self.faults.saturating_mul(count),
         }
-        _ => false,
     }
 }
 
-// The first word with an answer that it may not have; else nothing, or `few` where less than `least` was owed.
+fn begun(alloc: Global) -> Model {
+    Model {
+        members: Members::none(alloc),
+        causes: Causes::none(alloc),
+        now: 0,
+        written: Vec::new(alloc),
+        acknowledged: Vec::new(alloc),
+        listed: [false; 5],
+        owed: 0,
+        moved: 0,
+    }
+}
+
+/// Says the first word with an answer that it may not have; else nothing, or `blamed` where nodes were blamed for more faults than these. Tells what
+/// was at stake up to there.
 pub fn first_wrong(
     alloc: Global,
     words: &str,
     answers: &str,
-    least: u64,
+    faults: u64,
     out: &mut String,
-) -> Result<(), Memory> {
-    let shards = match words.as_bytes() {
-        [b'i', shards, ..] => (*shards & 15) as u64,
-        _ => 0,
-    };
-    let mut model = Model {
-        shards,
-        now: 0,
-        written: Vec::new(alloc),
-        acknowledged: Vec::new(alloc),
-        stopped: [false; 3],
-        owed: 0,
-    };
+) -> Result<Stakes, Memory> {
+    let mut model = begun(alloc);
+    let mut is_right = true;
     for (word, answer) in words.split(' ').zip(answers.split(':')) {
-        if !model.learn(alloc, word.as_bytes(), answer)? {
+        if is_right && !model.learn(alloc, word.as_bytes(), answer)? {
             write!(out, "{word} {answer}")?;
-            return Ok(());
+            is_right = false;
         }
     }
-    if model.owed < least {
-        out.push_str("few")?;
+    if is_right && faults < model.causes.blames() {
+        out.push_str("blamed")?;
     }
-    Ok(())
+    Ok(Stakes {
+        owed: model.owed,
+        moved: model.moved,
+        faults,
+    })
 }

@@ -5,4 +5,5 @@ pub mod SlotLemmas
 pub mod PointLemmas
 pub mod SeriesLemmas
 pub mod FirstLemmas
+pub mod OrderLemmas
 pub mod AnswerLemmas

@@ -8,7 +8,7 @@ use Rattle.std.proofs.lemmas.List.Sums.{sum_by-append, sum_by-cons}
 use Rattle.m3_model.specs.Members.{IsIn}
 use Rattle.m3_model.proofs.MemberLemmas.{IsIn-append_left, IsIn-append_right, IsIn-append_cases}
 
-IsIn-at : {X : Type 0} (xs : List X) (k : ℕ) (d : X) → k < length xs → IsIn xs (get_or xs k d)
+pub IsIn-at : {X : Type 0} (xs : List X) (k : ℕ) (d : X) → k < length xs → IsIn xs (get_or xs k d)
 IsIn-at [] k d h = absurd (omega arith)
 IsIn-at (x ∷ xs) zero d h = inl refl
 IsIn-at (x ∷ xs) (suc k) d h = inr (IsIn-at xs k d (omega arith))

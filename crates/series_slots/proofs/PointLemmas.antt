@@ -36,7 +36,7 @@ then-then Equal b c = refl
 then-then Greater b c = refl
 
 -- keys stand by series, and then by time
-key_order : (x y : Key) → key_cmp x y ≡ ordering_then (series_cmp (series_of x) (series_of y)) (nat_cmp x.t y.t)
+pub key_order : (x y : Key) → key_cmp x y ≡ ordering_then (series_cmp (series_of x) (series_of y)) (nat_cmp x.t y.t)
 key_order x y = then-then (nat_cmp x.ns y.ns) (slice_cmp nat_cmp x.id y.id) (nat_cmp x.t y.t)
 
 pub equal-then : (a b : Ordering) → is_eq (ordering_then a b) ≡ (is_eq a && is_eq b)

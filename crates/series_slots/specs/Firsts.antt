@@ -36,3 +36,8 @@ HasNoTime slots = (q : ℕ) → map.get slots q ≡ None
 pub record IsFirstTime (slots : Slots) (t : ℕ) : Type 0 where
   pub slot : IsSome (map.get slots t)
   pub first : (q : ℕ) → IsSome (map.get slots q) → t ≤ q
+
+-- the first value of the series stands at the time
+pub record IsFirstValue (es : SeriesEntries) (s : SeriesKey) (t : ℕ) (v : ℤ) : Type 0 where
+  pub value : value_of (slots_of es) (key_at s t) ≡ Some v
+  pub first : (q : ℕ) → q < t → value_of (slots_of es) (key_at s q) ≡ None

@@ -6,3 +6,4 @@ pub mod SeriesEntries
 pub mod Ranges
 pub mod Written
 pub mod Firsts
+pub mod Above

@@ -10,7 +10,8 @@ ghost use Rattle.series_slots.specs.declared.series_key.SeriesKey.{SeriesKey};
 ghost use Rattle.series_slots.specs.Slots.{Slots, value_at, valued_in};
 ghost use Rattle.series_slots.specs.Points.{points_of};
 ghost use Rattle.series_slots.specs.SeriesEntries.{IsAt, StandsAt, slots_of};
-ghost use Rattle.series_slots.specs.Firsts.{IsFirstAt, HasNoneLater, IsFirstTime, HasNoTime};
+ghost use Rattle.series_slots.specs.Firsts.{IsFirstAt, IsFirstValue, HasNoneLater, IsFirstTime, HasNoTime};
+ghost use Rattle.series_slots.specs.Above.{HasNoneAbove, IsFirstAbove};
 ghost use Rattle.series_slots.specs.Written.{IsWritten, IsAdded, IsRemoved};
 ghost use Rattle.series_slots.specs.Ranges.{IsRangeOf, some_series, series_in};
 
@@ -19,23 +20,29 @@ use crate::series_key::SeriesKey;
 use indexmap::IndexMap;
 use m3_model::{Duplicate, Memory, Seq, Series, Text};
 use std::alloc::Global;
+use std::collections::BTreeSet;
 use std::marker::Model;
+use std::ops::Bound;
 
 /// Series with their slots. Contracts see them by their positions, which count from 0. A position is that of its series until a
-/// series leaves.
+/// series leaves. Beside that the series stand in their order, by which the next one is found.
 ///
 /// The slots of a series are a list by time: one that comes after all others is appended, and one that comes or goes within
 /// them moves those on its shorter side by a position. Late points are rare, and a series has at most the points of its open blocks.
 #[derive(Drop)]
 pub struct IndexedSeries {
     map: IndexMap<SeriesKey, SeriesBuffer>,
+    // The series, in their order.
+    order: BTreeSet<SeriesKey>,
 }
 
 impl Model for IndexedSeries {
     ghost use Rattle.std.specs.List.{IsDistinct};
     ghost use Rattle.std.specs.Map.{keys_of};
-    ghost use Rattle.series_slots.specs.SeriesKeys.{series_eq};
+    ghost use Rattle.std.specs.BTreeSet.{contains};
+    ghost use Rattle.series_slots.specs.SeriesKeys.{series_cmp, series_eq};
     ghost use Rattle.series_slots.specs.SeriesEntries.{SeriesEntries, series_entries_code};
+    ghost use Rattle.series_slots.specs.Above.{AreListed};
 
     ghost Value = { SeriesEntries };
 
@@ -43,7 +50,7 @@ impl Model for IndexedSeries {
 
     ghost view = { λ a. a.map.entries };
 
-    ghost invariant = { λ a. IsDistinct series_eq (keys_of a.map.entries) };
+    ghost invariant = { λ a. IsDistinct series_eq (keys_of a.map.entries) × AreListed (contains series_cmp a.order) a.map.entries };
 }
 
 impl IndexedSeries {
@@ -53,6 +60,7 @@ impl IndexedSeries {
     {
         IndexedSeries {
             map: IndexMap::new(alloc),
+            order: BTreeSet::new(alloc),
         }
     }
 
@@ -120,7 +128,33 @@ impl IndexedSeries {
         self.map[position].is_empty()
     }
 
-    /// Adds the series without slots, at the last position, in constant expected time.
+    // The time and the value of the first slot of the series that has one.
+    fn first_of(&self, series: &SeriesKey) -> Option<(u64, i64)>
+        ensures none { result ≡ None → HasNoneLater self.now series.now 0 }
+        ensures some { IfSome result (λ x. IsFirstValue self.now series.now x.0 x.1) }
+    {
+        let position = self.position_of(series)?;
+        self.first_from(position, 0)
+    }
+
+    /// The first point of the series that come after this one: its series, its time and its value. Costs the logarithm of the series,
+    /// beside those without a value that come before.
+    pub fn first_above(&self, series: &SeriesKey) -> Option<(&SeriesKey, u64, i64)>
+        ensures none { result ≡ None → HasNoneAbove (points_of (slots_of self.now)) series.now }
+        ensures some { IfSome result (λ x. IsFirstAbove (points_of (slots_of self.now)) series.now x.0.now x.1 x.2) }
+    {
+        for next in self
+            .order
+            .range((Bound::Excluded(series), Bound::Unbounded))
+        {
+            if let Some((t, v)) = self.first_of(next) {
+                return Some((next, t, v));
+            }
+        }
+        None
+    }
+
+    /// Adds the series without slots, at the last position, in the logarithm of the series.
     ///
     /// # Errors
     ///
@@ -130,7 +164,9 @@ impl IndexedSeries {
         ensures ok { IfOk result (IsAdded self.old self.new series) }
         ensures err { OnErr result (self.new ≡ self.old) }
     {
+        self.map.reserve(1)?;
         let position = self.map.len();
+        self.order.insert(series.copy(alloc)?)?;
         self.map.insert(series, SeriesBuffer::new(alloc))?;
         Ok(position)
     }
@@ -168,8 +204,8 @@ impl IndexedSeries {
         self.map[position].take(t);
     }
 
-    /// Takes the series at this position out, with its slots; the last series takes its place. Takes no memory, and constant
-    /// expected time beside its slots.
+    /// Takes the series at this position out, with its slots; the last series takes its place. Takes no memory, and the logarithm of
+    /// the series beside its slots.
     pub fn remove(&mut self, position: usize) -> Option<SeriesKey>
         requires { (s : SeriesKey) × IsAt self.old position s }
         ensures key { (s : SeriesKey) (slots : Slots) → slice_get self.old position ≡ Some (s, slots) → result ≡ Some s }
@@ -177,6 +213,7 @@ impl IndexedSeries {
     {
         let (series, buffer) = self.map.swap_remove_index(position)?;
         drop(buffer);
+        self.order.remove(&series);
         Some(series)
     }
 

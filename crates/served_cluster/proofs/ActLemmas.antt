@@ -15,6 +15,7 @@ use Rattle.cluster_tracks.specs.cluster_members.declared.members.Members.{Member
 use Rattle.cluster_tracks.specs.node_calls.Nodes.{IsFated}
 use Rattle.cluster_tracks.specs.Numbers.{after_call, last_number, numbers_by}
 use Rattle.cluster_tracks.specs.Acts.{Does, OnMembers, next_call}
+use Rattle.cluster_tracks.specs.Slots.{is_bootstrap}
 use Rattle.served_cluster.specs.Acts.{Answers, sets_fates}
 use Rattle.served_cluster.specs.declared.cluster.Cluster.{Cluster}
 
@@ -39,6 +40,11 @@ numbers_of_change _ b calls no_call no_fates = refl
 pub no_fates_so : (a : Act) → ((list : _) → a ≡ act.Fates list → ⊥) → sets_fates a ≡ false
 no_fates_so (act.Fates list) other = absurd (other list refl)
 no_fates_so _ other = refl
+
+-- nor is one that is no bootstrap
+pub no_bootstrap_so : (a : Act) → ((node : List ℕ) (shard : Option ℕ) → a ≡ act.Bootstrap node shard → ⊥) → is_bootstrap a ≡ false
+no_bootstrap_so (act.Bootstrap node shard) other = absurd (other node shard refl)
+no_bootstrap_so _ other = refl
 
 -- fates that weren't set begin no numbering anew
 numbers_of_fates : (list : List (ℕ × ℕ × List ℕ × Fate)) (b : Answer) (calls : List ℕ) → (b ≡ answer.Done → ⊥) → numbers_by (act.Fates list) b calls ≡ calls

@@ -1,7 +1,8 @@
 -- A cluster is ready: when it begins, and also after an act.
-use Rattle.std.proofs.Common.{◌≡◌, ◌<◌, ◌≤◌, arith, ℕ, List, ◌++◌, sym, ap, subst, ◌∙◌}
+use Rattle.std.proofs.Common.{◌≡◌, ◌<◌, ◌≤◌, arith, ℕ, List, ◌++◌, refl, sym, ap, subst, ◌∙◌, true, false}
 use Rattle.std.specs.Prelude.{Option, Some}
 use Rattle.std.specs.List.{Any}
+use Rattle.m3_model.specs.Calls.{is_call}
 use Rattle.m3_model.specs.Members.{IsIn}
 use Rattle.m3_model.specs.declared.act.Act.{Act}
 use Rattle.m3_model.specs.declared.act.Act.TheVariants as act
@@ -32,11 +33,11 @@ use Rattle.cluster_tracks.proofs.first_cluster_proofs.SlotLists.{slots_apart}
 use Rattle.cluster_tracks.specs.cluster_placements.Slots.{AreSlotsIn}
 use Rattle.cluster_tracks.specs.cluster_placements.Steps.{MayChange}
 use Rattle.cluster_tracks.specs.Acts.{Does}
-use Rattle.cluster_tracks.specs.Slots.{KeepsSlots}
+use Rattle.cluster_tracks.specs.Slots.{KeepsSlots, is_bootstrap}
 use Rattle.cluster_tracks.proofs.FailureLemmas.{steps_append}
 use Rattle.cluster_tracks.proofs.FirstLemmas.{first_unstepped}
 use Rattle.cluster_tracks.proofs.SlotLemmas.{acts_keep_slots}
-use Rattle.served_cluster.specs.Owned.{AreReady, HasItsSlots, MayServeCluster}
+use Rattle.served_cluster.specs.Owned.{AreReady, HasItsSlots, MayServeCluster, StillServes}
 use Rattle.served_cluster.specs.declared.cluster.Cluster.{Cluster}
 
 -- ---- after an act
@@ -63,11 +64,16 @@ slots_kept m g keeps has = record {
 manned_kept : {D : Type 0} {G : Ghosts D} (m g : Members D G) → KeepsSlots m g → AreManned m.slots.items m.net.replicas → AreManned g.slots.items g.net.replicas
 manned_kept m g keeps manned s i none = manned s (subst (λ xs. IsIn xs s) keeps.slots i) ((keeps.same s).0 none)
 
--- so it is after each act that makes no placement
-pub ready_on : {D : Type 0} {G : Ghosts D} (state : D → DiskState) (m g : Members D G) (id : CallId) (a : Act) (b : Answer) → Does state id m a b g → AreReady (Some m) → IsReady g.net.state g.net.replicas g.net.bag → AreReady (Some g)
-ready_on state m g id a b does was ready =
-    let keeps = acts_keep_slots state m id a b g does in
+-- so it is after each act that makes no placement, other than a bootstrap
+pub ready_on : {D : Type 0} {G : Ghosts D} (state : D → DiskState) (m g : Members D G) (id : CallId) (a : Act) (b : Answer) → is_bootstrap a ≡ false → Does state id m a b g → AreReady (Some m) → IsReady g.net.state g.net.replicas g.net.bag → AreReady (Some g)
+ready_on state m g id a b other does was ready =
+    let keeps = acts_keep_slots state m id a b g other does in
     ((ready, manned_kept m g keeps was.0.1), past_kept m g keeps was.1 ready, slots_kept m g keeps was.2)
+
+-- no call of a client is one
+pub call_boots_none : (a : Act) → is_call a ≡ true → is_bootstrap a ≡ false
+call_boots_none (act.Bootstrap node shard) call = cc
+call_boots_none _ call = refl
 
 -- where fates alone changed, calls may be made as before
 fated_net : {D : Type 0} {G : Ghosts D} (m g : Members D G) → KeepsButFates m g → IsReady m.net.state m.net.replicas m.net.bag → IsReady g.net.state g.net.replicas g.net.bag
@@ -75,7 +81,7 @@ fated_net {D} m g keeps was =
     subst (λ (s : MetaState). IsReady s g.net.replicas g.net.bag) (sym keeps.state) (subst (λ (t : Tracked D). IsReady m.net.state t g.net.bag) (sym keeps.replicas) (subst (IsReady m.net.state m.net.replicas) (sym keeps.bag) was))
 
 pub fated_ready : {D : Type 0} {G : Ghosts D} (state : D → DiskState) (m g : Members D G) (id : CallId) (list : List (ℕ × ℕ × List ℕ × Fate)) (b : Answer) → b ≡ answer.Done → IsFated m list b g → AreReady (Some m) → AreReady (Some g)
-fated_ready state m g id list b done fated was = ready_on state m g id (act.Fates list) b fated was (fated_net m g (subst (λ (x : Answer). IsFated m list x g) done fated).3 was.0.0)
+fated_ready state m g id list b done fated was = ready_on state m g id (act.Fates list) b refl fated was (fated_net m g (subst (λ (x : Answer). IsFated m list x g) done fated).3 was.0.0)
 
 -- ---- when it begins
 
@@ -115,3 +121,11 @@ module _ {D : Type 0} {G : Ghosts D} (m : Members D G) (held : DiskSlot → Held
   -- and is ready after them
   pub ready_still : MayChange m held → AreReady (Some m)
   ready_still may = ((may.ready, may.manned), may.serves, record { slots = may.slots; unstepped = may.unstepped })
+
+-- a cluster that may change still may serve
+pub still_so : {D : Type 0} {G : Ghosts D} (old new : Cluster D G) (m g : Members D G) → old.members ≡ Some m → new.members ≡ Some g → ((held : DiskSlot → Held D) → MayChange m held → MayChange g held) → StillServes old new
+still_so {D} {G} old new m g stood stands still held may =
+    let own = subst (λ (o : Option (Members D G)). OwnedBy o held) stood may.owned in
+    let ready = subst (λ (o : Option (Members D G)). AreReady o) stood may.ready in
+    let then = still held (may_change m held own ready) in
+    first_serves new g held stands then.out (ready_still g held then)

@@ -4,4 +4,5 @@ pub mod KeptLemmas
 pub mod TrackLemmas
 pub mod PlaceLemmas
 pub mod PlanLemmas
+pub mod JoinLemmas
 pub use Rattle.cluster_tracks.proofs.EndLemmas

@@ -28,7 +28,7 @@ use Rattle.cluster_tracks.specs.cluster_placements.Steps.{IsChanged, kept_in}
 use Rattle.cluster_tracks.specs.Acts.{Does, IsServedBy, IsStepAnswer, OnMembers, next_call}
 use Rattle.cluster_tracks.proofs.first_cluster_proofs.PlacedSlots.{no_meta}
 use Rattle.cluster_tracks.proofs.first_cluster_proofs.SlotLists.{in_or_out}
-use Rattle.cluster_tracks.specs.Slots.{KeepsSlots}
+use Rattle.cluster_tracks.specs.Slots.{KeepsSlots, is_bootstrap}
 use Rattle.cluster_tracks.proofs.SlotLemmas.{acts_keep_slots}
 use Rattle.served_cluster.specs.Acts.{Answers, Serves, is_init}
 use Rattle.served_cluster.specs.Owned.{held_at}
@@ -129,9 +129,9 @@ module _ {D : Type 0} {G : Ghosts D} (state : D → DiskState) (held : DiskSlot 
       by_old s (Some r) is some = own.lent s r is
 
   -- the disks that are out stay those of its replicas
-  pub owned_after : (old : Option (Members D G)) (a : Act) (b : Answer) (calls : _) (new : Option (Members D G)) → OnMembers old (λ m g. Does state (next_call calls) m a b g) b new → OwnedBy old held → OwnedBy new held
-  owned_after None a b calls new did own = subst (λ (o : Option (Members D G)). OwnedBy o held) (sym did.1) own
-  owned_after (Some m) a b calls new did own = subst (λ (o : Option (Members D G)). OwnedBy o held) (sym did.1) (owned_on m did.0 (acts_keep_slots state m (next_call calls) a b did.0 did.2) own)
+  pub owned_after : (old : Option (Members D G)) (a : Act) (b : Answer) (calls : _) (new : Option (Members D G)) → is_bootstrap a ≡ false → OnMembers old (λ m g. Does state (next_call calls) m a b g) b new → OwnedBy old held → OwnedBy new held
+  owned_after None a b calls new other did own = subst (λ (o : Option (Members D G)). OwnedBy o held) (sym did.1) own
+  owned_after (Some m) a b calls new other did own = subst (λ (o : Option (Members D G)). OwnedBy o held) (sym did.1) (owned_on m did.0 (acts_keep_slots state m (next_call calls) a b did.0 other did.2) own)
 
 -- what is answered an act that makes no placement serves it
 pub serves_so : {D : Type 0} {G : Ghosts D} (state : D → DiskState) (depot : Depot D) (old : Cluster D G) (a : Act) (b : Answer) (new : Cluster D G) → is_init a ≡ false → is_step_act a ≡ false → Answers state old a b new → Serves state depot old a b depot new

@@ -1,5 +1,5 @@
 -- After an act the placement stands that stood before it, or the one that its answer prints.
-use Rattle.std.proofs.Common.{◌≡◌, ◌<◌, ◌≤◌, ◌+◌, ℕ, suc, List, refl, sym, ap, subst, ◌∙◌, inl, inr, arith, Bool, true, false, cond}
+use Rattle.std.proofs.Common.{◌≡◌, ◌<◌, ◌≤◌, ◌+◌, ℕ, suc, List, [], ◌∷◌, refl, sym, ap, subst, ◌∙◌, inl, inr, arith, Bool, true, false, cond}
 use Rattle.std.specs.Prelude.{Option, Some, None, nat_lt, option_map, if◌then◌else◌}
 use Rattle.std.proofs.lemmas.Bool.{leb-true}
 use Rattle.m3_model.specs.declared.act.Act.{Act}
@@ -19,6 +19,7 @@ use Rattle.m3_outside.specs.Depots.{Depot}
 use Rattle.m3_outside.specs.DiskState.{DiskState}
 use Rattle.m3_outside.specs.declared.disk.Disk.{Ghosts}
 use Rattle.placement_acts.specs.Acts.{is_step_act}
+use Rattle.cluster_core.specs.declared.event.Event.{Event}
 use Rattle.cluster_core.specs.declared.event.StepCall.{StepCall}
 use Rattle.cluster_core.specs.declared.event.StepCall.TheVariants as call
 use Rattle.cluster_tracks.specs.told_by.Steps.{IsUnmoved}
@@ -32,10 +33,12 @@ use Rattle.cluster_tracks.specs.cluster_members.Kept.{IsNumberOf, IsUnkept}
 use Rattle.cluster_tracks.specs.cluster_members.Steps.{IsMoved, IsSpaceAdded}
 use Rattle.cluster_tracks.specs.cluster_members.declared.calls.Range.{Range}
 use Rattle.cluster_tracks.specs.cluster_members.declared.members.Members.{Members}
-use Rattle.cluster_tracks.specs.node_calls.Nodes.{IsBootstrapAnswer, IsDeliverAnswer, IsFated, IsRestarted, IsStopped}
+use Rattle.cluster_tracks.specs.node_calls.Nodes.{IsDeliverAnswer, IsFated, IsRestarted, IsStopped}
 use Rattle.cluster_tracks.specs.cluster_upkeep.Upkeep.{IsSwept, IsTold}
 use Rattle.cluster_tracks.specs.first_cluster.First.{IsRefusedInit}
+use Rattle.cluster_tracks.specs.cluster_joins.Boots.{IsBooted, IsEndedBy}
 use Rattle.cluster_tracks.specs.cluster_placements.Steps.{IsChanged, kept_in}
+use Rattle.cluster_tracks.specs.told_joins.Lines as lines
 use Rattle.cluster_tracks.specs.Acts.{Does, IsInitAnswer, IsServedBy, IsStepAnswer, MayCall, OnMembers, next_call}
 use Rattle.served_cluster.specs.Acts.{Serves}
 use Rattle.served_cluster.specs.Owned.{place_of}
@@ -171,15 +174,26 @@ module _ {D : Type 0} {G : Ghosts D} (state : D → DiskState) (m g : Members D 
   restarted_so name answer.Full h = all_stays answer.Full refl h.1.same
   restarted_so name _ h = absurd h
 
-  bootstrapped_so : (name : List ℕ) (asked : Option ℕ) (b : Answer) → IsBootstrapAnswer state m name asked b g → Leaves b
-  bootstrapped_so name asked (answer.Available available place version) h = ap Some (ap (λ (p : Placement). newer p (Some m.net.state.place)) h.1 ∙ newer_same m.net.state.place ∙ sym (ap (λ (s : MetaState). s.place) h.3.keeps.keeps.state))
-  bootstrapped_so name asked (answer.Unknown unknown) h = all_stays (answer.Unknown unknown) refl h.1
-  bootstrapped_so name asked (answer.State node) h = all_stays (answer.State node) refl h.3
-  bootstrapped_so name asked (answer.Disk node shard) h = state_stays (answer.Disk node shard) refl h.1.keeps.keeps.state
-  bootstrapped_so name asked (answer.Corrupt node shard damage) h = state_stays (answer.Corrupt node shard damage) refl h.1.keeps.keeps.state
+  -- a placement in which moves are over is the next one
+  left_so : (y : ℕ) (joined : List (ℕ × List ℕ)) (next : Placement) → lines.Leaves m.net.state.place y joined next → newer next (Some m.net.state.place) ≡ next
+  left_so y [] next same = ap (λ (p : Placement). newer p (Some m.net.state.place)) same ∙ newer_same m.net.state.place ∙ sym same
+  left_so y (x ∷ joined) next over = newer_next next m.net.state.place over.0.follows.version
+
+  ended_so : (name : List ℕ) (asked : Option ℕ) (Adds : Placement → ℕ → Option ℕ → List Event → Type 0) (b : Answer) → printed b ≡ None → IsEndedBy state m name asked Adds g → Leaves b
+  ended_so name asked Adds b none h = state_stays b none h.keeps.keeps.state
+
+  bootstrapped_so : (name : List ℕ) (asked : Option ℕ) (b : Answer) → IsBooted state m name asked b g → Leaves b
+  bootstrapped_so name asked (answer.Available available next version) (is, h) = ap Some (left_so h.may.runs.node (lines.joined_of h.opened) next h.adds.leaves ∙ sym (ap (λ (s : MetaState). s.place) h.state_is))
+  bootstrapped_so name asked (answer.Peers got needed reasons shard) (peers, is, h) = ended_so name asked _ (answer.Peers got needed reasons shard) refl h
+  bootstrapped_so name asked (answer.Disk node shard) (is, h) = ended_so name asked _ (answer.Disk node shard) refl h
+  bootstrapped_so name asked (answer.Corrupt node shard damage) (is, shown, h) = ended_so name asked _ (answer.Corrupt node shard damage) refl h
   bootstrapped_so name asked answer.Memory (inl same) = all_stays answer.Memory refl same
-  bootstrapped_so name asked answer.Memory (inr h) = state_stays answer.Memory refl h.1.keeps.keeps.state
-  bootstrapped_so name asked answer.Full h = all_stays answer.Full refl h.1.same
+  bootstrapped_so name asked answer.Memory (inr (inl (shard, h))) = ended_so name asked _ answer.Memory refl h
+  bootstrapped_so name asked answer.Memory (inr (inr h)) = ended_so name asked _ answer.Memory refl h
+  bootstrapped_so name asked answer.Full (lacks, h) = ended_so name asked _ answer.Full refl h
+  bootstrapped_so name asked (answer.Limit limit) (is, h) = ended_so name asked _ (answer.Limit limit) refl h
+  bootstrapped_so name asked (answer.Unknown unknown) (which, same) = all_stays (answer.Unknown unknown) refl same
+  bootstrapped_so name asked (answer.State node) (was, has, is, same) = all_stays (answer.State node) refl same
   bootstrapped_so name asked _ h = absurd h
 
   -- ---- upkeep

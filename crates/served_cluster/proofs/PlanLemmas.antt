@@ -1,5 +1,5 @@
 -- Acts that change the state of a cluster that stands, in two parts.
-use Rattle.std.proofs.Common.{◌≡◌, ℕ, [], refl, sym, subst, ◌∙◌, inl, inr, true}
+use Rattle.std.proofs.Common.{◌≡◌, ℕ, [], refl, sym, subst, ◌∙◌, inl, inr, true, false}
 use Rattle.std.specs.Prelude.{Option, Some, None}
 use Rattle.std.proofs.lemmas.Option.{same_Some}
 use Rattle.m3_model.specs.declared.act.Act.{Act}
@@ -21,6 +21,7 @@ use Rattle.cluster_tracks.proofs.cluster_members_proofs.PlanLemmas.{move_refused
 use Rattle.cluster_tracks.specs.cluster_placements.Steps.{IsChange, IsChanged, MakesPlanned, MayChange, kept_in}
 use Rattle.cluster_tracks.specs.cluster_placements.declared.plan.Change.{Change}
 use Rattle.cluster_tracks.specs.Acts.{Does, IsServedBy, IsStepAnswer, next_call}
+use Rattle.cluster_tracks.specs.Slots.{is_bootstrap}
 use Rattle.served_cluster.specs.Acts.{Serves}
 use Rattle.served_cluster.specs.Plans.{IsPlannedBy, IsPlannedOn, MakesOn, RefusesOn, changes_state, is_placed, state_after}
 use Rattle.served_cluster.specs.declared.cluster.Cluster.{Cluster}
@@ -89,12 +90,12 @@ rules_make state depot m g _ rules h sets = absurd h
 pub rules_may : {D : Type 0} {G : Ghosts D} (state : D → DiskState) (held : DiskSlot → Held D) (m g : Members D G) (a : Act) (rules : Rules) → IsPlannedOn m a (plan.Rules rules) → SetsRules state rules m g → IsReady g.net.state g.net.replicas g.net.bag → MayChange m held → MayChange g held
 rules_may {D} {G} state held m g a rules h sets ready may = by a h
   where
-    on : (x : Act) → Does state (next_call []) m x answer.Done g → MayChange g held
-    on x does = may_change g held (owned_after state held (Some m) x answer.Done [] (Some g) (g, refl, does) may.out) (ready_on state m g (next_call []) x answer.Done does (ready_still m held may) ready)
+    on : (x : Act) → is_bootstrap x ≡ false → Does state (next_call []) m x answer.Done g → MayChange g held
+    on x other does = may_change g held (owned_after state held (Some m) x answer.Done [] (Some g) other (g, refl, does) may.out) (ready_on state m g (next_call []) x answer.Done other does (ready_still m held may) ready)
 
     by : (x : Act) → IsPlannedOn m x (plan.Rules rules) → MayChange g held
-    by (act.Namespace name block past future retention) h = on (act.Namespace name block past future retention) (h.may_name, subst (λ (r : Rules). SetsRules state r m g) h.rules_are sets)
-    by (act.Now now) h = on (act.Now now) (h.not_lower, subst (λ (r : Rules). SetsRules state r m g) h.rules_are sets)
+    by (act.Namespace name block past future retention) h = on (act.Namespace name block past future retention) refl (h.may_name, subst (λ (r : Rules). SetsRules state r m g) h.rules_are sets)
+    by (act.Now now) h = on (act.Now now) refl (h.not_lower, subst (λ (r : Rules). SetsRules state r m g) h.rules_are sets)
     by _ h = absurd h
 
 -- a placement that was planned is that of an act that makes one

@@ -39,6 +39,10 @@ pub record MayServeCluster {D : Type 0} {G : Ghosts D} (c : Cluster D G) (held :
   pub owned : OwnedBy c.members held
   pub ready : AreReady c.members
 
+-- whatever disks are out, one that might serve with them still may
+abbrev pub StillServes : {D : Type 0} {G : Ghosts D} → Cluster D G → Cluster D G → Type 0
+StillServes {D} old new = (held : DiskSlot → Held D) → MayServeCluster old held → MayServeCluster new held
+
 -- what a slot's disk is: where a replica has it, that one, and else the one in the slot
 abbrev pub held_at : {D : Type 0} → Depot D → Option (Member D) → Slot → Held D
 held_at depot None s = depot.held (disk_slot_of s)

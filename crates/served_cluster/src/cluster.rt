@@ -23,14 +23,16 @@ ghost use Rattle.cluster_tracks.specs.Numbers.{last_number};
 ghost use Rattle.cluster_tracks.specs.replica_exchange.declared.call_id.CallId.{CallId as CallName};
 ghost use Rattle.cluster_tracks.specs.Acts.{Does, IsInitAnswer};
 ghost use Rattle.cluster_tracks.specs.Lines.{EachMember};
+ghost use Rattle.cluster_tracks.specs.Slots.{is_bootstrap};
 ghost use Rattle.served_cluster.specs.Acts.{Answers, Serves, ServesRequest, first_numbers, is_init, sets_fates};
-ghost use Rattle.served_cluster.specs.Owned.{AreReady, MayServeCluster, TracksTurns, held_at, place_of};
+ghost use Rattle.served_cluster.specs.Owned.{AreReady, MayServeCluster, StillServes, TracksTurns, held_at, place_of};
 
+use cluster_tracks::of_cluster_joins::bootstrap;
 use cluster_tracks::of_cluster_members::{Members, Range};
 use cluster_tracks::of_cluster_placements::change_placement;
 use cluster_tracks::of_cluster_upkeep::{flush, snapshot, status, tick};
 use cluster_tracks::of_first_cluster::{first_members, give_all};
-use cluster_tracks::of_node_calls::{bootstrap, deliver, restart, set_fates, stop};
+use cluster_tracks::of_node_calls::{deliver, restart, set_fates, stop};
 use cluster_tracks::of_replica_exchange::CallId;
 use m3_model::{Act, Answer, Fate, Placement, Reply, Request, Seq, Space, Text};
 use m3_outside::{Disk, Disks};
@@ -108,13 +110,14 @@ fn make_call<D: Disk>(members: &mut Members<D>, alloc: Global, id: CallId, act: 
     }
 }
 
-// Changes the rules or the nodes, delivers late messages, or goes over all replicas.
+// Changes the rules, stops or restarts a node, delivers late messages, or goes over all replicas.
 fn make_change<D: Disk>(members: &mut Members<D>, alloc: Global, act: Act) -> Answer
     requires limits { MeetsLimits act }
     requires served { IsServedAct act }
     requires no_init { is_init act ≡ false }
     requires no_step { is_step_act act ≡ false }
     requires change { is_call act ≡ false }
+    requires no_bootstrap { is_bootstrap act ≡ false }
     requires no_fates { sets_fates act ≡ false }
     requires ready { AreReady (Some members.old) }
     ensures ready { IsReady members.new.net.state members.new.net.replicas members.new.net.bag }
@@ -141,7 +144,6 @@ fn make_change<D: Disk>(members: &mut Members<D>, alloc: Global, act: Act) -> An
         Act::Deliver => deliver(members, alloc),
         Act::Stop { node } => stop(members, node),
         Act::Restart { node, pick } => restart(members, node, pick),
-        Act::Bootstrap { node, shard } => bootstrap(members, alloc, node, shard),
         Act::Tick => tick(members, alloc),
         Act::Flush => flush(members, alloc),
         Act::Snapshot => snapshot(members, alloc),
@@ -252,13 +254,14 @@ impl<D: Disk> Cluster<D> {
         make_call(members, alloc, call_of(number), act)
     }
 
-    // Answers what changes the rules or the nodes, delivers late messages, or goes over all replicas.
+    // Answers what changes the rules, stops or restarts a node, delivers late messages, or goes over all replicas.
     fn answer_change(&mut self, alloc: Global, act: Act) -> Answer
         requires limits { MeetsLimits act }
         requires served { IsServedAct act }
         requires no_init { is_init act ≡ false }
         requires no_step { is_step_act act ≡ false }
         requires change { is_call act ≡ false }
+        requires no_bootstrap { is_bootstrap act ≡ false }
         requires no_fates { sets_fates act ≡ false }
         requires ready { AreReady self.old.members }
         ensures ready { AreReady self.new.members }
@@ -271,11 +274,12 @@ impl<D: Disk> Cluster<D> {
         make_change(members, alloc, act)
     }
 
-    // Answers an act that makes no placement. No disk is taken or given back.
+    // Answers an act that makes no placement, other than a bootstrap. No disk is taken or given back.
     fn answer(&mut self, alloc: Global, act: Act) -> Answer
         requires limits { MeetsLimits act }
         requires served { IsServedAct act }
         requires no_init { is_init act ≡ false }
+        requires no_bootstrap { is_bootstrap act ≡ false }
         requires no_step { is_step_act act ≡ false }
         requires ready { AreReady self.old.members }
         ensures ready { AreReady self.new.members }
@@ -288,6 +292,18 @@ impl<D: Disk> Cluster<D> {
             Act::Fates { list } => self.set_fates(alloc, list),
             _ => self.answer_change(alloc, act),
         }
+    }
+
+    // Has the replicas of a node begin, and those that join their shards be joined; moves may end by it. Without members there is no node.
+    fn boot(&mut self, alloc: Global, node: Text, shard: Option<u32>) -> Answer
+        requires ready { AreReady self.old.members }
+        ensures still { StillServes self.old self.new }
+        ensures answers { Answers D.state self.old (act.Bootstrap node shard) result self.new }
+    {
+        let Some(members) = &mut self.members else {
+            return Answer::Order;
+        };
+        bootstrap(members, alloc, node, shard)
     }
 
     // Makes the next placement. Without members there is none that it could come after.
@@ -307,6 +323,22 @@ impl<D: Disk> Cluster<D> {
         answer
     }
 
+    // Answers an act other than `init` and a bootstrap.
+    fn serve_rest<X: Disks<D = D>>(&mut self, alloc: Global, disks: &mut X, act: Act) -> Answer
+        requires limits { MeetsLimits act }
+        requires served { IsServedAct act }
+        requires no_init { is_init act ≡ false }
+        requires no_bootstrap { is_bootstrap act ≡ false }
+        requires owned { MayServeCluster self.old (X.held disks.old) }
+        ensures owned { MayServeCluster self.new (X.held disks.new) }
+        ensures answers { Serves D.state (depot_by X.held X.counted X.all_faults disks.old) self.old act result (depot_by X.held X.counted X.all_faults disks.new) self.new }
+    {
+        if is_step_act(&act) {
+            return self.change(alloc, disks, act);
+        }
+        self.answer(alloc, act)
+    }
+
     // Answers an act other than `init`.
     fn serve_other<X: Disks<D = D>>(&mut self, alloc: Global, disks: &mut X, act: Act) -> Answer
         requires limits { MeetsLimits act }
@@ -316,10 +348,10 @@ impl<D: Disk> Cluster<D> {
         ensures owned { MayServeCluster self.new (X.held disks.new) }
         ensures answers { Serves D.state (depot_by X.held X.counted X.all_faults disks.old) self.old act result (depot_by X.held X.counted X.all_faults disks.new) self.new }
     {
-        if is_step_act(&act) {
-            return self.change(alloc, disks, act);
+        if let Act::Bootstrap { node, shard } = act {
+            return self.boot(alloc, node, shard);
         }
-        self.answer(alloc, act)
+        self.serve_rest(alloc, disks, act)
     }
 
     // Answers an act.

@@ -2,6 +2,7 @@
 #![tactic(auto)]
 
 pub mod cluster;
+pub mod joins;
 pub mod plan;
 
 pub use cluster::Cluster;

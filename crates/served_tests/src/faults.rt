@@ -6,16 +6,16 @@ use std::alloc::Global;
 use std::test::Fail;
 use test_disks::{disks_with, spell_disks};
 
-// What is answered where a disk of c fails, and the faults of the disks that were given back.
-fn told(
+/// What is answered where this disk fails, and the faults of the disks that were given back.
+pub fn told(
     alloc: Global,
-    shard: u32,
+    slot: (u8, u32),
     fail: &[u64],
     fuse: Option<u64>,
     words: &str,
 ) -> Result<String, Memory> {
     let mut out = String::new(alloc);
-    let mut disks = disks_with(alloc, (2, shard), fail, fuse)?;
+    let mut disks = disks_with(alloc, slot, fail, fuse)?;
     run(alloc, &mut disks, words, &mut out)?;
     out.push('|')?;
     let faults = disks.faults();
@@ -23,8 +23,8 @@ fn told(
     Ok(out)
 }
 
-// A line for each text that differs from the one before.
-fn add_line(lines: &mut String, text: &str) -> Result<(), Memory> {
+/// A line for each text that differs from the one before.
+pub fn add_line(lines: &mut String, text: &str) -> Result<(), Memory> {
     let (_, last) = lines.as_str().rsplit_once('\n').unwrap_or(("", ""));
     if last != text {
         lines.push('\n')?;
@@ -33,13 +33,16 @@ fn add_line(lines: &mut String, text: &str) -> Result<(), Memory> {
     Ok(())
 }
 
-// Whether the text tells of no fault.
-fn is_faultless(told: &str) -> bool {
+/// Whether the text tells of no fault.
+pub fn is_faultless(told: &str) -> bool {
     match told.rsplit_once('|') {
         Some((_, faults)) => faults.starts_with("0:"),
         None => true,
     }
 }
+
+// Node c, and the shard 0.
+const OF_C: (u8, u32) = (2, 0);
 
 // More calls of a disk than a story makes.
 const MORE_CALLS: u64 = 200;
@@ -47,7 +50,7 @@ const MORE_CALLS: u64 = 200;
 // What is told where the calls from this one on fail, until the disk is restarted; up to the first that the story doesn't make.
 fn by_fuse(alloc: Global, words: &str, lines: &mut String) -> Result<(), Memory> {
     for fuse in 0..MORE_CALLS {
-        let told = told(alloc, 0, &[], Some(fuse), words)?;
+        let told = told(alloc, OF_C, &[], Some(fuse), words)?;
         add_line(lines, told.as_str())?;
         if is_faultless(told.as_str()) {
             break;
@@ -59,7 +62,7 @@ fn by_fuse(alloc: Global, words: &str, lines: &mut String) -> Result<(), Memory>
 // The same where this call alone fails.
 fn by_call(alloc: Global, shard: u32, words: &str, lines: &mut String) -> Result<(), Memory> {
     for call in 0..MORE_CALLS {
-        let told = told(alloc, shard, &[call], None, words)?;
+        let told = told(alloc, (2, shard), &[call], None, words)?;
         add_line(lines, told.as_str())?;
         if is_faultless(told.as_str()) {
             break;

@@ -6,4 +6,6 @@ mod faults;
 #[cfg(test)]
 mod locked;
 #[cfg(test)]
+mod moves;
+#[cfg(test)]
 mod stories;

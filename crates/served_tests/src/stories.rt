@@ -5,8 +5,8 @@ use std::alloc::Global;
 use std::test::Fail;
 use test_disks::disks_with;
 
-// Over disks that never fail.
-fn story(alloc: Global, words: &str, out: &mut String) -> Result<(), Memory> {
+/// What is answered over disks that never fail.
+pub fn story(alloc: Global, words: &str, out: &mut String) -> Result<(), Memory> {
     let mut disks = disks_with(alloc, (0, 0), &[], None)?;
     run(alloc, &mut disks, words, out)
 }
@@ -76,6 +76,7 @@ i1 nm t100 %ad1 -b /d /a wmuM100=5 wmuA101=6 ~d rmuA /d /d +d1 -a|v1[abc]:ok:ok:
 i1 -a +d2 -a +e4 -a|v1[abc]:group0:v2[abc]:group0:v3[abc]:v4[a-bce+]:
 i1 %ad2 %ad4 ~d|v1[abc]:group0:v2[a-bcd+]:v3[abc]:
 i1 %ad1 sd ~d /d +d1 sd bd bd|v1[abc]:v2[a-bcd+]:ok:v3[abc]:v4[abc]:v5[abc]:=d:ok:=d:
+i1 %ad1 od /a p|v1[abc]:v2[a-bcd+]:v3[bcd]0ab:v4[bcd]:v4[bcd]:
 i1 %ad1 u k|v1[abc]:v2[a-bcd+]:a0.1.0b0.1.0c0.1.0d^:a0b0c0/d^:";
 
 #[test]

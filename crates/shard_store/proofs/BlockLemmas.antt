@@ -12,29 +12,29 @@ use Rattle.m3_model.specs.declared.point.Series.{Series}
 use Rattle.m3_model.proofs.MemberLemmas.{IsIn-map, map-IsIn}
 use Rattle.m3_outside.specs.Files.{Files, IsAbsent}
 use Rattle.m3_outside.specs.declared.file_name.FileName.{FileName}
-use Rattle.listed_volumes.specs.commit_log.Contents.{next_after}
-use Rattle.listed_volumes.specs.block_buffer.Held.{is_in_block, without}
-use Rattle.listed_volumes.specs.block_buffer.Joins.{joined}
-use Rattle.listed_volumes.proofs.block_buffer_proofs.BlockLemmas.{any-IsIn, IsIn-any}
-use Rattle.listed_volumes.proofs.series_merge_proofs.OrderLemmas.{ordered_has}
-use Rattle.listed_volumes.specs.wire_bytes.Volumes.{VolumeHead, Checkpoint, points_of_rows}
-use Rattle.listed_volumes.specs.volume_bytes.declared.heads.Head.{Head}
-use Rattle.listed_volumes.specs.volume_bytes.Heads.{head_of}
-use Rattle.listed_volumes.specs.shard_files.Parts.{KnownVolume, VolumesAre, part_name, part_of, counted_volumes}
-use Rattle.listed_volumes.specs.shard_files.FilesHold.{points_known, volume_points}
-use Rattle.listed_volumes.specs.shard_files.Steps.{OthersStay, is_part, next_volume}
-use Rattle.listed_volumes.proofs.shard_files_proofs.ContentLemmas.{content_covers}
-use Rattle.listed_volumes.proofs.shard_files_proofs.CountedLemmas.{IsIn-filter, chosen, filter-IsIn, filter_ascends, Before, both, same_names, keys_ascend, key_there, there_key}
-use Rattle.listed_volumes.proofs.shard_files_proofs.GainLemmas.{≤ℤ_trans}
-use Rattle.listed_volumes.proofs.shard_files_proofs.NextLemmas.{next_volume_is_new}
-use Rattle.listed_volumes.proofs.shard_files_proofs.PartLemmas.{one_known}
-use Rattle.listed_volumes.proofs.shard_files_proofs.VolumeSteps.{of_known}
-use Rattle.listed_volumes.specs.Known.{is_of}
-use Rattle.snapshot_steps.specs.volume_steps.Known.{HaveContent, HaveRows, StandsIn}
-use Rattle.snapshot_steps.specs.volume_steps.KnownLists.{IsOfOne, is_volume_at, is_one_of, volume_of, with_volume, without_volumes}
-use Rattle.snapshot_steps.proofs.volume_steps_proofs.KnownLemmas.{points_of_known, known_of_points}
-use Rattle.snapshot_steps.proofs.volume_steps_proofs.LawLemmas.{join_is_there}
-use Rattle.snapshot_steps.proofs.volume_steps_proofs.ListLemmas.{in_with, with_in}
+use Rattle.store_log.specs.listed_volumes.commit_log.Contents.{next_after}
+use Rattle.store_log.specs.listed_volumes.block_buffer.Held.{is_in_block, without}
+use Rattle.store_log.specs.listed_volumes.block_buffer.Joins.{joined}
+use Rattle.store_log.proofs.listed_volumes_proofs.block_buffer_proofs.BlockLemmas.{any-IsIn, IsIn-any}
+use Rattle.store_log.proofs.listed_volumes_proofs.series_merge_proofs.OrderLemmas.{ordered_has}
+use Rattle.store_log.specs.listed_volumes.wire_bytes.Volumes.{VolumeHead, Checkpoint, points_of_rows}
+use Rattle.store_log.specs.listed_volumes.volume_bytes.declared.heads.Head.{Head}
+use Rattle.store_log.specs.listed_volumes.volume_bytes.Heads.{head_of}
+use Rattle.store_log.specs.listed_volumes.shard_files.Parts.{KnownVolume, VolumesAre, part_name, part_of, counted_volumes}
+use Rattle.store_log.specs.listed_volumes.shard_files.FilesHold.{points_known, volume_points}
+use Rattle.store_log.specs.listed_volumes.shard_files.Steps.{OthersStay, is_part, next_volume}
+use Rattle.store_log.proofs.listed_volumes_proofs.shard_files_proofs.ContentLemmas.{content_covers}
+use Rattle.store_log.proofs.listed_volumes_proofs.shard_files_proofs.CountedLemmas.{IsIn-filter, chosen, filter-IsIn, filter_ascends, Before, both, same_names, keys_ascend, key_there, there_key}
+use Rattle.store_log.proofs.listed_volumes_proofs.shard_files_proofs.GainLemmas.{≤ℤ_trans}
+use Rattle.store_log.proofs.listed_volumes_proofs.shard_files_proofs.NextLemmas.{next_volume_is_new}
+use Rattle.store_log.proofs.listed_volumes_proofs.shard_files_proofs.PartLemmas.{one_known}
+use Rattle.store_log.proofs.listed_volumes_proofs.shard_files_proofs.VolumeSteps.{of_known}
+use Rattle.store_log.specs.listed_volumes.Known.{is_of}
+use Rattle.store_log.specs.snapshot_steps.volume_steps.Known.{HaveContent, HaveRows, StandsIn}
+use Rattle.store_log.specs.snapshot_steps.volume_steps.KnownLists.{IsOfOne, is_volume_at, is_one_of, volume_of, with_volume, without_volumes}
+use Rattle.store_log.proofs.snapshot_steps_proofs.volume_steps_proofs.KnownLemmas.{points_of_known, known_of_points}
+use Rattle.store_log.proofs.snapshot_steps_proofs.volume_steps_proofs.LawLemmas.{join_is_there}
+use Rattle.store_log.proofs.snapshot_steps_proofs.volume_steps_proofs.ListLemmas.{in_with, with_in}
 use Rattle.shard_store.specs.Blocks.{IsBlockJoin, IsOneVolume, OtherNumbersStay, block_join}
 use Rattle.shard_store.specs.Stores.{joined_with}
 use Rattle.shard_store.proofs.PointLemmas.{antisym, holds_covered, joined_holds, joined_source, same_joins, has_kept, has_fewer, parted}

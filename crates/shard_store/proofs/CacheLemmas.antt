@@ -7,24 +7,24 @@ use Rattle.m3_model.specs.declared.rules.Rules.{Rules}
 use Rattle.m3_model.proofs.MemberLemmas.{IsIn-map, map-IsIn}
 use Rattle.m3_model.proofs.RangeLemmas.{both_true}
 use Rattle.m3_outside.specs.DiskState.{DiskState, Told}
-use Rattle.listed_volumes.specs.shard_files.Parts.{KnownVolume}
-use Rattle.listed_volumes.proofs.shard_files_proofs.CountedLemmas.{IsIn-filter, filter-IsIn}
-use Rattle.listed_volumes.specs.volume_bytes.declared.heads.Head.{Head}
-use Rattle.listed_volumes.specs.volume_bytes.Heads.{head_of}
-use Rattle.snapshot_steps.specs.volume_steps.KnownLists.{is_one_of, is_volume_at, with_volume, without_volumes}
-use Rattle.snapshot_steps.proofs.volume_steps_proofs.ListLemmas.{in_with, with_in}
-use Rattle.listed_volumes.specs.Cached.{AreOfVolumes, AreRight, HasForgotten, IsKeyOfOne, StayOfVolumes, StayRight, cache_key}
-use Rattle.listed_volumes.specs.Listed.{AreHeld, known_in}
-use Rattle.listed_volumes.specs.declared.volume.ListedVolume.{ListedVolume}
-use Rattle.listed_volumes.specs.declared.row_cache.RowCache.{RowCache}
-use Rattle.listed_volumes.proofs.CachedLemmas.{listed_left, right_left}
-use Rattle.listed_volumes.specs.fileset_read.declared.file_err.FileErr.{FileErr}
-use Rattle.listed_volumes.specs.fileset_read.declared.file_err.FileErr.TheVariants as failures
+use Rattle.store_log.specs.listed_volumes.shard_files.Parts.{KnownVolume}
+use Rattle.store_log.proofs.listed_volumes_proofs.shard_files_proofs.CountedLemmas.{IsIn-filter, filter-IsIn}
+use Rattle.store_log.specs.listed_volumes.volume_bytes.declared.heads.Head.{Head}
+use Rattle.store_log.specs.listed_volumes.volume_bytes.Heads.{head_of}
+use Rattle.store_log.specs.snapshot_steps.volume_steps.KnownLists.{is_one_of, is_volume_at, with_volume, without_volumes}
+use Rattle.store_log.proofs.snapshot_steps_proofs.volume_steps_proofs.ListLemmas.{in_with, with_in}
+use Rattle.store_log.specs.listed_volumes.Cached.{AreOfVolumes, AreRight, HasForgotten, IsKeyOfOne, StayOfVolumes, StayRight, cache_key}
+use Rattle.store_log.specs.listed_volumes.Listed.{AreHeld, known_in}
+use Rattle.store_log.specs.listed_volumes.declared.volume.ListedVolume.{ListedVolume}
+use Rattle.store_log.specs.listed_volumes.declared.row_cache.RowCache.{RowCache}
+use Rattle.store_log.proofs.listed_volumes_proofs.CachedLemmas.{listed_left, right_left}
+use Rattle.store_log.specs.listed_volumes.fileset_read.declared.file_err.FileErr.{FileErr}
+use Rattle.store_log.specs.listed_volumes.fileset_read.declared.file_err.FileErr.TheVariants as failures
 use Rattle.shard_store.specs.Stores.{StoreState}
 use Rattle.shard_store.specs.StoreParts.{state_of}
 use Rattle.shard_store.specs.Ticks.{has_outlived, live_volumes}
 use Rattle.shard_store.specs.declared.opened.Opened.{Opened}
-use Rattle.shard_store.proofs.LogStepLemmas.{on_ok_as}
+use Rattle.store_log.proofs.LogStepLemmas.{on_ok_as}
 
 -- what is kept of these volumes, as a store with them keeps it
 abbrev pub AreCached : List KnownVolume → RowCache → DiskState → Type 0

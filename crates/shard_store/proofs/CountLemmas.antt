@@ -24,17 +24,17 @@ use Rattle.m3_model.specs.declared.point.Series.{Series}
 use Rattle.m3_model.proofs.MemberLemmas.{IsIn-append_cases, IsIn-map, map-IsIn}
 use Rattle.m3_model.proofs.FindLemmas.{entries_ascend, get-IsIn, IsIn-get}
 use Rattle.m3_model.proofs.Keyed.{key_cmp-IsAntisymmetric}
-use Rattle.listed_volumes.specs.block_buffer.Held.{without}
-use Rattle.listed_volumes.proofs.shard_files_proofs.ContentLemmas.{content_holds}
-use Rattle.listed_volumes.proofs.shard_files_proofs.GainLemmas.{covers_itself}
-use Rattle.listed_volumes.proofs.block_buffer_proofs.ContentLemmas.{tied_key}
-use Rattle.listed_volumes.proofs.held_points_proofs.ListLemmas.{ascends_append}
-use Rattle.listed_volumes.specs.series_slots.Ranges.{IsRangeOf}
-use Rattle.listed_volumes.specs.series_merge.Merges.{IsMergeOf}
-use Rattle.listed_volumes.proofs.series_merge_proofs.OrderLemmas.{content_in, merge_joins}
-use Rattle.listed_volumes.proofs.series_merge_proofs.JoinLemmas.{join_swap}
-use Rattle.listed_volumes.specs.wire_bytes.Volumes.{count_of}
-use Rattle.listed_volumes.proofs.AnswerLemmas.{block_is_range}
+use Rattle.store_log.specs.listed_volumes.block_buffer.Held.{without}
+use Rattle.store_log.proofs.listed_volumes_proofs.shard_files_proofs.ContentLemmas.{content_holds}
+use Rattle.store_log.proofs.listed_volumes_proofs.shard_files_proofs.GainLemmas.{covers_itself}
+use Rattle.store_log.proofs.listed_volumes_proofs.block_buffer_proofs.ContentLemmas.{tied_key}
+use Rattle.store_log.proofs.listed_volumes_proofs.held_points_proofs.ListLemmas.{ascends_append}
+use Rattle.store_log.specs.listed_volumes.series_slots.Ranges.{IsRangeOf}
+use Rattle.store_log.specs.listed_volumes.series_merge.Merges.{IsMergeOf}
+use Rattle.store_log.proofs.listed_volumes_proofs.series_merge_proofs.OrderLemmas.{content_in, merge_joins}
+use Rattle.store_log.proofs.listed_volumes_proofs.series_merge_proofs.JoinLemmas.{join_swap}
+use Rattle.store_log.specs.listed_volumes.wire_bytes.Volumes.{count_of}
+use Rattle.store_log.proofs.listed_volumes_proofs.AnswerLemmas.{block_is_range}
 use Rattle.shard_store.specs.Ticks.{keys_in}
 use Rattle.shard_store.proofs.PointLemmas.{has_fewer, has_holds, has_kept, has_untested, joined_holds, joined_source, parted, same_by_points}
 

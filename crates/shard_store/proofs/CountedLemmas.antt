@@ -1,24 +1,19 @@
 -- What a store counts, where its calls go on.
-use Rattle.std.proofs.Common.{◌≡◌, ◌∙◌, ℕ, ◌<◌, ◌≤◌, ◌+◌, List, length, refl, sym, ap, subst, arith, true, ◌&&◌, Option, Some, None, Result, Ok, Err}
-use Rattle.std.specs.Prelude.{OnOk, IfOk, IsErrOf, nat_le}
+use Rattle.std.proofs.Common.{◌≡◌, ◌∙◌, ℕ, ◌≤◌, List, refl, sym, subst, arith, true, ◌&&◌, Option, Some, None, Result, Ok, Err}
+use Rattle.std.specs.Prelude.{IsErrOf, nat_le}
 use Rattle.std.proofs.lemmas.Bool.{leb-true}
-use Rattle.m3_model.specs.declared.limits.TheConstants.{NUMBER_END}
 use Rattle.m3_outside.specs.DiskCalls.{LeavesFiles}
-use Rattle.m3_outside.specs.DiskState.{DiskState, Becomes, Told}
-use Rattle.m3_outside.specs.Files.{files_with_zeros}
+use Rattle.m3_outside.specs.DiskState.{DiskState}
 use Rattle.m3_outside.specs.declared.disk_err.DiskErr.{DiskErr}
 use Rattle.m3_outside.specs.declared.disk_err.DiskErr.TheVariants.{Memory, Failed as DiskFailed}
 use Rattle.m3_outside.specs.declared.file_name.FileName.{FileName}
-use Rattle.listed_volumes.specs.commit_log.Contents.{numbers}
-use Rattle.listed_volumes.specs.commit_log.LogEnd.{LogEnd, NoneFrom}
-use Rattle.listed_volumes.specs.commit_log.Segment.{segment}
-use Rattle.listed_volumes.specs.shard_files.Parts.{IsNewestNumber}
-use Rattle.listed_volumes.specs.shard_files.Steps.{OthersStay, is_part}
-use Rattle.listed_volumes.proofs.shard_files_proofs.CountedLemmas.{both}
-use Rattle.listed_volumes.specs.volume_bytes.declared.heads.Head.{Head}
-use Rattle.snapshot_steps.specs.volume_steps.KnownLists.{IsOfOne}
-use Rattle.snapshot_steps.specs.Counts.{AreCounted, StayCounted}
-use Rattle.snapshot_steps.proofs.LogCounts.{counted_alike, counted_made, same_newest}
+use Rattle.store_log.specs.listed_volumes.commit_log.Contents.{numbers}
+use Rattle.store_log.specs.listed_volumes.shard_files.Steps.{OthersStay, is_part}
+use Rattle.store_log.proofs.listed_volumes_proofs.shard_files_proofs.CountedLemmas.{both}
+use Rattle.store_log.specs.listed_volumes.volume_bytes.declared.heads.Head.{Head}
+use Rattle.store_log.specs.snapshot_steps.volume_steps.KnownLists.{IsOfOne}
+use Rattle.store_log.specs.snapshot_steps.Counts.{AreCounted}
+use Rattle.store_log.proofs.snapshot_steps_proofs.LogCounts.{counted_alike, same_newest}
 use Rattle.shard_store.specs.StoreParts.{IsCachedIn, IsCountedIn, IsKept, IsOpenOn}
 use Rattle.shard_store.specs.declared.opened.Opened.{Opened}
 
@@ -27,10 +22,6 @@ pub counted_left : (opened : Opened) (F : Type 0) (a b : DiskState) → LeavesFi
 counted_left opened F a b leaves has tells =
     let was = sym leaves.proceeds.tells ∙ tells in
     subst (AreCounted opened.log opened.counts.missing opened.counts.snapshot) (sym (leaves.files was)) (has was)
-
--- where the log went on
-pub counted_on : (log end : LogEnd) (missing snapshot : ℕ) (a b : DiskState) → b.tells ≡ a.tells → (a.tells ≡ true → StayCounted log end a.files b.files) → Told a (AreCounted log missing snapshot) → Told b (AreCounted end missing snapshot)
-counted_on log end missing snapshot a b same stays has tells = let was = sym same ∙ tells in stays was missing snapshot (has was)
 
 -- ---- volumes written and taken away
 
@@ -52,16 +43,6 @@ counted_wrote opened ns start a b same segments others = counted_beside opened (
 
 pub counted_removed : (opened : Opened) (olds : List Head) (a b : DiskState) → b.tells ≡ a.tells → (a.tells ≡ true → numbers b.files ≡ numbers a.files) → (a.tells ≡ true → OthersStay (IsOfOne olds) a.files b.files) → IsCountedIn opened a → IsCountedIn opened b
 counted_removed opened olds a b same segments others = counted_beside opened (IsOfOne olds) (λ name own. part_kind own.0.ns own.0.start name own.2) a b same segments others
-
--- ---- a log that begins
-
-pub begun_counted : (r : Result LogEnd DiskErr) (number missing snapshot : ℕ) (old new : DiskState) → new.tells ≡ old.tells → Told old (NoneFrom number) → IfOk r (λ log. log ≡ record { number = number; at = 0; clean = true }) → OnOk r (number < NUMBER_END)
-    → (old.tells ≡ true → OnOk r (Becomes (files_with_zeros (segment number) 65536) old new)) → Told old (λ files. (length (numbers files) + missing ≡ number) × IsNewestNumber snapshot files) → IfOk r (λ log. Told new (AreCounted log missing snapshot))
-begun_counted (Ok log) number missing snapshot old new same none is limit made counts = λ tells.
-    let was = sym same ∙ tells in
-    let here = ap (λ (l : LogEnd). l.number) is in
-    counted_made number old.files new.files (none was) (made was).files log missing snapshot here (subst (λ (n : ℕ). n < NUMBER_END) (sym here) limit) (counts was).0 (counts was).1
-begun_counted (Err e) number missing snapshot old new same none is limit made counts = tt
 
 -- ---- a store that is open, or was closed by a fault
 

@@ -12,22 +12,22 @@ use Rattle.m3_model.specs.declared.rules.Rules.{Rules}
 use Rattle.m3_model.proofs.MemberLemmas.{IsIn-append_left, IsIn-append_right}
 use Rattle.m3_outside.specs.DiskState.{DiskState}
 use Rattle.std.specs.List.{All}
-use Rattle.listed_volumes.specs.block_buffer.Blocks.{IsBefore, IsClosedBlocksOf}
-use Rattle.listed_volumes.proofs.block_buffer_proofs.ClosedLemmas.{all_blocks, all_are, closed_are}
-use Rattle.listed_volumes.specs.block_buffer.Held.{is_in_block, without}
-use Rattle.listed_volumes.specs.shard_files.Keeps.{Rearranges}
-use Rattle.listed_volumes.specs.shard_files.Steps.{next_volume}
-use Rattle.listed_volumes.proofs.shard_files_proofs.CountedLemmas.{IsIn-filter}
+use Rattle.store_log.specs.listed_volumes.block_buffer.Blocks.{IsBefore, IsClosedBlocksOf}
+use Rattle.store_log.proofs.listed_volumes_proofs.block_buffer_proofs.ClosedLemmas.{all_blocks, all_are, closed_are}
+use Rattle.store_log.specs.listed_volumes.block_buffer.Held.{is_in_block, without}
+use Rattle.store_log.specs.listed_volumes.shard_files.Keeps.{Rearranges}
+use Rattle.store_log.specs.listed_volumes.shard_files.Steps.{next_volume}
+use Rattle.store_log.proofs.listed_volumes_proofs.shard_files_proofs.CountedLemmas.{IsIn-filter}
 use Rattle.shard_store.specs.Blocks.{IsOneVolume, OtherNumbersStay}
 use Rattle.shard_store.specs.Flushes.{AreFlushed, AreFlushedTo, block_size, ended_size, is_in, is_in_one, may_be_flushed}
-use Rattle.listed_volumes.specs.Listed.{known_in}
+use Rattle.store_log.specs.listed_volumes.Listed.{known_in}
 use Rattle.shard_store.specs.StoreParts.{IsCachedIn, IsCountedIn, IsOpenOn, content_of_opened}
 use Rattle.shard_store.specs.declared.opened.Opened.{Opened}
 use Rattle.shard_store.proofs.FlushedLemmas.{IsAligned, blocks_aligned, flushed_more, has_ended_size, without_more}
 use Rattle.shard_store.proofs.ListLemmas.{first_more}
 use Rattle.shard_store.proofs.PointLemmas.{fewer_has, has_fewer, has_holds, same_by_points}
 use Rattle.shard_store.proofs.RearrangeLemmas.{rearranges_left, rearranges_then}
-use Rattle.listed_volumes.proofs.commit_log_proofs.Leaves.{leaves_none}
+use Rattle.store_log.proofs.listed_volumes_proofs.commit_log_proofs.Leaves.{leaves_none}
 
 -- those of the first i blocks that may be flushed
 abbrev pub flushed_of : Rules → List (ℕ × ℕ) → ℕ → List (ℕ × ℕ)

@@ -17,13 +17,13 @@ use Rattle.m3_model.specs.declared.rules.Rules.{Rules}
 use Rattle.m3_model.specs.declared.rules.Space.{Space}
 use Rattle.m3_model.proofs.MemberLemmas.{IsIn-append_left, IsIn-append_right, IsIn-append_cases}
 use Rattle.m3_outside.specs.Files.{Files}
-use Rattle.listed_volumes.specs.block_buffer.Blocks.{IsBlocksOf, block_start}
-use Rattle.listed_volumes.specs.block_buffer.Held.{without}
-use Rattle.listed_volumes.proofs.block_buffer_proofs.BlockLemmas.{any-IsIn}
-use Rattle.listed_volumes.specs.shard_files.Parts.{KnownVolume}
-use Rattle.listed_volumes.specs.shard_files.FilesHold.{volume_points}
-use Rattle.listed_volumes.specs.shard_files.Steps.{next_volume}
-use Rattle.listed_volumes.proofs.shard_files_proofs.CountedLemmas.{IsIn-filter, chosen, filter-IsIn, both}
+use Rattle.store_log.specs.listed_volumes.block_buffer.Blocks.{IsBlocksOf, block_start}
+use Rattle.store_log.specs.listed_volumes.block_buffer.Held.{without}
+use Rattle.store_log.proofs.listed_volumes_proofs.block_buffer_proofs.BlockLemmas.{any-IsIn}
+use Rattle.store_log.specs.listed_volumes.shard_files.Parts.{KnownVolume}
+use Rattle.store_log.specs.listed_volumes.shard_files.FilesHold.{volume_points}
+use Rattle.store_log.specs.listed_volumes.shard_files.Steps.{next_volume}
+use Rattle.store_log.proofs.listed_volumes_proofs.shard_files_proofs.CountedLemmas.{IsIn-filter, chosen, filter-IsIn, both}
 use Rattle.shard_store.specs.Blocks.{IsOneVolume}
 use Rattle.shard_store.specs.Flushes.{AreFlushedTo, IsFlushOf, block_size, ended_size, is_in, is_in_one, is_volume_of, is_over, size_in}
 use Rattle.shard_store.specs.Stores.{joined_with}

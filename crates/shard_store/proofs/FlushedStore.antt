@@ -5,13 +5,13 @@ use Rattle.m3_model.specs.Answers.{HasPoint}
 use Rattle.m3_model.specs.declared.point.Point.{Point}
 use Rattle.m3_model.specs.declared.rules.Rules.{Rules}
 use Rattle.m3_outside.specs.DiskState.{DiskState, IsLawfulDisk}
-use Rattle.listed_volumes.specs.block_buffer.Held.{without}
-use Rattle.listed_volumes.specs.shard_files.Keeps.{Rearranges}
-use Rattle.listed_volumes.specs.shard_files.Parts.{KnownVolume}
-use Rattle.listed_volumes.specs.fileset_read.declared.file_err.FileErr.{FileErr}
-use Rattle.listed_volumes.specs.fileset_read.declared.file_err.FileErr.TheVariants as failures
+use Rattle.store_log.specs.listed_volumes.block_buffer.Held.{without}
+use Rattle.store_log.specs.listed_volumes.shard_files.Keeps.{Rearranges}
+use Rattle.store_log.specs.listed_volumes.shard_files.Parts.{KnownVolume}
+use Rattle.store_log.specs.listed_volumes.fileset_read.declared.file_err.FileErr.{FileErr}
+use Rattle.store_log.specs.listed_volumes.fileset_read.declared.file_err.FileErr.TheVariants as failures
 use Rattle.shard_store.specs.Flushes.{AreFlushed, AreFlushedTo, HasFlushed, IsPartFlushed, is_in_one}
-use Rattle.listed_volumes.specs.Listed.{known_in}
+use Rattle.store_log.specs.listed_volumes.Listed.{known_in}
 use Rattle.shard_store.specs.StoreParts.{IsOpenOn, content_of_opened, state_of}
 use Rattle.shard_store.specs.Stores.{StoreState}
 use Rattle.shard_store.specs.declared.opened.Opened.{Opened}

@@ -8,22 +8,22 @@ use Rattle.m3_model.specs.Members.{IsIn}
 use Rattle.m3_model.specs.declared.point.Point.{Point}
 use Rattle.m3_model.specs.declared.point.Series.{Series}
 use Rattle.m3_model.proofs.MemberLemmas.{IsIn-append_cases, IsIn-map}
-use Rattle.listed_volumes.specs.wire_bytes.Entries.{IsBounded}
-use Rattle.listed_volumes.specs.wire_bytes.Volumes.{IsVolume, points_of_row, points_of_rows}
-use Rattle.listed_volumes.specs.Blocks.{block_head}
+use Rattle.store_log.specs.listed_volumes.wire_bytes.Entries.{IsBounded}
+use Rattle.store_log.specs.listed_volumes.wire_bytes.Volumes.{IsVolume, points_of_row, points_of_rows}
+use Rattle.store_log.specs.listed_volumes.Blocks.{block_head}
 use Rattle.m3_outside.specs.declared.file_name.FileName.{FileName}
-use Rattle.listed_volumes.specs.volume_bytes.declared.heads.Head.{Head}
-use Rattle.listed_volumes.specs.volume_bytes.Heads.{head_of}
-use Rattle.listed_volumes.specs.shard_files.Parts.{AreKnown, KnownVolume, VolumesAre, counted_volumes}
-use Rattle.listed_volumes.proofs.shard_files_proofs.CountedLemmas.{IsIn-filter}
-use Rattle.listed_volumes.proofs.shard_files_proofs.PartLemmas.{one_volumes}
-use Rattle.listed_volumes.proofs.shard_files_proofs.VolumeSteps.{of_known}
-use Rattle.listed_volumes.specs.Known.{AreOf, AreThere}
-use Rattle.listed_volumes.proofs.KnownLemmas.{volumes_are_known, known_are_there}
-use Rattle.snapshot_steps.specs.volume_steps.Known.{HoldsKnown}
-use Rattle.snapshot_steps.proofs.volume_steps_proofs.KnownLemmas.{are_known}
-use Rattle.listed_volumes.specs.Listed.{AreHeld, known_in}
-use Rattle.listed_volumes.specs.declared.volume.ListedVolume.{ListedVolume}
+use Rattle.store_log.specs.listed_volumes.volume_bytes.declared.heads.Head.{Head}
+use Rattle.store_log.specs.listed_volumes.volume_bytes.Heads.{head_of}
+use Rattle.store_log.specs.listed_volumes.shard_files.Parts.{AreKnown, KnownVolume, VolumesAre, counted_volumes}
+use Rattle.store_log.proofs.listed_volumes_proofs.shard_files_proofs.CountedLemmas.{IsIn-filter}
+use Rattle.store_log.proofs.listed_volumes_proofs.shard_files_proofs.PartLemmas.{one_volumes}
+use Rattle.store_log.proofs.listed_volumes_proofs.shard_files_proofs.VolumeSteps.{of_known}
+use Rattle.store_log.specs.listed_volumes.Known.{AreOf, AreThere}
+use Rattle.store_log.proofs.listed_volumes_proofs.KnownLemmas.{volumes_are_known, known_are_there}
+use Rattle.store_log.specs.snapshot_steps.volume_steps.Known.{HoldsKnown}
+use Rattle.store_log.proofs.snapshot_steps_proofs.volume_steps_proofs.KnownLemmas.{are_known}
+use Rattle.store_log.specs.listed_volumes.Listed.{AreHeld, known_in}
+use Rattle.store_log.specs.listed_volumes.declared.volume.ListedVolume.{ListedVolume}
 
 module _ (m : Contents) (known : List KnownVolume) (tenure fence : ℕ) (d : DiskState) (lawful : IsLawfulDisk d) (each : EachImage d (HoldsKnown m known tenure fence)) where
   -- the volumes that count are the known ones

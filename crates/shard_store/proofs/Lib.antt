@@ -14,13 +14,15 @@ pub mod LossLemmas
 pub mod TickedStore
 pub mod KnownReads
 pub mod StillLemmas
-pub mod KeptLemmas
-pub mod LogStepLemmas
+pub mod OpenLemmas
 pub mod SnapshotLemmas
 pub mod CountedLemmas
 pub mod CacheLemmas
+pub mod MergeLemmas
+pub use Rattle.store_log.proofs.LogStepLemmas
+pub use Rattle.store_log.proofs.WholeLemmas
 pub use Rattle.shard_open.proofs.Counts
 pub use Rattle.shard_open.proofs.ToldLemmas
-pub use Rattle.listed_volumes.proofs.block_buffer_proofs as block_buffer_proofs
-pub use Rattle.listed_volumes.proofs.commit_log_proofs as commit_log_proofs
-pub use Rattle.listed_volumes.proofs.shard_files_proofs as shard_files_proofs
+pub use Rattle.store_log.proofs.listed_volumes_proofs.block_buffer_proofs as block_buffer_proofs
+pub use Rattle.store_log.proofs.listed_volumes_proofs.commit_log_proofs as commit_log_proofs
+pub use Rattle.store_log.proofs.listed_volumes_proofs.shard_files_proofs as shard_files_proofs

@@ -4,11 +4,11 @@ use Rattle.std.proofs.Math.Seq.{take-suc}
 use Rattle.std.proofs.lemmas.List.Sums.{fold-append}
 use Rattle.m3_model.specs.Contents.{Contents}
 use Rattle.m3_model.specs.declared.point.Series.{Series}
-use Rattle.listed_volumes.specs.block_buffer.Joins.{points_of_series}
-use Rattle.listed_volumes.specs.block_buffer.Taken.{settled_at, settled_with}
-use Rattle.listed_volumes.specs.wire_bytes.Volumes.{points_of_rows}
-use Rattle.listed_volumes.specs.shard_files.Parts.{KnownVolume}
-use Rattle.listed_volumes.specs.shard_files.FilesHold.{points_known, volume_points}
+use Rattle.store_log.specs.listed_volumes.block_buffer.Joins.{points_of_series}
+use Rattle.store_log.specs.listed_volumes.block_buffer.Taken.{settled_at, settled_with}
+use Rattle.store_log.specs.listed_volumes.wire_bytes.Volumes.{points_of_rows}
+use Rattle.store_log.specs.listed_volumes.shard_files.Parts.{KnownVolume}
+use Rattle.store_log.specs.listed_volumes.shard_files.FilesHold.{points_known, volume_points}
 use Rattle.shard_open.specs.Loads.{known_of}
 use Rattle.shard_open.specs.declared.volumes.OpenVolume.{OpenVolume}
 

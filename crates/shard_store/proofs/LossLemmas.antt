@@ -18,29 +18,29 @@ use Rattle.m3_outside.specs.DiskState.{DiskState, EachImage, IsLawfulDisk, Told}
 use Rattle.m3_outside.specs.Files.{Files}
 use Rattle.m3_outside.specs.declared.disk_err.DiskErr.{DiskErr}
 use Rattle.m3_outside.specs.declared.disk_err.DiskErr.TheVariants.{Failed as DiskFailed, Memory as WantOfMemory}
-use Rattle.listed_volumes.specs.block_buffer.Held.{has_expired, is_in_block, without}
-use Rattle.listed_volumes.specs.block_buffer.Joins.{joined}
-use Rattle.listed_volumes.proofs.commit_log_proofs.Leaves.{leaves_none, leaves_then}
-use Rattle.listed_volumes.proofs.commit_log_proofs.ReadLemmas.{passed_err}
-use Rattle.listed_volumes.specs.fileset_read.Volumes.{of_disk}
-use Rattle.listed_volumes.specs.fileset_read.declared.file_err.FileErr.{FileErr}
-use Rattle.listed_volumes.specs.fileset_read.declared.file_err.FileErr.TheVariants as unread
-use Rattle.listed_volumes.specs.series_merge.Merges.{IsMergeOf}
-use Rattle.listed_volumes.proofs.series_merge_proofs.OrderLemmas.{content_in}
-use Rattle.listed_volumes.specs.wire_bytes.Volumes.{count_of}
-use Rattle.listed_volumes.specs.volume_bytes.declared.heads.Head.{Head}
-use Rattle.listed_volumes.specs.volume_bytes.Heads.{head_of}
-use Rattle.listed_volumes.specs.shard_files.FilesHold.{volume_points}
-use Rattle.listed_volumes.specs.shard_files.Keeps.{Rearranges}
-use Rattle.listed_volumes.specs.shard_files.Parts.{KnownVolume, VolumesAre}
-use Rattle.listed_volumes.proofs.shard_files_proofs.ContentLemmas.{content_holds}
-use Rattle.listed_volumes.proofs.shard_files_proofs.CountedLemmas.{IsIn-filter, both}
-use Rattle.listed_volumes.proofs.shard_files_proofs.GainLemmas.{covers_itself}
-use Rattle.snapshot_steps.specs.volume_steps.Known.{HaveContent, HoldsKnown}
-use Rattle.snapshot_steps.specs.volume_steps.KnownLists.{without_volumes}
-use Rattle.snapshot_steps.proofs.volume_steps_proofs.KnownLemmas.{hold_with_fewer}
-use Rattle.snapshot_steps.proofs.volume_steps_proofs.LawLemmas.{join_is_there}
-use Rattle.snapshot_steps.proofs.volume_steps_proofs.RemovalLemmas.{left_moment}
+use Rattle.store_log.specs.listed_volumes.block_buffer.Held.{has_expired, is_in_block, without}
+use Rattle.store_log.specs.listed_volumes.block_buffer.Joins.{joined}
+use Rattle.store_log.proofs.listed_volumes_proofs.commit_log_proofs.Leaves.{leaves_none, leaves_then}
+use Rattle.store_log.proofs.listed_volumes_proofs.commit_log_proofs.ReadLemmas.{passed_err}
+use Rattle.store_log.specs.listed_volumes.fileset_read.Volumes.{of_disk}
+use Rattle.store_log.specs.listed_volumes.fileset_read.declared.file_err.FileErr.{FileErr}
+use Rattle.store_log.specs.listed_volumes.fileset_read.declared.file_err.FileErr.TheVariants as unread
+use Rattle.store_log.specs.listed_volumes.series_merge.Merges.{IsMergeOf}
+use Rattle.store_log.proofs.listed_volumes_proofs.series_merge_proofs.OrderLemmas.{content_in}
+use Rattle.store_log.specs.listed_volumes.wire_bytes.Volumes.{count_of}
+use Rattle.store_log.specs.listed_volumes.volume_bytes.declared.heads.Head.{Head}
+use Rattle.store_log.specs.listed_volumes.volume_bytes.Heads.{head_of}
+use Rattle.store_log.specs.listed_volumes.shard_files.FilesHold.{volume_points}
+use Rattle.store_log.specs.listed_volumes.shard_files.Keeps.{Rearranges}
+use Rattle.store_log.specs.listed_volumes.shard_files.Parts.{KnownVolume, VolumesAre}
+use Rattle.store_log.proofs.listed_volumes_proofs.shard_files_proofs.ContentLemmas.{content_holds}
+use Rattle.store_log.proofs.listed_volumes_proofs.shard_files_proofs.CountedLemmas.{IsIn-filter, both}
+use Rattle.store_log.proofs.listed_volumes_proofs.shard_files_proofs.GainLemmas.{covers_itself}
+use Rattle.store_log.specs.snapshot_steps.volume_steps.Known.{HaveContent, HoldsKnown}
+use Rattle.store_log.specs.snapshot_steps.volume_steps.KnownLists.{without_volumes}
+use Rattle.store_log.proofs.snapshot_steps_proofs.volume_steps_proofs.KnownLemmas.{hold_with_fewer}
+use Rattle.store_log.proofs.snapshot_steps_proofs.volume_steps_proofs.LawLemmas.{join_is_there}
+use Rattle.store_log.proofs.snapshot_steps_proofs.volume_steps_proofs.RemovalLemmas.{left_moment}
 use Rattle.shard_store.specs.Stores.{joined_with}
 use Rattle.shard_store.specs.Ticks.{expired_in, has_outlived, keys_in, live_volumes, ticked_content}
 use Rattle.shard_store.proofs.BlockLemmas.{more_points}

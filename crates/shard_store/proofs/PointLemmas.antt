@@ -14,13 +14,13 @@ use Rattle.m3_model.specs.Reads.{Covers}
 use Rattle.m3_model.specs.declared.point.Key.{Key}
 use Rattle.m3_model.specs.declared.point.Point.{Point}
 use Rattle.m3_model.proofs.Keyed.{key_cmp-IsAntisymmetric, true_of}
-use Rattle.listed_volumes.specs.block_buffer.Held.{without}
-use Rattle.listed_volumes.specs.block_buffer.Joins.{joined}
-use Rattle.listed_volumes.specs.block_buffer.Taken.{is_settled, settled_at, settled_with}
-use Rattle.listed_volumes.proofs.block_buffer_proofs.ContentLemmas.{same_key, tied_key}
-use Rattle.listed_volumes.proofs.series_merge_proofs.JoinLemmas.{join_swap, joined_stays, joined_has, joined_from}
-use Rattle.listed_volumes.proofs.shard_files_proofs.GainLemmas.{≤ℤ_trans, covers_itself}
-use Rattle.listed_volumes.proofs.shard_files_proofs.ContentLemmas.{content_holds}
+use Rattle.store_log.specs.listed_volumes.block_buffer.Held.{without}
+use Rattle.store_log.specs.listed_volumes.block_buffer.Joins.{joined}
+use Rattle.store_log.specs.listed_volumes.block_buffer.Taken.{is_settled, settled_at, settled_with}
+use Rattle.store_log.proofs.listed_volumes_proofs.block_buffer_proofs.ContentLemmas.{same_key, tied_key}
+use Rattle.store_log.proofs.listed_volumes_proofs.series_merge_proofs.JoinLemmas.{join_swap, joined_stays, joined_has, joined_from}
+use Rattle.store_log.proofs.listed_volumes_proofs.shard_files_proofs.GainLemmas.{≤ℤ_trans, covers_itself}
+use Rattle.store_log.proofs.listed_volumes_proofs.shard_files_proofs.ContentLemmas.{content_holds}
 
 pub antisym : (a b : ℤ) → a ≤ℤ b → b ≤ℤ a → a ≡ b
 antisym (pos a) (pos b) h g = let x = leb-true a b (true_of (leb a b) h.le) in let y = leb-true b a (true_of (leb b a) g.le) in let same : a ≡ b = omega (arith, x, y) in ap pos same

@@ -5,13 +5,13 @@ use Rattle.m3_outside.specs.DiskState.{DiskState, EachImage, Elapses, Becomes}
 use Rattle.m3_outside.specs.Files.{Files}
 use Rattle.m3_outside.specs.DiskCalls.{LeavesFiles}
 use Rattle.m3_outside.proofs.Moments.{elapses_then, counts_then}
-use Rattle.listed_volumes.specs.shard_files.Keeps.{Keeps, Rearranges}
-use Rattle.listed_volumes.specs.shard_files.Parts.{KnownVolume}
-use Rattle.listed_volumes.proofs.shard_files_proofs.KeepLemmas.{keeps_then}
+use Rattle.store_log.specs.listed_volumes.shard_files.Keeps.{Keeps, Rearranges}
+use Rattle.store_log.specs.listed_volumes.shard_files.Parts.{KnownVolume}
+use Rattle.store_log.proofs.listed_volumes_proofs.shard_files_proofs.KeepLemmas.{keeps_then}
 use Rattle.shard_open.proofs.Counts.{counts_for}
-use Rattle.snapshot_steps.specs.volume_steps.Known.{HoldsKnown}
-use Rattle.snapshot_steps.proofs.volume_steps_proofs.LawLemmas.{join_is_there}
-use Rattle.snapshot_steps.proofs.volume_steps_proofs.RemovalLemmas.{left_moment}
+use Rattle.store_log.specs.snapshot_steps.volume_steps.Known.{HoldsKnown}
+use Rattle.store_log.proofs.snapshot_steps_proofs.volume_steps_proofs.LawLemmas.{join_is_there}
+use Rattle.store_log.proofs.snapshot_steps_proofs.volume_steps_proofs.RemovalLemmas.{left_moment}
 use Rattle.shard_store.specs.Stores.{joined_with}
 
 pub rearranges_then : (kept after : Contents) (F : Type 0) (a b c : DiskState) → (a.tells ≡ true → after ≡ kept) → Rearranges kept ⊥ a b → Rearranges after F b c → Rearranges kept F a c

@@ -5,17 +5,17 @@ use Rattle.m3_model.specs.Contents.{Contents}
 use Rattle.m3_model.specs.Reads.{IsOrdered}
 use Rattle.m3_model.specs.declared.point.Series.{Series}
 use Rattle.m3_outside.specs.Files.{Files}
-use Rattle.listed_volumes.specs.block_buffer.Held.{InMemory, is_in_block, without}
-use Rattle.listed_volumes.specs.volume_bytes.declared.heads.Head.{Head}
-use Rattle.listed_volumes.specs.volume_bytes.Heads.{head_of}
-use Rattle.listed_volumes.specs.shard_files.Parts.{KnownVolume, VolumesAre}
-use Rattle.listed_volumes.specs.shard_files.Steps.{OthersStay, next_volume}
-use Rattle.listed_volumes.proofs.shard_files_proofs.CountedLemmas.{IsIn-filter}
-use Rattle.listed_volumes.specs.Known.{is_of}
-use Rattle.snapshot_steps.specs.volume_steps.Known.{HaveContent}
-use Rattle.snapshot_steps.specs.volume_steps.KnownLists.{IsOfOne, is_one_of, volume_of, with_volume, without_volumes}
+use Rattle.store_log.specs.listed_volumes.block_buffer.Held.{InMemory, is_in_block, without}
+use Rattle.store_log.specs.listed_volumes.volume_bytes.declared.heads.Head.{Head}
+use Rattle.store_log.specs.listed_volumes.volume_bytes.Heads.{head_of}
+use Rattle.store_log.specs.listed_volumes.shard_files.Parts.{KnownVolume, VolumesAre}
+use Rattle.store_log.specs.listed_volumes.shard_files.Steps.{OthersStay, next_volume}
+use Rattle.store_log.proofs.listed_volumes_proofs.shard_files_proofs.CountedLemmas.{IsIn-filter}
+use Rattle.store_log.specs.listed_volumes.Known.{is_of}
+use Rattle.store_log.specs.snapshot_steps.volume_steps.Known.{HaveContent}
+use Rattle.store_log.specs.snapshot_steps.volume_steps.KnownLists.{IsOfOne, is_one_of, volume_of, with_volume, without_volumes}
 use Rattle.shard_store.specs.Blocks.{IsBlockJoin, IsOneVolume, OtherNumbersStay}
-use Rattle.listed_volumes.specs.Listed.{known_in}
+use Rattle.store_log.specs.listed_volumes.Listed.{known_in}
 use Rattle.shard_store.specs.StoreParts.{content_of_opened}
 use Rattle.shard_store.specs.Stores.{joined_with}
 use Rattle.shard_store.specs.declared.opened.Opened.{Opened}

@@ -16,24 +16,25 @@ use Rattle.m3_outside.specs.Files.{Files}
 use Rattle.m3_outside.specs.DiskState.{DiskState, EachImage, IsLawfulDisk}
 use Rattle.m3_outside.specs.declared.disk_err.DiskErr.{DiskErr}
 use Rattle.m3_outside.specs.declared.disk_err.DiskErr.TheVariants.{Memory, Failed as DiskFailed}
-use Rattle.listed_volumes.specs.commit_log.Contents.{numbers, numbers_of}
-use Rattle.listed_volumes.specs.commit_log.LogEnd.{LogEnd, LogEndStands}
-use Rattle.listed_volumes.specs.commit_log.Segment.{segment, HasChunks, ReadsChunks, written}
-use Rattle.listed_volumes.specs.series_slots.Ranges.{IsRangeOf}
-use Rattle.listed_volumes.specs.wire_bytes.Entries.{AllBounded, IsBounded}
-use Rattle.listed_volumes.specs.wire_bytes.Snapshots.{Snapshot}
-use Rattle.listed_volumes.specs.wire_bytes.Volumes.{points_of_rows}
-use Rattle.listed_volumes.specs.shard_files.declared.entries.LogEntry.{LogEntry}
-use Rattle.listed_volumes.specs.shard_files.declared.entries.LogEntry.TheVariants as entry
-use Rattle.listed_volumes.specs.shard_files.Entries.{IsWithin, AreWithin}
-use Rattle.listed_volumes.specs.shard_files.HeldEntries.{points_in, points_of}
-use Rattle.listed_volumes.specs.shard_files.Parts.{KnownVolume, NewestIs, counted_snapshots, snapshot_checkpoint}
-use Rattle.listed_volumes.specs.shard_files.FilesHold.{points_in_newest}
-use Rattle.listed_volumes.proofs.shard_files_proofs.NextLemmas.{one_keys}
-use Rattle.snapshot_steps.specs.volume_steps.Known.{HoldsKnown}
-use Rattle.snapshot_steps.specs.Saved.{AreIn, HoldsSaved, snapshot_of}
+use Rattle.store_log.specs.listed_volumes.commit_log.Contents.{numbers, numbers_of}
+use Rattle.store_log.specs.listed_volumes.commit_log.LogEnd.{LogEnd, LogEndStands}
+use Rattle.store_log.specs.listed_volumes.commit_log.Segment.{segment, HasChunks, ReadsChunks, written}
+use Rattle.store_log.specs.listed_volumes.series_slots.Ranges.{IsRangeOf}
+use Rattle.store_log.specs.listed_volumes.wire_bytes.Entries.{AllBounded, IsBounded}
+use Rattle.store_log.specs.listed_volumes.wire_bytes.Snapshots.{Snapshot}
+use Rattle.store_log.specs.listed_volumes.wire_bytes.Volumes.{points_of_rows}
+use Rattle.store_log.specs.listed_volumes.shard_files.declared.entries.LogEntry.{LogEntry}
+use Rattle.store_log.specs.listed_volumes.shard_files.declared.entries.LogEntry.TheVariants as entry
+use Rattle.store_log.specs.listed_volumes.shard_files.Entries.{IsWithin, AreWithin}
+use Rattle.store_log.specs.listed_volumes.shard_files.HeldEntries.{points_in, points_of}
+use Rattle.store_log.specs.listed_volumes.shard_files.Parts.{KnownVolume, NewestIs, counted_snapshots, snapshot_checkpoint}
+use Rattle.store_log.specs.listed_volumes.shard_files.FilesHold.{points_in_newest}
+use Rattle.store_log.proofs.listed_volumes_proofs.shard_files_proofs.NextLemmas.{one_keys}
+use Rattle.store_log.specs.snapshot_steps.volume_steps.Known.{HoldsKnown}
+use Rattle.store_log.specs.snapshot_steps.Saved.{AreIn, HoldsSaved, snapshot_of}
+use Rattle.store_log.specs.held_pages.Walks.{EndsInTime}
 use Rattle.shard_store.specs.OneSnapshot.{AddsSpace, AreBelow, HasOneSnapshot}
-use Rattle.shard_store.proofs.LogStepLemmas.{err_is}
+use Rattle.store_log.proofs.LogStepLemmas.{err_is}
 
 -- ---- points of all namespaces
 
@@ -95,6 +96,10 @@ memory_bounded memory known tenure fence files has p m =
 module _ (memory : Contents) (known : List KnownVolume) (tenure fence : ℕ) (d : DiskState) (lawful : IsLawfulDisk d) (each : EachImage d (HoldsKnown memory known tenure fence)) where
   pub are_in : (points : List Point) → AreBelow MOST_NAMESPACES memory points → d.tells ≡ true → AreIn memory points
   are_in points below tells p = ((λ m. ((below p).0 m).0), (λ m. let b = memory_bounded memory known tenure fence d.files (each tells d.files (lawful.read_is_image tells)) p m in (below p).1 (m, (b.namespace, b.time))))
+
+  -- the times of its points are before the end of all
+  pub held_within : d.tells ≡ true → EndsInTime memory
+  held_within tells k v m = (memory_bounded memory known tenure fence d.files (each tells d.files (lawful.read_is_image tells)) (record { ns = k.ns; id = k.id; t = k.t; v = v }) m).time
 
 -- ---- what stands then
 

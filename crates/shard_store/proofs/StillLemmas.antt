@@ -6,11 +6,11 @@ use Rattle.m3_outside.specs.DiskState.{DiskState}
 use Rattle.m3_outside.specs.DiskCalls.{LeavesFiles}
 use Rattle.m3_outside.specs.declared.disk_err.DiskErr.{DiskErr}
 use Rattle.m3_outside.specs.declared.disk_err.DiskErr.TheVariants.{Memory, Failed as DiskFailed}
-use Rattle.listed_volumes.proofs.commit_log_proofs.Begin.{stands_stays}
-use Rattle.listed_volumes.specs.fileset_read.Volumes.{IsUndamaged, of_disk}
-use Rattle.listed_volumes.specs.fileset_read.declared.file_err.FileErr.{FileErr}
-use Rattle.listed_volumes.specs.fileset_read.declared.file_err.FileErr.TheVariants as failures
-use Rattle.snapshot_steps.proofs.volume_steps_proofs.RemovalLemmas.{left_known}
+use Rattle.store_log.proofs.listed_volumes_proofs.commit_log_proofs.Begin.{stands_stays}
+use Rattle.store_log.specs.listed_volumes.fileset_read.Volumes.{IsUndamaged, of_disk}
+use Rattle.store_log.specs.listed_volumes.fileset_read.declared.file_err.FileErr.{FileErr}
+use Rattle.store_log.specs.listed_volumes.fileset_read.declared.file_err.FileErr.TheVariants as failures
+use Rattle.store_log.proofs.snapshot_steps_proofs.volume_steps_proofs.RemovalLemmas.{left_known}
 use Rattle.shard_store.specs.StoreParts.{IsCachedIn, IsCountedIn, IsKept, IsOpenOn}
 use Rattle.shard_store.specs.declared.opened.Opened.{Opened}
 

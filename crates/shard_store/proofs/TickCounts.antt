@@ -8,8 +8,8 @@ use Rattle.m3_model.specs.declared.point.Key.{Key}
 use Rattle.m3_model.specs.declared.point.Point.{Point}
 use Rattle.m3_model.specs.declared.rules.Rules.{Rules}
 use Rattle.m3_model.specs.declared.rules.Space.{Space}
-use Rattle.listed_volumes.specs.block_buffer.Held.{has_ended, has_expired, is_in_block, without}
-use Rattle.listed_volumes.proofs.shard_files_proofs.CountedLemmas.{both}
+use Rattle.store_log.specs.listed_volumes.block_buffer.Held.{has_ended, has_expired, is_in_block, without}
+use Rattle.store_log.proofs.listed_volumes_proofs.shard_files_proofs.CountedLemmas.{both}
 use Rattle.shard_store.specs.Ticks.{expired_in, keys_in}
 use Rattle.shard_store.proofs.CountLemmas.{len_parts}
 use Rattle.shard_store.proofs.PointLemmas.{has_fewer, has_holds, has_kept, has_untested, fewer_has, kept_has, same_by_points}

@@ -14,21 +14,21 @@ use Rattle.m3_model.specs.declared.rules.Rules.{Rules}
 use Rattle.m3_model.specs.declared.rules.Space.{Space}
 use Rattle.m3_model.proofs.MemberLemmas.{IsIn-append_left, IsIn-append_right, IsIn-append_cases, IsIn-map, map-IsIn}
 use Rattle.m3_outside.specs.Files.{Files}
-use Rattle.listed_volumes.specs.block_buffer.Held.{has_ended, has_expired, without}
-use Rattle.listed_volumes.specs.block_buffer.Joins.{joined}
-use Rattle.listed_volumes.proofs.block_buffer_proofs.BlockLemmas.{any-IsIn, IsIn-any}
-use Rattle.listed_volumes.specs.wire_bytes.Volumes.{VolumeHead, Checkpoint, points_of_row, points_of_rows}
-use Rattle.listed_volumes.specs.volume_bytes.declared.heads.Head.{Head}
-use Rattle.listed_volumes.specs.volume_bytes.Heads.{head_of}
-use Rattle.listed_volumes.specs.shard_files.Parts.{KnownVolume, VolumeHolds, VolumesAre, counted_volumes, part_name, part_of}
-use Rattle.listed_volumes.specs.shard_files.FilesHold.{points_known, volume_points}
-use Rattle.listed_volumes.proofs.shard_files_proofs.CountedLemmas.{IsIn-filter, chosen, filter-IsIn, both}
-use Rattle.listed_volumes.proofs.shard_files_proofs.PartLemmas.{one_known}
-use Rattle.listed_volumes.proofs.shard_files_proofs.VolumeSteps.{of_known}
-use Rattle.snapshot_steps.specs.volume_steps.Known.{HaveContent}
-use Rattle.snapshot_steps.specs.volume_steps.KnownLists.{is_volume_at, is_one_of, without_volumes}
-use Rattle.snapshot_steps.proofs.volume_steps_proofs.KnownLemmas.{points_of_known, known_of_points}
-use Rattle.snapshot_steps.proofs.volume_steps_proofs.LawLemmas.{join_is_there}
+use Rattle.store_log.specs.listed_volumes.block_buffer.Held.{has_ended, has_expired, without}
+use Rattle.store_log.specs.listed_volumes.block_buffer.Joins.{joined}
+use Rattle.store_log.proofs.listed_volumes_proofs.block_buffer_proofs.BlockLemmas.{any-IsIn, IsIn-any}
+use Rattle.store_log.specs.listed_volumes.wire_bytes.Volumes.{VolumeHead, Checkpoint, points_of_row, points_of_rows}
+use Rattle.store_log.specs.listed_volumes.volume_bytes.declared.heads.Head.{Head}
+use Rattle.store_log.specs.listed_volumes.volume_bytes.Heads.{head_of}
+use Rattle.store_log.specs.listed_volumes.shard_files.Parts.{KnownVolume, VolumeHolds, VolumesAre, counted_volumes, part_name, part_of}
+use Rattle.store_log.specs.listed_volumes.shard_files.FilesHold.{points_known, volume_points}
+use Rattle.store_log.proofs.listed_volumes_proofs.shard_files_proofs.CountedLemmas.{IsIn-filter, chosen, filter-IsIn, both}
+use Rattle.store_log.proofs.listed_volumes_proofs.shard_files_proofs.PartLemmas.{one_known}
+use Rattle.store_log.proofs.listed_volumes_proofs.shard_files_proofs.VolumeSteps.{of_known}
+use Rattle.store_log.specs.snapshot_steps.volume_steps.Known.{HaveContent}
+use Rattle.store_log.specs.snapshot_steps.volume_steps.KnownLists.{is_volume_at, is_one_of, without_volumes}
+use Rattle.store_log.proofs.snapshot_steps_proofs.volume_steps_proofs.KnownLemmas.{points_of_known, known_of_points}
+use Rattle.store_log.proofs.snapshot_steps_proofs.volume_steps_proofs.LawLemmas.{join_is_there}
 use Rattle.shard_store.specs.Stores.{joined_with}
 use Rattle.shard_store.specs.Ticks.{has_outlived, live_volumes, ticked_content}
 use Rattle.shard_store.proofs.BlockLemmas.{more_points}

@@ -7,13 +7,13 @@ use Rattle.m3_model.specs.Contents.{Contents}
 use Rattle.m3_model.specs.declared.point.Point.{Point}
 use Rattle.m3_model.specs.declared.rules.Rules.{Rules}
 use Rattle.m3_outside.specs.DiskState.{DiskState, IsLawfulDisk, Told}
-use Rattle.listed_volumes.specs.block_buffer.Held.{InMemory, has_expired, without}
-use Rattle.listed_volumes.specs.shard_files.Keeps.{HoldContent, Rearranges}
-use Rattle.listed_volumes.specs.shard_files.Parts.{KnownVolume, VolumesAre}
-use Rattle.listed_volumes.specs.fileset_read.declared.file_err.FileErr.{FileErr}
-use Rattle.listed_volumes.specs.fileset_read.declared.file_err.FileErr.TheVariants as unread
-use Rattle.snapshot_steps.proofs.volume_steps_proofs.KnownLemmas.{is_file_point}
-use Rattle.listed_volumes.specs.Listed.{known_in}
+use Rattle.store_log.specs.listed_volumes.block_buffer.Held.{InMemory, has_expired, without}
+use Rattle.store_log.specs.listed_volumes.shard_files.Keeps.{HoldContent, Rearranges}
+use Rattle.store_log.specs.listed_volumes.shard_files.Parts.{KnownVolume, VolumesAre}
+use Rattle.store_log.specs.listed_volumes.fileset_read.declared.file_err.FileErr.{FileErr}
+use Rattle.store_log.specs.listed_volumes.fileset_read.declared.file_err.FileErr.TheVariants as unread
+use Rattle.store_log.proofs.snapshot_steps_proofs.volume_steps_proofs.KnownLemmas.{is_file_point}
+use Rattle.store_log.specs.listed_volumes.Listed.{known_in}
 use Rattle.shard_store.specs.StoreParts.{IsOpenOn, content_of_opened, state_of}
 use Rattle.shard_store.specs.Stores.{StoreState, joined_with}
 use Rattle.shard_store.specs.Ticks.{HasTicked, live_volumes, ticked_content}

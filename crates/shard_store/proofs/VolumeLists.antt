@@ -5,13 +5,13 @@ use Rattle.std.specs.Ordering.{is_lt}
 use Rattle.std.proofs.lemmas.List.{drop_more, take_all, drop_all}
 use Rattle.m3_model.specs.Members.{IsIn}
 use Rattle.m3_model.specs.declared.point.Series.{Series}
-use Rattle.listed_volumes.specs.wire_bytes.Volumes.{VolumeHead}
-use Rattle.listed_volumes.specs.volume_bytes.declared.heads.Head.{Head}
-use Rattle.listed_volumes.specs.volume_bytes.Heads.{head_of}
-use Rattle.listed_volumes.specs.shard_files.Parts.{KnownVolume}
-use Rattle.snapshot_steps.specs.volume_steps.KnownLists.{head_cmp, volume_of, with_volume}
-use Rattle.listed_volumes.specs.Listed.{known_as, known_in}
-use Rattle.listed_volumes.specs.declared.volume.ListedVolume.{ListedVolume}
+use Rattle.store_log.specs.listed_volumes.wire_bytes.Volumes.{VolumeHead}
+use Rattle.store_log.specs.listed_volumes.volume_bytes.declared.heads.Head.{Head}
+use Rattle.store_log.specs.listed_volumes.volume_bytes.Heads.{head_of}
+use Rattle.store_log.specs.listed_volumes.shard_files.Parts.{KnownVolume}
+use Rattle.store_log.specs.snapshot_steps.volume_steps.KnownLists.{head_cmp, volume_of, with_volume}
+use Rattle.store_log.specs.listed_volumes.Listed.{known_as, known_in}
+use Rattle.store_log.specs.listed_volumes.declared.volume.ListedVolume.{ListedVolume}
 use Rattle.shard_store.proofs.ListLemmas.{map_append, map_more}
 
 -- the rest of the list begins with the next volume

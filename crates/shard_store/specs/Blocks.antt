@@ -5,16 +5,16 @@ use Rattle.m3_model.specs.Contents.{Contents, content_of}
 use Rattle.m3_model.specs.Members.{IsIn}
 use Rattle.m3_model.specs.declared.point.Series.{Series}
 use Rattle.m3_outside.specs.Files.{Files}
-use Rattle.listed_volumes.specs.block_buffer.Held.{is_in_block}
-use Rattle.listed_volumes.specs.shard_files.Parts.{KnownVolume}
-use Rattle.listed_volumes.specs.shard_files.FilesHold.{points_known}
-use Rattle.listed_volumes.specs.wire_bytes.Volumes.{points_of_rows}
-use Rattle.listed_volumes.specs.shard_files.Steps.{next_volume}
-use Rattle.listed_volumes.specs.fileset_read.declared.file_err.FileErr.{FileErr}
-use Rattle.listed_volumes.specs.fileset_read.declared.file_err.FileErr.TheVariants as failures
-use Rattle.listed_volumes.specs.Known.{is_of}
-use Rattle.listed_volumes.specs.BlockErr.{BlockErr}
-use Rattle.listed_volumes.specs.TheVariants as errors
+use Rattle.store_log.specs.listed_volumes.block_buffer.Held.{is_in_block}
+use Rattle.store_log.specs.listed_volumes.shard_files.Parts.{KnownVolume}
+use Rattle.store_log.specs.listed_volumes.shard_files.FilesHold.{points_known}
+use Rattle.store_log.specs.listed_volumes.wire_bytes.Volumes.{points_of_rows}
+use Rattle.store_log.specs.listed_volumes.shard_files.Steps.{next_volume}
+use Rattle.store_log.specs.listed_volumes.fileset_read.declared.file_err.FileErr.{FileErr}
+use Rattle.store_log.specs.listed_volumes.fileset_read.declared.file_err.FileErr.TheVariants as failures
+use Rattle.store_log.specs.listed_volumes.Known.{is_of}
+use Rattle.store_log.specs.listed_volumes.BlockErr.{BlockErr}
+use Rattle.store_log.specs.listed_volumes.TheVariants as errors
 use Rattle.shard_store.specs.Stores.{joined_with}
 
 -- a block that has more than a volume may have wants memory

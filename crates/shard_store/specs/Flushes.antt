@@ -11,13 +11,13 @@ use Rattle.m3_model.specs.declared.rules.Rules.{Rules}
 use Rattle.m3_model.specs.declared.rules.Space.{Space}
 use Rattle.m3_outside.specs.Files.{Files}
 use Rattle.m3_outside.specs.DiskState.{DiskState}
-use Rattle.listed_volumes.specs.block_buffer.Blocks.{has_closed, IsBlocksOf}
-pub use Rattle.listed_volumes.specs.block_buffer.Blocks.{is_over}
-use Rattle.listed_volumes.specs.block_buffer.Held.{is_in_block, without}
-use Rattle.listed_volumes.specs.shard_files.Parts.{KnownVolume, VolumesAre}
-use Rattle.listed_volumes.specs.shard_files.FilesHold.{points_known}
-use Rattle.listed_volumes.specs.shard_files.Steps.{next_volume}
-use Rattle.listed_volumes.specs.Known.{is_of}
+use Rattle.store_log.specs.listed_volumes.block_buffer.Blocks.{has_closed, IsBlocksOf}
+pub use Rattle.store_log.specs.listed_volumes.block_buffer.Blocks.{is_over}
+use Rattle.store_log.specs.listed_volumes.block_buffer.Held.{is_in_block, without}
+use Rattle.store_log.specs.listed_volumes.shard_files.Parts.{KnownVolume, VolumesAre}
+use Rattle.store_log.specs.listed_volumes.shard_files.FilesHold.{points_known}
+use Rattle.store_log.specs.listed_volumes.shard_files.Steps.{next_volume}
+use Rattle.store_log.specs.listed_volumes.Known.{is_of}
 use Rattle.shard_store.specs.Stores.{StoreState, joined_with}
 
 -- ---- which blocks

@@ -8,13 +8,13 @@ use Rattle.m3_model.specs.declared.point.Pick.TheVariants as pick
 use Rattle.m3_model.specs.declared.point.Point.{Point}
 use Rattle.m3_model.specs.declared.point.Series.{Series}
 use Rattle.m3_outside.specs.Files.{Files}
-use Rattle.listed_volumes.specs.commit_log.Contents.{numbers}
-use Rattle.listed_volumes.specs.commit_log.Segment.{segment, HasChunks}
-use Rattle.listed_volumes.specs.series_slots.Ranges.{IsRangeOf}
-use Rattle.listed_volumes.specs.wire_bytes.Snapshots.{Snapshot}
-use Rattle.listed_volumes.specs.wire_bytes.Volumes.{points_of_rows}
-use Rattle.listed_volumes.specs.shard_files.Parts.{SnapshotHolds, counted_snapshots, snapshot_checkpoint}
-use Rattle.snapshot_steps.specs.Saved.{AreIn}
+use Rattle.store_log.specs.listed_volumes.commit_log.Contents.{numbers}
+use Rattle.store_log.specs.listed_volumes.commit_log.Segment.{segment, HasChunks}
+use Rattle.store_log.specs.listed_volumes.series_slots.Ranges.{IsRangeOf}
+use Rattle.store_log.specs.listed_volumes.wire_bytes.Snapshots.{Snapshot}
+use Rattle.store_log.specs.listed_volumes.wire_bytes.Volumes.{points_of_rows}
+use Rattle.store_log.specs.listed_volumes.shard_files.Parts.{SnapshotHolds, counted_snapshots, snapshot_checkpoint}
+use Rattle.store_log.specs.snapshot_steps.Saved.{AreIn}
 
 -- The one snapshot that counts has this number, just the points in memory, this tenure and this fence. The log is the one segment of this number, without chunks.
 pub record HasOneSnapshot (number first : ℕ) (memory : Contents) (tenure fence : ℕ) (files : Files) : Type 0 where

@@ -1,8 +1,8 @@
 -- What an opening takes into memory.
 use Rattle.std.specs.Prelude.{map}
 use Rattle.m3_model.specs.Contents.{Contents, content_of}
-use Rattle.listed_volumes.specs.block_buffer.Taken.{settled_with}
-use Rattle.listed_volumes.specs.shard_files.FilesHold.{volume_points}
+use Rattle.store_log.specs.listed_volumes.block_buffer.Taken.{settled_with}
+use Rattle.store_log.specs.listed_volumes.shard_files.FilesHold.{volume_points}
 use Rattle.shard_open.specs.Loads.{known_of}
 use Rattle.shard_open.specs.declared.load.Loaded.{Loaded}
 

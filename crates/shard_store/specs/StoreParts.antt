@@ -3,9 +3,9 @@ use Rattle.std.specs.Prelude.{⊤, ℕ, Option, Some, None, is_some}
 use Rattle.std.specs.FinMap as finite
 use Rattle.m3_model.specs.Contents.{Contents}
 use Rattle.m3_outside.specs.DiskState.{DiskState, Told}
-use Rattle.snapshot_steps.specs.Counts.{AreCounted}
-use Rattle.listed_volumes.specs.Listed.{known_in}
-use Rattle.listed_volumes.specs.Cached.{AreOfVolumes, AreRight}
+use Rattle.store_log.specs.snapshot_steps.Counts.{AreCounted}
+use Rattle.store_log.specs.listed_volumes.Listed.{known_in}
+use Rattle.store_log.specs.listed_volumes.Cached.{AreOfVolumes, AreRight}
 use Rattle.shard_store.specs.Stores.{StoreState, IsKeptOn, joined_with}
 use Rattle.shard_store.specs.declared.opened.Opened.{Opened}
 

@@ -1,21 +1,14 @@
 -- A store as its contracts see it.
-use Rattle.std.specs.Prelude.{◌≡◌, ℕ, ◌≤◌, Bool, false, List, None, fold, refl}
+use Rattle.std.specs.Prelude.{◌≡◌, ℕ, Bool, false, List, refl}
 use Rattle.std.specs.Coded.{Coded, code_by, coded×, coded_ℕ, coded_bool}
 use Rattle.std.specs.FinMap as finite
 use Rattle.m3_model.specs.Answers.{HasPoint}
-use Rattle.m3_model.specs.Contents.{Contents, contents_code, raised}
+use Rattle.m3_model.specs.Contents.{Contents, contents_code}
 use Rattle.m3_model.specs.Members.{IsIn}
 use Rattle.m3_model.specs.declared.point.Point.{Point}
 use Rattle.m3_outside.specs.Files.{Files}
-use Rattle.m3_outside.specs.DiskState.{DiskState, EachImage}
-use Rattle.listed_volumes.specs.block_buffer.Held.{InMemory}
-use Rattle.listed_volumes.specs.block_buffer.Joins.{joined}
-use Rattle.listed_volumes.specs.commit_log.LogEnd.{LogEnd, LogEndStands}
-use Rattle.listed_volumes.specs.shard_files.HeldEntries.{points_in}
-use Rattle.listed_volumes.specs.shard_files.Parts.{KnownVolume}
-use Rattle.listed_volumes.specs.shard_files.FilesHold.{FilesHold, volume_points}
-use Rattle.listed_volumes.specs.shard_files.declared.entries.LogEntry.{LogEntry}
-use Rattle.snapshot_steps.specs.volume_steps.Known.{HoldsKnown}
+use Rattle.store_log.specs.listed_volumes.shard_files.FilesHold.{FilesHold}
+pub use Rattle.store_log.specs.Kept.{IsKeptOn, joined_with, memory_with}
 
 -- What a store is: its disk, whether it is open, and then the points that it has in memory, its content, which is these joined with the points of the volumes
 -- on its disk, and the greatest tenure and the greatest fence or tenure of its files. A closed one has none of them.
@@ -37,24 +30,8 @@ store_code {D} disk_code =
 abbrev pub closed_over : {D : Type 0} → D → StoreState D
 closed_over disk = record { disk = disk; open_ = false; buffered = finite.empty; content = finite.empty; tenure = 0; fence = 0 }
 
--- what is in memory, joined with the points of these volumes
-abbrev pub joined_with : Contents → List KnownVolume → Contents
-joined_with buffered known = joined buffered (volume_points known)
-
 -- the files hold each point of the content, this tenure and this fence
 pub record HoldsOpened (content : Contents) (tenure fence : ℕ) (files : Files) : Type 0 where
   pub points : List Point
   pub held : FilesHold points tenure fence files
   pub all : (p : Point) → HasPoint content p → IsIn points p
-
--- The log ends on the disk where it says. In the files that a stop leaves just the known volumes count, and each point in memory stands in the newest snapshot
--- or in the log. No put is under way, and a tenure is a fence too.
-pub record IsKeptOn (log : LogEnd) (memory : InMemory) (known : List KnownVolume) (tenure fence : ℕ) (d : DiskState) : Type 0 where
-  pub stands : LogEndStands log d
-  pub exact : EachImage d (HoldsKnown memory.points known tenure fence)
-  pub at_rest : memory.room ≡ None
-  pub order : tenure ≤ fence
-
--- what is in memory, joined with the points of an entry
-abbrev pub memory_with : LogEntry → InMemory → InMemory
-memory_with e memory = record memory { points = fold raised memory.points (points_in e) }

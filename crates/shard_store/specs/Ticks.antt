@@ -4,9 +4,9 @@ use Rattle.std.specs.FinMap.{len, retain_keys}
 use Rattle.m3_model.specs.Contents.{Contents}
 use Rattle.m3_model.specs.declared.rules.Rules.{Rules}
 use Rattle.m3_outside.specs.DiskState.{DiskState}
-use Rattle.listed_volumes.specs.block_buffer.Held.{without, has_ended, has_expired, is_in_block}
-use Rattle.listed_volumes.specs.wire_bytes.Volumes.{VolumeHead}
-use Rattle.listed_volumes.specs.shard_files.Parts.{KnownVolume, VolumesAre}
+use Rattle.store_log.specs.listed_volumes.block_buffer.Held.{without, has_ended, has_expired, is_in_block}
+use Rattle.store_log.specs.listed_volumes.wire_bytes.Volumes.{VolumeHead}
+use Rattle.store_log.specs.listed_volumes.shard_files.Parts.{KnownVolume, VolumesAre}
 use Rattle.shard_store.specs.Stores.{StoreState, joined_with}
 
 -- the volume's block has expired as a whole: its namespace is there, and the retention of the block's end has ended

@@ -1,45 +1,22 @@
 //! Points read: those in memory joined with those of volumes.
-ghost use Rattle.std.specs.Prelude.{◌≡◌, ℕ, List, true, None, map, IfOk, IfErr, IsErrOf};
+ghost use Rattle.std.specs.Prelude.{◌≡◌, true, map, IfOk, IfErr, IsErrOf};
 ghost use Rattle.m3_model.specs.Answers.{IsAnswer};
-ghost use Rattle.m3_model.specs.Contents.{Contents, content_of};
 ghost use Rattle.m3_model.specs.Reads.{IsOrdered};
-ghost use Rattle.m3_model.specs.declared.point.Pick.{Pick};
-ghost use Rattle.m3_model.specs.declared.point.Point.{Point};
 ghost use Rattle.m3_outside.specs.DiskState.{DiskState};
 ghost use Rattle.m3_outside.specs.DiskCalls.{LeavesFiles};
-ghost use Rattle.listed_volumes.specs.block_buffer.Joins.{joined};
-ghost use Rattle.listed_volumes.specs.fileset_read.Volumes.{IsUndamaged};
-ghost use Rattle.listed_volumes.specs.fileset_read.declared.file_err.FileErr.TheVariants as failures;
-ghost use Rattle.listed_volumes.specs.series_merge.Merges.{IsMergeOf};
-ghost use Rattle.listed_volumes.specs.Listed.{known_in};
+ghost use Rattle.store_log.specs.listed_volumes.fileset_read.Volumes.{IsUndamaged};
+ghost use Rattle.store_log.specs.listed_volumes.fileset_read.declared.file_err.FileErr.TheVariants as failures;
 ghost use Rattle.shard_store.specs.StoreParts.{IsCachedIn, IsOpenOn, content_of_opened};
 
 use crate::opened::Opened;
 use crate::volumes::heads;
-use listed_volumes::of_fileset_read::FileErr;
-use listed_volumes::of_held_points::HeldPoints;
-use listed_volumes::of_volume_bytes::Head;
-use listed_volumes::{ListedVolume, fetch, join};
 use m3_model::{Pick, Seq, Series};
 use m3_outside::Disk;
 use std::alloc::Global;
-
-// The points in memory that a read asks for.
-pub(crate) fn fetch_held(
-    held: &HeldPoints,
-    pick: &Pick,
-    from: u64,
-    to: u64,
-) -> Result<Seq<Series>, FileErr>
-    requires { held.now.room ≡ None }
-    ensures answer { IfOk result (IsAnswer held.now.points pick.now from to) }
-    ensures err { IfErr result (λ why. why ≡ failures.Memory) }
-{
-    match held.fetch(pick, from, to) {
-        Ok(found) => Ok(found),
-        Err(_) => Err(FileErr::Memory),
-    }
-}
+use store_log::of_fileset_read::FileErr;
+use store_log::of_joined_reads::fetch_joined;
+use store_log::of_listed_volumes::ListedVolume;
+use store_log::of_volume_bytes::Head;
 
 // The heads of the volumes.
 pub(crate) fn heads_of(alloc: Global, listed: &[ListedVolume]) -> Result<Vec<Head>, FileErr>
@@ -48,24 +25,6 @@ pub(crate) fn heads_of(alloc: Global, listed: &[ListedVolume]) -> Result<Vec<Hea
 {
     match heads(alloc, listed) {
         Ok(heads) => Ok(heads),
-        Err(_) => Err(FileErr::Memory),
-    }
-}
-
-// Both answers in one, as `join`.
-pub(crate) fn join_both(
-    alloc: Global,
-    one: Seq<Series>,
-    other: Seq<Series>,
-) -> Result<Seq<Series>, FileErr>
-    requires one { IsOrdered one }
-    requires other { IsOrdered other }
-    ensures merge { IfOk result (IsMergeOf one other) }
-    ensures answer { IfOk result (λ series. (c : Contents) (points : List Point) (pick : Pick) (from to : ℕ) → IsAnswer c pick from to one → IsAnswer (content_of points) pick from to other → IsAnswer (joined c points) pick from to series) }
-    ensures err { IfErr result (λ why. why ≡ failures.Memory) }
-{
-    match join(alloc, one, other) {
-        Ok(series) => Ok(series),
         Err(_) => Err(FileErr::Memory),
     }
 }
@@ -94,8 +53,15 @@ impl Opened {
         ensures same { self.new ≡ record self.old { cache = self.new.cache } }
         ensures cached { IsCachedIn self.new (D.state disk.new) }
     {
-        let here = fetch_held(&self.held, pick, from, to)?;
-        let there = fetch(alloc, disk, &self.volumes, &mut self.cache, pick, from, to)?;
-        join_both(alloc, here, there)
+        fetch_joined(
+            alloc,
+            disk,
+            &self.held,
+            &self.volumes,
+            &mut self.cache,
+            pick,
+            from,
+            to,
+        )
     }
 }

@@ -3,9 +3,10 @@
 
 mod fetch;
 mod flush;
-mod log_step;
+mod merging;
 mod moments;
 mod opened;
+mod page;
 mod settle;
 mod snapshot;
 pub mod store;
@@ -18,13 +19,13 @@ pub use store::Store;
 // Of libraries that the rows of crates above need not name: what these crates name of them.
 /// Of `fileset_read`.
 pub mod of_fileset_read {
-    pub use listed_volumes::of_fileset_read::FileErr;
+    pub use store_log::of_fileset_read::FileErr;
 }
 /// Of `series_id`.
 pub mod of_series_id {
-    pub use listed_volumes::of_series_id::shard_of;
+    pub use store_log::of_series_id::shard_of;
 }
 /// Of `shard_files`.
 pub mod of_shard_files {
-    pub use listed_volumes::of_shard_files::LoadErr;
+    pub use store_log::of_shard_files::LoadErr;
 }

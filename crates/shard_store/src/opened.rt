@@ -3,22 +3,22 @@ ghost use Rattle.m3_model.specs.Contents.{raised};
 ghost use Rattle.m3_outside.specs.declared.disk_err.DiskErr.TheVariants.{Failed as DiskFailed, Memory as WantOfMemory};
 ghost use Rattle.m3_outside.specs.DiskState.{DiskState, Becomes};
 ghost use Rattle.m3_outside.specs.Files.{Files};
-ghost use Rattle.listed_volumes.specs.commit_log.Contents.{numbers};
-ghost use Rattle.listed_volumes.specs.wire_bytes.Entries.{IsBounded};
-ghost use Rattle.listed_volumes.specs.shard_files.Gains.{Brings, a_point, a_fence, a_tenure};
-ghost use Rattle.snapshot_steps.specs.Counts.{AreCounted};
-ghost use Rattle.listed_volumes.specs.Listed.{known_in};
+ghost use Rattle.store_log.specs.listed_volumes.commit_log.Contents.{numbers};
+ghost use Rattle.store_log.specs.listed_volumes.wire_bytes.Entries.{IsBounded};
+ghost use Rattle.store_log.specs.listed_volumes.shard_files.Gains.{Brings, a_point, a_fence, a_tenure};
+ghost use Rattle.store_log.specs.snapshot_steps.Counts.{AreCounted};
+ghost use Rattle.store_log.specs.listed_volumes.Listed.{known_in};
 ghost use Rattle.shard_store.specs.Stores.{IsKeptOn, joined_with};
 ghost use Rattle.shard_store.specs.StoreParts.{IsCountedIn};
 
-use crate::log_step::{append_entry, log_entry, ready_entry};
-use listed_volumes::of_commit_log::Log;
-use listed_volumes::of_held_points::HeldPoints;
-use listed_volumes::of_wire_bytes::{put_fence, put_points, put_tenure};
-use listed_volumes::{ListedVolume, RowCache};
 use m3_model::Point;
 use m3_outside::{Disk, DiskErr};
-use snapshot_steps::Counts;
+use store_log::of_commit_log::Log;
+use store_log::of_held_points::HeldPoints;
+use store_log::of_listed_volumes::{ListedVolume, RowCache};
+use store_log::of_snapshot_steps::Counts;
+use store_log::of_wire_bytes::{put_fence, put_points, put_tenure};
+use store_log::{append_entry, log_entry, ready_entry};
 
 // What is in memory while a store is open.
 #[derive(Drop)]

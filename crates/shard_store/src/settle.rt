@@ -1,19 +1,19 @@
 //! The points in memory that no volume has.
 ghost use Rattle.std.specs.Prelude.{◌≡◌, map, None, IfOk, OnOk};
 ghost use Rattle.m3_model.specs.Contents.{content_of};
-ghost use Rattle.listed_volumes.specs.block_buffer.Taken.{settled_with};
-ghost use Rattle.listed_volumes.specs.wire_bytes.Volumes.{points_of_rows};
-ghost use Rattle.listed_volumes.specs.shard_files.FilesHold.{volume_points};
+ghost use Rattle.store_log.specs.listed_volumes.block_buffer.Taken.{settled_with};
+ghost use Rattle.store_log.specs.listed_volumes.wire_bytes.Volumes.{points_of_rows};
+ghost use Rattle.store_log.specs.listed_volumes.shard_files.FilesHold.{volume_points};
 ghost use Rattle.shard_open.specs.Loads.{known_of};
-ghost use Rattle.listed_volumes.specs.Listed.{known_in};
+ghost use Rattle.store_log.specs.listed_volumes.Listed.{known_in};
 ghost use Rattle.shard_store.specs.Openings.{beside_volumes};
 
 use crate::volumes::listed;
-use listed_volumes::ListedVolume;
-use listed_volumes::of_held_points::{HeldPoints, hold};
 use m3_model::{Memory, Point, Series};
 use shard_open::{Loaded, OpenVolume};
 use std::alloc::Global;
+use store_log::of_held_points::{HeldPoints, hold};
+use store_log::of_listed_volumes::ListedVolume;
 
 // Takes each point out that isn't above one of the rows, which are of this namespace.
 fn settle_rows(held: &mut HeldPoints, ns: u8, rows: &[Series]) -> Result<(), Memory>

@@ -3,22 +3,22 @@ ghost use Rattle.std.specs.Prelude.{◌≡◌, true, List, IfOk, IfErr, OnOk, Is
 ghost use Rattle.m3_model.specs.declared.limits.TheConstants.{MOST_NAMESPACES};
 ghost use Rattle.m3_outside.specs.DiskState.{DiskState, EachImage};
 ghost use Rattle.m3_outside.specs.declared.disk_err.DiskErr.TheVariants.{Failed as DiskFailed, Memory as WantOfMemory};
-ghost use Rattle.listed_volumes.specs.commit_log.Contents.{next_after, numbers};
-ghost use Rattle.listed_volumes.specs.shard_files.Keeps.{Rearranges};
-ghost use Rattle.listed_volumes.specs.shard_files.Parts.{KnownVolume, VolumesAre};
-ghost use Rattle.listed_volumes.specs.shard_files.Steps.{next_snapshot};
-ghost use Rattle.snapshot_steps.specs.Saved.{AreSaveable};
+ghost use Rattle.store_log.specs.listed_volumes.commit_log.Contents.{next_after, numbers};
+ghost use Rattle.store_log.specs.listed_volumes.shard_files.Keeps.{Rearranges};
+ghost use Rattle.store_log.specs.listed_volumes.shard_files.Parts.{KnownVolume, VolumesAre};
+ghost use Rattle.store_log.specs.listed_volumes.shard_files.Steps.{next_snapshot};
+ghost use Rattle.store_log.specs.snapshot_steps.Saved.{AreSaveable};
 ghost use Rattle.shard_store.specs.OneSnapshot.{AddsSpace, AreBelow, HasOneSnapshot};
 ghost use Rattle.shard_store.specs.StoreParts.{IsOpenOn, content_of_opened, IsCountedIn};
 
 use crate::opened::Opened;
-use listed_volumes::of_held_points::HeldPoints;
 use m3_model::limits::{MOST_NAMESPACES, TIME_END};
 use m3_model::{Memory, Point, Seq};
 use m3_outside::{Disk, DiskErr};
 use shard_open::{Snap, append_rows, is_snapshot};
-use snapshot_steps::take_snapshot;
 use std::alloc::Global;
+use store_log::of_held_points::HeldPoints;
+use store_log::of_snapshot_steps::take_snapshot;
 
 // Appends the points in memory of the namespace, in order.
 fn append_space(

@@ -1,5 +1,6 @@
 ghost use Rattle.std.specs.Prelude.{◌≡◌, ◌≢◌, ℕ, ◌-◌, ◌<◌, ◌≤◌, true, false, List, None, max, length, IfOk, IfErr, OnOk, OnErr, IsErrOf};
 ghost use Rattle.std.specs.List.{All};
+ghost use Rattle.std.specs.Option.{option_copied};
 ghost use Rattle.std.specs.FinMap as finite;
 ghost use Rattle.m3_model.specs.Answers.{HasPoint, IsAnswer};
 ghost use Rattle.m3_model.specs.Contents.{raised, content_of};
@@ -11,39 +12,43 @@ ghost use Rattle.m3_outside.specs.DiskState.{DiskState, Told, EachImage, Elapses
 ghost use Rattle.m3_outside.specs.DiskCalls.{LeavesFiles, Restarts};
 ghost use Rattle.m3_outside.specs.Files.{Stays};
 ghost use Rattle.m3_outside.specs.declared.disk_err.DiskErr.TheVariants.{Failed as DiskFailed, Memory as WantOfMemory};
-ghost use Rattle.listed_volumes.specs.block_buffer.Held.{without, has_expired};
-ghost use Rattle.listed_volumes.specs.commit_log.Contents.{numbers as numbers_in, next_after};
-ghost use Rattle.listed_volumes.specs.commit_log.LogEnd.{NoneFrom};
-ghost use Rattle.listed_volumes.specs.wire_bytes.Entries.{IsBounded};
-ghost use Rattle.listed_volumes.specs.shard_files.Gains.{Brings, nothing, a_point, a_fence, a_tenure};
+ghost use Rattle.store_log.specs.listed_volumes.block_buffer.Held.{without, has_expired};
+ghost use Rattle.store_log.specs.first_points.Firsts.{IsPageOf};
+ghost use Rattle.store_log.specs.listed_volumes.commit_log.Contents.{numbers as numbers_in, next_after};
+ghost use Rattle.store_log.specs.listed_volumes.commit_log.LogEnd.{NoneFrom};
+ghost use Rattle.store_log.specs.listed_volumes.wire_bytes.Entries.{IsBounded};
+ghost use Rattle.store_log.specs.listed_volumes.shard_files.Gains.{Brings, nothing, a_point, a_fence, a_tenure};
 ghost use Rattle.shard_open.specs.Told.{AreApart, MayBeUnsound};
-ghost use Rattle.listed_volumes.specs.shard_files.Keeps.{HoldContent, Rearranges};
-ghost use Rattle.listed_volumes.specs.shard_files.Once.{HeldOnce};
-ghost use Rattle.listed_volumes.specs.shard_files.Parts.{KnownVolume, VolumesAre, counted_volumes, IsNewestNumber};
-ghost use Rattle.listed_volumes.specs.shard_files.Steps.{next_snapshot};
-ghost use Rattle.listed_volumes.specs.shard_files.declared.load_err.LoadErr.TheVariants as failures;
-ghost use Rattle.listed_volumes.specs.fileset_read.Volumes.{IsUndamaged};
-ghost use Rattle.listed_volumes.specs.fileset_read.declared.file_err.FileErr.TheVariants as unread;
+ghost use Rattle.store_log.specs.listed_volumes.shard_files.Keeps.{HoldContent, Rearranges};
+ghost use Rattle.store_log.specs.listed_volumes.shard_files.Once.{HeldOnce};
+ghost use Rattle.store_log.specs.listed_volumes.shard_files.Parts.{KnownVolume, VolumesAre, counted_volumes, IsNewestNumber};
+ghost use Rattle.store_log.specs.listed_volumes.shard_files.Steps.{next_snapshot};
+ghost use Rattle.store_log.specs.listed_volumes.shard_files.declared.load_err.LoadErr.TheVariants as failures;
+ghost use Rattle.store_log.specs.listed_volumes.fileset_read.Volumes.{IsUndamaged};
+ghost use Rattle.store_log.specs.listed_volumes.fileset_read.declared.file_err.FileErr.TheVariants as unread;
 ghost use Rattle.shard_open.specs.Loads.{AreOpened};
+ghost use Rattle.store_log.specs.joined_reads.Beside.{risen_in};
+ghost use Rattle.store_log.specs.Whole.{BringsWhole, of_points};
 ghost use Rattle.shard_store.specs.Flushes.{AreFlushed, HasFlushed, IsPartFlushed};
+ghost use Rattle.shard_store.specs.Merges.{HasMerged};
 ghost use Rattle.shard_store.specs.OneSnapshot.{HasOneSnapshot};
 ghost use Rattle.shard_store.specs.Openings.{beside_volumes};
 ghost use Rattle.shard_store.specs.Stores.{closed_over, HoldsOpened};
 ghost use Rattle.shard_store.specs.Ticks.{HasTicked};
 
-use crate::log_step::begin_log;
 use crate::opened::Opened;
 use crate::settle::take_in;
-use listed_volumes::RowCache;
-use listed_volumes::of_fileset_read::FileErr;
-use listed_volumes::of_shard_files::LoadErr;
-use m3_model::{Pick, Point, Rules, Seq, Series};
+use m3_model::{Key, Page, Pick, Point, Rules, Seq, Series};
 use m3_outside::{Disk, DiskErr};
 use shard_open::Loaded;
 use shard_open::load::load;
-use snapshot_steps::Counts;
 use std::alloc::Global;
 use std::marker::Model;
+use store_log::begin_log;
+use store_log::of_fileset_read::FileErr;
+use store_log::of_listed_volumes::RowCache;
+use store_log::of_shard_files::LoadErr;
+use store_log::of_snapshot_steps::Counts;
 
 /// One replica's points of one shard, on its disk and, while it is open, those of them in memory that no volume has. Each put,
 /// fence and tenure is in the replica's commit log, synced, before it is acknowledged.
@@ -263,6 +268,59 @@ impl<D: Disk> Store<D> {
     {
         let opened = self.opened.as_mut().unwrap();
         let said = opened.fetch(self.alloc, &mut self.disk, pick, from, to);
+        close_unless(&mut self.opened, said)
+    }
+
+    /// The page of the first points above the key, of those in memory joined with those of the volumes: the first 64, or all that
+    /// there are. It goes on from the key of its last point exactly where a point stands above that. Without a key it has the first
+    /// points of all.
+    ///
+    /// Of each volume whose rows aren't in memory the data is read in one piece, but of those of namespaces before the key's: its rows
+    /// are in memory then, of 64 volumes at most, those that were read last. So a stream of pages, each from the key from which the
+    /// one before goes on, reads each volume once where these are no more. Beside that a page costs the logarithm of the points of each
+    /// volume, and for each of its points that of the points in memory.
+    ///
+    /// # Errors
+    ///
+    /// A fault, and damage only where the disk doesn't tell what it holds: these close the store. Want of memory, which leaves it
+    /// as it was. In any case the files, and what a stop leaves of them, are as they were.
+    pub fn page(&mut self, after: Option<&Key>) -> Result<Page, FileErr>
+        requires open_ { self.old.open_ ≡ true }
+        ensures ok { OnOk result (self.new ≡ record self.old { disk = self.new.disk }) }
+        ensures page { (D.state self.old.disk).tells ≡ true → IfOk result (IsPageOf self.old.content (option_copied after.entry)) }
+        ensures memory { IsErrOf result unread.Memory → self.new ≡ record self.old { disk = self.new.disk } }
+        ensures closed { IfErr result (λ why. why ≢ unread.Memory → self.new ≡ closed_over self.new.disk) }
+        ensures sound { (D.state self.old.disk).tells ≡ true → IfErr result IsUndamaged }
+        ensures leaves { LeavesFiles (IsErrOf result unread.Disk) (D.state self.old.disk) (D.state self.new.disk) }
+    {
+        let opened = self.opened.as_mut().unwrap();
+        let said = opened.page(self.alloc, &mut self.disk, after);
+        close_unless(&mut self.opened, said)
+    }
+
+    /// Joins the points of a page, of which the higher value stays at a key. Those that are new to the content, or
+    /// raise what stands at their key in memory and volumes, are in the log, all in one entry, and in memory; of the others nothing
+    /// is done. Answers how many these are. Their memory is taken before the log's step.
+    ///
+    /// It costs a read of one series at one time for each of the points, and beside the log's step as much as a put for each that is
+    /// logged.
+    ///
+    /// # Errors
+    ///
+    /// A fault, after which a stop may leave all of the points or none, and the store is closed; damage only where the disk doesn't
+    /// tell what it holds, which closes it, too. Want of memory, always where there would be more than `MOST_REPLICA_POINTS` points
+    /// in memory, and where the page has more points than one may have or one that is out of bounds, which only a disk that doesn't
+    /// tell what it holds can have given; it leaves the store, and what a stop leaves holds what it held.
+    pub fn merge(&mut self, page: &Page) -> Result<u64, FileErr>
+        requires open_ { self.old.open_ ≡ true }
+        ensures ok { IfOk result (HasMerged D.state page.now.points self.old self.new) }
+        ensures memory { IsErrOf result unread.Memory → self.new ≡ record self.old { disk = self.new.disk } }
+        ensures closed { IfErr result (λ why. why ≢ unread.Memory → self.new ≡ closed_over self.new.disk) }
+        ensures sound { (D.state self.old.disk).tells ≡ true → IfErr result IsUndamaged }
+        ensures disk { BringsWhole (of_points (risen_in self.old.content page.now.points)) (IsErrOf result unread.Disk) result (D.state self.old.disk) (D.state self.new.disk) }
+    {
+        let opened = self.opened.as_mut().unwrap();
+        let said = opened.merge(self.alloc, &mut self.disk, page.points.as_slice());
         close_unless(&mut self.opened, said)
     }
 

@@ -2,16 +2,16 @@
 ghost use Rattle.std.specs.Prelude.{◌≡◌, ◌≤◌, ◌<◌, ◌++◌, ◌∷◌, List, length, map, take, drop, vec_len, vec_capacity, IfOk};
 ghost use Rattle.std.specs.Ordering.{is_lt};
 ghost use Rattle.m3_model.specs.declared.point.Series.{Series};
-ghost use Rattle.listed_volumes.specs.volume_bytes.Heads.{head_of};
+ghost use Rattle.store_log.specs.listed_volumes.volume_bytes.Heads.{head_of};
 ghost use Rattle.shard_open.specs.Loads.{known_of};
-ghost use Rattle.snapshot_steps.specs.volume_steps.KnownLists.{head_cmp, is_one_of, with_volume, without_volumes};
-ghost use Rattle.listed_volumes.specs.Listed.{known_as, known_in};
+ghost use Rattle.store_log.specs.snapshot_steps.volume_steps.KnownLists.{head_cmp, is_one_of, with_volume, without_volumes};
+ghost use Rattle.store_log.specs.listed_volumes.Listed.{known_as, known_in};
 
-use listed_volumes::of_volume_bytes::Head;
-use listed_volumes::{ListedVolume, list_volume};
 use m3_model::Memory;
 use shard_open::OpenVolume;
 use std::alloc::Global;
+use store_log::of_listed_volumes::{ListedVolume, list_volume};
+use store_log::of_volume_bytes::Head;
 
 // The volumes, as they were loaded.
 pub(crate) fn listed(alloc: Global, opened: &[OpenVolume]) -> Result<Vec<ListedVolume>, Memory>

@@ -142,7 +142,16 @@ module _ (start : Option MetaState) (past : List Event) (Old New : ℕ → Event
   hears_on a (answer.Consistency got needed reasons s) h = too_few_on got needed reasons s h
   hears_on a (answer.Outcomes outcomes) h = record { messages = h.messages; in_order = h.in_order; each = outcomes_on h.messages outcomes h.each }
   hears_on a (answer.Swept done failed) h = record { counted = λ x m. step_on (IsSweepCall a) x.0 x.1 (reply.Count x.2) (h.counted x m); refused = λ x m. reason_on (IsSweepCall a) x.0 x.1 x.2 (h.refused x m) }
-  hears_on a (answer.Peers got needed reasons s) h = λ x m. reason_on IsStreamCall x.0 s x.1 (h x m)
+  hears_on a (answer.Peers got needed reasons s) h = record {
+    place = h.place;
+    last = h.last;
+    assignments = h.assignments;
+    there = h.there;
+    joining = h.joining;
+    among = h.among;
+    is_joining = h.is_joining;
+    heard = λ x m. reason_on (IsStreamCall (h.joining).tenure) x.0 s x.1 (h.heard x m);
+  }
   hears_on a (answer.Repaired shards) h = λ x m y k. reason_on IsRepairCall y.0 x.shard y.1 (h x m y k)
   hears_on a (answer.Status now replicas version) h = status_on now version replicas h
   hears_on (act.Init rf shards seed nodes) (answer.Placed place version) h = λ n s tenure given. let step = h n s tenure given in (step.0, step.1, step_on (IsBeginOf tenure) n s step.0 step.2)

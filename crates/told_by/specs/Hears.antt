@@ -10,14 +10,17 @@ use Rattle.m3_model.specs.declared.answer.Answer.{Answer}
 use Rattle.m3_model.specs.declared.answer.Answer.TheVariants as answer
 use Rattle.m3_model.specs.declared.answer.RepairLine.{RepairLine}
 use Rattle.m3_model.specs.declared.answer.StatusLine.{StatusLine}
+use Rattle.m3_model.specs.declared.placement.Assignment.{Assignment}
 use Rattle.m3_model.specs.declared.placement.Instance.{Instance}
 use Rattle.m3_model.specs.declared.placement.Placement.{Placement}
+use Rattle.m3_model.specs.declared.placement.ShardState.TheVariants.{Initializing}
 use Rattle.m3_model.specs.declared.reason.Reason.{Reason}
 use Rattle.m3_model.specs.declared.reason.Reason.TheVariants as reason
 use Rattle.m3_model.specs.declared.replica.Report.{Report}
 use Rattle.m3_model.specs.declared.rules.MetaState.{MetaState}
 use Rattle.m3_model.specs.declared.rules.Rules.{Rules}
 use Rattle.placement_core.specs.NodeNames.{IsNamedBelow}
+use Rattle.placement_core.specs.Shards.{Shard}
 use Rattle.cluster_core.specs.Earlier.{HasTenure, last_clock, last_place}
 use Rattle.cluster_core.specs.Lists.{At, IsDistinct}
 use Rattle.cluster_core.specs.declared.event.Event.{Event}
@@ -225,11 +228,11 @@ IsJoinCall (call.Begin tenure) = ⊤
 IsJoinCall (call.Merge page) = ⊤
 IsJoinCall _ = ⊥
 
--- what a bootstrap asks of a former replica
-abbrev pub IsStreamCall : StepCall → Type 0
-IsStreamCall (call.Fence version) = ⊤
-IsStreamCall (call.Page from) = ⊤
-IsStreamCall _ = ⊥
+-- what a bootstrap asks of a former replica for a move that began at the version
+abbrev pub IsStreamCall : ℕ → StepCall → Type 0
+IsStreamCall version (call.Fence at_version) = at_version ≡ version
+IsStreamCall version (call.Page from) = ⊤
+IsStreamCall version _ = ⊥
 
 -- what an upkeep line asks of each replica
 abbrev pub IsSweepCall : Act → StepCall → Type 0
@@ -250,6 +253,17 @@ abbrev pub HearsReason : (ℕ → Event → Type 0) → (StepCall → Type 0) �
 HearsReason Here Kind node shard reason.Memory = ⊤
 HearsReason Here Kind node shard (reason.Corrupt damage) = IsShown damage × HasStep Here Kind node shard (reply.Refused (reason.Corrupt damage))
 HearsReason Here Kind node shard why = HasStep Here Kind node shard (reply.Refused why)
+
+-- each reason of a former replica is its answer for a move of the shard that goes on
+pub record HearsPeers (past : List Event) (Here : ℕ → Event → Type 0) (shard : ℕ) (reasons : List (ℕ × Reason)) : Type 0 where
+  pub place : Placement
+  pub last : last_place past ≡ Some place
+  pub assignments : Shard
+  pub there : At place.shards shard assignments
+  pub joining : Assignment
+  pub among : IsIn assignments joining
+  pub is_joining : joining.state ≡ Initializing
+  pub heard : (x : ℕ × Reason) → IsIn reasons x → HearsReason Here (IsStreamCall joining.tenure) x.0 shard x.1
 
 -- each count of a sweep is the answer of the slot's step, and so is each reason but for want of memory
 pub record HearsSwept (Here : ℕ → Event → Type 0) (Kind : StepCall → Type 0) (done : List (ℕ × ℕ × ℕ)) (failed : List (ℕ × ℕ × Reason)) : Type 0 where
@@ -305,7 +319,7 @@ HearsBy start past Here p a (answer.Found series short) = HearsFound start Here 
 HearsBy start past Here p a (answer.Consistency got needed reasons shard) = HearsTooFew start Here p got needed reasons shard
 HearsBy start past Here p a (answer.Outcomes outcomes) = HearsDelivered start Here p outcomes
 HearsBy start past Here p a (answer.Swept done failed) = HearsSwept Here (IsSweepCall a) done failed
-HearsBy start past Here p a (answer.Peers got needed reasons shard) = (x : ℕ × Reason) → IsIn reasons x → HearsReason Here IsStreamCall x.0 shard x.1
+HearsBy start past Here p a (answer.Peers got needed reasons shard) = HearsPeers past Here shard reasons
 HearsBy start past Here p a (answer.Repaired shards) = (x : RepairLine) → IsIn shards x → (y : ℕ × Reason) → IsIn x.failed y → HearsReason Here IsRepairCall y.0 x.shard y.1
 HearsBy start past Here p a (answer.Status now replicas version) = HearsStatus past Here now version replicas
 HearsBy start past Here p (act.Init rf shards seed nodes) (answer.Placed place version) = HearsOpened Here place

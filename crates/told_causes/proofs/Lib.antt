@@ -15,3 +15,4 @@ pub mod AloneLemmas
 pub mod StoodLemmas
 pub mod NodeLemmas
 pub mod KnownLemmas
+pub mod PeerLemmas

@@ -7,3 +7,4 @@ pub mod Sample
 pub mod Running
 pub mod Sweeps
 pub mod Nodes
+pub mod Peers

@@ -29,6 +29,7 @@ use Rattle.cluster_core.specs.declared.replica_state.ReplicaState.{ReplicaState}
 use Rattle.cluster_core.proofs.ListLemmas.{at_append, at_take, at_within}
 use Rattle.cluster_core.proofs.PlaceLemmas.{placed_at}
 use Rattle.cluster_core.proofs.TraceLemmas.{lawful_step, open_begun, replica_own}
+use Rattle.transcripts.specs.Fates.{OfNode}
 use Rattle.transcripts.specs.Moves.{IsNew, IsUnowned, OwnsNot, is_begun_in, placement_by}
 use Rattle.transcripts.specs.Placements.{MayStand, has_replica, placement_after, printed, start_placement}
 use Rattle.transcripts.specs.Record.{InnerTurn, TurnPosition, IsTurnPosition, inner_turns, joined, lists_of}
@@ -47,10 +48,10 @@ use Rattle.told_causes.proofs.HaltLemmas.{late_step, opening_two}
 use Rattle.told_causes.proofs.NameLemmas.{any_found, name_is}
 use Rattle.told_causes.proofs.RefusalLemmas.{first_down, refused_law}
 use Rattle.told_causes.proofs.WaitLemmas.{EndsWait, assigned_by, is_member_of, member_given, member_place}
-use Rattle.told_moves.specs.Moves.{IsQuiet, IsRefusedAt, NotOwnedIsSaid}
+use Rattle.told_moves.specs.Moves.{IsQuiet, IsRefusedAt, NotOwnedIsSaid, StreamsAreOwned}
 use Rattle.told_moves.specs.Order.{IsInOrder}
 use Rattle.told_moves.proofs.AskLemmas.{begin_asked}
-use Rattle.told_moves.proofs.ReasonLemmas.{RefusedIn, refused_in}
+use Rattle.told_moves.proofs.ReasonLemmas.{RefusedIn, refused_in, refused_stream}
 use Rattle.told_moves.proofs.SlotLemmas.{EndedAt, IsEnded, Tries, ended_at, owned_began, slot, tried_began}
 use Rattle.told_moves.proofs.TenureLemmas.{GivenAt, given_by, line_low, member_named, member_tenure, name_everywhere, stands_at, tenure_grows}
 
@@ -259,12 +260,12 @@ module _ {tells : Bool} (start : Option MetaState) (turns : List Turn) (events :
             ∙ none_begun x (placed k) (placed (suc k)) (inner_turns (line ∷ [])) (λ t m h. boot_clash is i bound e k less begins finishes line here t m h)
 
     -- an open replica without a tenure is of a node that has none of the shard, or is new
-    ended_unowned : (p : TurnPosition) → IsTurnPosition turns p → IsQuiet p → (version i : ℕ) → (told.spans).from p ≤ i → i < (told.spans).to p → (place : Placement) → last_place (take i events) ≡ Some place → MayStand start p place → EndedAt events legal n s i
+    ended_unowned : (p : TurnPosition) → IsTurnPosition turns p → printed p.turn.answer ≡ None → (version i : ℕ) → (told.spans).from p ≤ i → i < (told.spans).to p → (place : Placement) → last_place (take i events) ≡ Some place → MayStand start p place → EndedAt events legal n s i
         → OwnsNot start p s n version ⊎ IsNew tells x start p
     ended_unowned p at quiet version i low high place last stands e =
         elim (cases_Bool (has_replica (Some place) s n)) as (λ _. OwnsNot start p s n version ⊎ IsNew tells x start p) [
           | inr gone ↦ inl (record { place = place; may_stand = stands; not_owned = inl gone })
-          | inl member ↦ inr (is_new p at quiet.prints_none i low (omega (arith, high, (told.tells).order.not_above p at)) e (by_member member))
+          | inl member ↦ inr (is_new p at quiet i low (omega (arith, high, (told.tells).order.not_above p at)) e (by_member member))
         ]
       where
         was : (at_end : Placement) × (last_place (take e.position events) ≡ Some at_end)
@@ -281,10 +282,10 @@ module _ {tells : Bool} (start : Option MetaState) (turns : List Turn) (events :
             let given = member_given place s n member in
             elim (cases_lt e.position (told.ends k)) as (λ _. WasAssigned x e.position k) [
               | inl lt ↦
-                  let h = had_before start turns events legal told order.places p at quiet.prints_none i (omega (arith, (told.lines).low p at, low)) line_end place last in
+                  let h = had_before start turns events legal told order.places p at quiet i (omega (arith, (told.lines).low p at, low)) line_end place last in
                   assigned_at x e.position was.0 (late_step events legal e.position n s call.End reply.Done e.there) was.1 gone k (omega (arith, line_below turns p at)) lt (ap (is_member x) h.2 ∙ is_member_of h.0 s n given.0 (h.3 n s given.0 given.1))
               | inr ge ↦
-                  let old = back start turns events legal told order.places k (line_below turns p at) (λ z next done above below there. (gives_none start turns events legal told order.places p at quiet.prints_none z next done above below there).0) e.position i ge (omega (arith, below)) line_end was.0 place was.1 last n s given.0 given.1 in
+                  let old = back start turns events legal told order.places k (line_below turns p at) (λ z next done above below there. (gives_none start turns events legal told order.places p at quiet z next done above below there).0) e.position i ge (omega (arith, below)) line_end was.0 place was.1 last n s given.0 given.1 in
                   let bad : true ≡ false = sym (is_member_of was.0 s n given.0 old) ∙ gone in
                   cc
             ]
@@ -295,7 +296,7 @@ module _ {tells : Bool} (start : Option MetaState) (turns : List Turn) (events :
         | inr t ↦ inl (above_owns_not p n s used.version t.0 r.at r.place r.bound r.last r.stands t.1 t.2)
         | inl none ↦
             let e = ended_at events legal n s r.at r.bound (record { open_ = r.open_; none = none }) in
-            elim (ended_unowned n s h.name (name_everywhere events legal n used h.name h.placed h.named) p at quiet used.version r.at r.low r.high r.place r.last r.stands e) as (λ _. IsUnowned tells start p used s n) [
+            elim (ended_unowned n s h.name (name_everywhere events legal n used h.name h.placed h.named) p at quiet.prints_none used.version r.at r.low r.high r.place r.last r.stands e) as (λ _. IsUnowned tells start p used s n) [
               | inl not ↦ inl not
               | inr new ↦
                   let named = h.named in
@@ -303,5 +304,21 @@ module _ {tells : Bool} (start : Option MetaState) (turns : List Turn) (events :
             ]
       ]
 
+  stream_owned_at : (p : TurnPosition) → IsTurnPosition turns p → printed p.turn.answer ≡ None → (place : Placement) (s n version : ℕ) (name : List ℕ) → OfNode place n (λ own. own ≡ name) → IsNamedBy events n name → RefusedIn start turns events told p n s version reason.NotOwned
+      → OwnsNot start p s n version ⊎ OfNode place n (λ own. IsNew tells (record { shard = s; node = n; name = own }) start p)
+  stream_owned_at p at quiet place s n version name named everywhere r =
+      elim r.founds as (λ _. OwnsNot start p s n version ⊎ OfNode place n (λ own. IsNew tells (record { shard = s; node = n; name = own }) start p)) [
+        | inr t ↦ inl (above_owns_not p n s version t.0 r.at r.place r.bound r.last r.stands t.1 t.2)
+        | inl none ↦
+            let e = ended_at events legal n s r.at r.bound (record { open_ = r.open_; none = none }) in
+            elim (ended_unowned n s name everywhere p at quiet version r.at r.low r.high r.place r.last r.stands e) as (λ _. OwnsNot start p s n version ⊎ OfNode place n (λ own. IsNew tells (record { shard = s; node = n; name = own }) start p)) [
+              | inl not ↦ inl not
+              | inr new ↦ inr (record { instance_ = named.instance_; stands = named.stands; holds = subst (λ own. IsNew tells (record { shard = s; node = n; name = own }) start p) (sym named.holds) new })
+            ]
+      ]
+
 pub not_owned_said : {tells : Bool} → NotOwnedIsSaid tells
 not_owned_said start turns events legal told order p at quiet used s n h = not_owned_at start turns events legal told order p at quiet used s n h (refused_in start turns events legal told order p at quiet used s n reason.NotOwned tt h)
+
+pub streams_owned : {tells : Bool} → StreamsAreOwned tells
+streams_owned start turns events legal told order p at quiet place s n version name named everywhere h = stream_owned_at start turns events legal told order p at quiet place s n version name named everywhere (refused_stream start turns events legal told order p at quiet version s n h)

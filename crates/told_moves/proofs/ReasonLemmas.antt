@@ -16,7 +16,7 @@ use Rattle.m3_model.specs.declared.rules.Space.{Space}
 use Rattle.m3_model.specs.declared.turn.Turn.{Turn}
 use Rattle.cluster_core.specs.Earlier.{last_place}
 use Rattle.cluster_core.specs.Legal.{Legal}
-use Rattle.cluster_core.specs.Refusals.{first_refusal, outdated, outside, outside_of, reason_if, shut, unowned}
+use Rattle.cluster_core.specs.Refusals.{first_refusal, outdated, outside, outside_of, reason_if, shut, unowned, untenured}
 use Rattle.cluster_core.specs.Replicas.{replica}
 use Rattle.cluster_core.specs.Rows.{ReplicaMayRefuse}
 use Rattle.cluster_core.specs.declared.event.Event.{Event}
@@ -25,8 +25,9 @@ use Rattle.cluster_core.specs.declared.event.StepCall.TheVariants as call
 use Rattle.cluster_core.specs.declared.event.StepReply.TheVariants as reply
 use Rattle.cluster_core.specs.declared.replica_state.ReplicaState.{ReplicaState}
 use Rattle.cluster_core.proofs.TraceLemmas.{lawful_step}
-use Rattle.transcripts.specs.Placements.{MayStand}
+use Rattle.transcripts.specs.Placements.{MayStand, printed}
 use Rattle.transcripts.specs.Record.{TurnPosition, IsTurnPosition}
+use Rattle.told_by.specs.Hears.{HasStep, InStretch, IsStreamCall}
 use Rattle.told_by.specs.Told.{ToldBy}
 use Rattle.told_causes.proofs.RefusalLemmas.{or_cases, refused_law}
 use Rattle.told_moves.specs.Moves.{IsAtVersion, IsQuiet, IsRefusedAt}
@@ -151,3 +152,37 @@ refused_in {tells} start turns events legal told order p at quiet used s n why i
     let move = refused_move r h.asked used.version why h.at_version is (first_is tells (take i events) s r h.asked used.version why h.at_version is law) in
     let place = stands_at start turns events legal told order i n s h.asked (reply.Refused why) there in
     record { at = i; low = low; high = high; bound = omega (arith, high, (told.tells).order.not_above p at); place = place.0; last = place.1; stands = may_stand start turns events legal told order.places p at quiet.prints_none i low (omega (arith, high)) place.0 place.1; open_ = move.0; founds = move.1 }
+
+-- ---- what is refused of a stream
+
+-- a fence or a page that is refused as not owned is so by an open replica's tenure
+stream_move : (r : ReplicaState) (c : StepCall) (version : ℕ) → IsStreamCall version c → first_refusal r c ≡ Some reason.NotOwned → (r.standing ≡ standing.Open) × IsAbove r.tenure version
+stream_move r (call.Fence at_version) version same e =
+    let h = open_or r.standing (unowned r.tenure at_version) reason.NotOwned tt e in (
+      h.0,
+      subst (IsAbove r.tenure) same (elim (unowned_cases r.tenure at_version) as (λ _. IsAbove r.tenure at_version) [ inl above ↦ above.1 | inr none ↦ (let bad : None ≡ Some reason.NotOwned = sym none.0 ∙ h.1 in cc) ]),
+    )
+stream_move r (call.Page from) version same e = let h = open_or r.standing (untenured r.tenure) reason.NotOwned tt e in (h.0, inl (no_tenure r.tenure h.1))
+  where
+    no_tenure : (o : Option ℕ) → untenured o ≡ Some reason.NotOwned → o ≡ None
+    no_tenure None is = refl
+    no_tenure (Some tenure) is = cc
+stream_move r _ version same e = absurd same
+
+first_of : (tells : Bool) (past : List Event) (s : ℕ) (r : ReplicaState) (c : StepCall) (version : ℕ) → IsStreamCall version c → ReplicaMayRefuse tells past s r c reason.NotOwned → first_refusal r c ≡ Some reason.NotOwned
+first_of tells past s r (call.Fence at_version) version same h = h
+first_of tells past s r (call.Page from) version same h = h
+first_of tells past s r _ version same h = absurd same
+
+pub refused_stream : {tells : Bool} → (start : Option MetaState) (turns : List Turn) (events : List Event) → Legal tells events → (told : ToldBy start turns events) → IsInOrder start turns events told → (p : TurnPosition) → IsTurnPosition turns p → printed p.turn.answer ≡ None
+    → (version s n : ℕ) → HasStep (InStretch events (told.spans.from p) (told.spans.to p)) (IsStreamCall version) n s (reply.Refused reason.NotOwned) → RefusedIn start turns events told p n s version reason.NotOwned
+refused_stream {tells} start turns events legal told order p at quiet version s n h =
+    let i = (h.2).0 in
+    let low = ((h.2).1).0 in
+    let high = ((h.2).1).1 in
+    let there = ((h.2).1).2 in
+    let r = replica n s (take i events) in
+    let law = refused_law tells (take i events) n s r h.0 reason.NotOwned (lawful_step events legal i n s h.0 (reply.Refused reason.NotOwned) there) in
+    let move = stream_move r h.0 version h.1 (first_of tells (take i events) s r h.0 version h.1 law) in
+    let place = stands_at start turns events legal told order i n s h.0 (reply.Refused reason.NotOwned) there in
+    record { at = i; low = low; high = high; bound = omega (arith, high, (told.tells).order.not_above p at); place = place.0; last = place.1; stands = may_stand start turns events legal told order.places p at quiet i low (omega (arith, high)) place.0 place.1; open_ = move.0; founds = move.1 }

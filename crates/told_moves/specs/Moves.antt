@@ -1,5 +1,5 @@
 -- Why a replica's node doesn't own its shard, and why a replica is fenced: moves of the shard.
-use Rattle.std.specs.Prelude.{◌≡◌, ℕ, List, Option, None, true, Bool}
+use Rattle.std.specs.Prelude.{◌≡◌, ◌⊎◌, ℕ, List, Option, None, true, Bool}
 use Rattle.m3_model.specs.declared.placement.Placement.{Placement}
 use Rattle.m3_model.specs.declared.reason.Reason.{Reason}
 use Rattle.m3_model.specs.declared.reason.Reason.TheVariants as reason
@@ -13,10 +13,10 @@ use Rattle.cluster_core.specs.declared.event.StepCall.{StepCall}
 use Rattle.cluster_core.specs.declared.event.StepCall.TheVariants as call
 use Rattle.cluster_core.specs.declared.event.StepReply.TheVariants as reply
 use Rattle.transcripts.specs.Fates.{OfNode}
-use Rattle.transcripts.specs.Moves.{IsFencedAbove, IsUnowned}
+use Rattle.transcripts.specs.Moves.{IsFencedAbove, IsNew, IsUnowned, OwnsNot}
 use Rattle.transcripts.specs.Placements.{printed}
 use Rattle.transcripts.specs.Record.{TurnPosition, IsTurnPosition}
-use Rattle.told_by.specs.Hears.{Happens, InStretch}
+use Rattle.told_by.specs.Hears.{Happens, HasStep, InStretch, IsNamedBy, IsStreamCall}
 use Rattle.told_by.specs.Told.{ToldBy}
 use Rattle.told_causes.specs.Boot.{IsBootAct}
 use Rattle.told_moves.specs.Order.{IsInOrder, OpensWithin}
@@ -58,3 +58,12 @@ abbrev pub StaleIsSaid : Type 0
 StaleIsSaid =
     (start : Option MetaState) (turns : List Turn) (events : List Event) → Legal true events → (told : ToldBy start turns events) → IsInOrder start turns events told → OpensWithin start events
     → (p : TurnPosition) → IsTurnPosition turns p → IsQuiet p → (used : Placement) (shard node fence : ℕ) → IsRefusedAt start turns events told p used shard node (reason.Stale fence) → IsFencedAbove start p used shard fence
+
+-- Where a former replica refuses a fence or a page as not owned, its node has no replica of the shard any more, or not yet, or has it since a version above that of the
+-- move; and so a transcript says of it by any placement that calls the node so.
+abbrev pub StreamsAreOwned : Bool → Type 0
+StreamsAreOwned tells =
+    (start : Option MetaState) (turns : List Turn) (events : List Event) → Legal tells events → (told : ToldBy start turns events) → IsInOrder start turns events told
+    → (p : TurnPosition) → IsTurnPosition turns p → printed p.turn.answer ≡ None → (place : Placement) (shard node version : ℕ) (name : List ℕ) → OfNode place node (λ own. own ≡ name) → IsNamedBy events node name
+    → HasStep (InStretch events (told.spans.from p) (told.spans.to p)) (IsStreamCall version) node shard (reply.Refused reason.NotOwned)
+    → OwnsNot start p shard node version ⊎ OfNode place node (λ own. IsNew tells (record { shard = shard; node = node; name = own }) start p)

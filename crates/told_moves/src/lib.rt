@@ -4,4 +4,4 @@
 
 pub mod moves;
 
-pub use moves::{not_owned_is_said, stale_is_said};
+pub use moves::{not_owned_is_said, stale_is_said, streams_are_owned};

@@ -1,20 +1,23 @@
 -- Why each answer of a run is what it is, put together.
 use Rattle.std.proofs.Common.{◌≡◌, ◌≤◌, ◌<◌, ℕ, suc, Bool, List, [], ◌∷◌, ◌++◌, take, length, refl, sym, ap, ◌∙◌, subst, inl, inr, arith}
-use Rattle.std.specs.Prelude.{Some, None, Option, IsTrue}
+use Rattle.std.specs.Prelude.{Some, None, Option, IsTrue, true, false, if◌then◌else◌}
 use Rattle.std.proofs.lemmas.Option.{same_Some}
-use Rattle.m3_model.proofs.MemberLemmas.{IsIn-append_left, IsIn-append_right}
+use Rattle.m3_model.proofs.MemberLemmas.{IsIn-append_left, IsIn-append_right, map-IsIn}
 use Rattle.m3_model.specs.Calls.{is_call}
 use Rattle.m3_model.specs.Members.{IsIn}
 use Rattle.m3_model.specs.declared.act.Act.{Act}
 use Rattle.m3_model.specs.declared.act.Act.TheVariants as act
 use Rattle.m3_model.specs.declared.answer.Answer.{Answer}
 use Rattle.m3_model.specs.declared.answer.Answer.TheVariants as answer
+use Rattle.m3_model.specs.declared.placement.Assignment.{Assignment}
 use Rattle.m3_model.specs.declared.placement.Placement.{Placement}
 use Rattle.m3_model.specs.declared.reason.Reason.{Reason}
 use Rattle.m3_model.specs.declared.reason.Reason.TheVariants as reason
 use Rattle.m3_model.specs.declared.rules.MetaState.{MetaState}
 use Rattle.m3_model.specs.declared.turn.Request.{Request}
 use Rattle.m3_model.specs.declared.turn.Turn.{Turn}
+use Rattle.placement_core.specs.Shards.{Shard, former, holders, is_holder, is_steady, nodes_of, shard_at}
+use Rattle.placement_core.proofs.HolderLemmas.{chosen_node}
 use Rattle.cluster_core.specs.Legal.{Legal}
 use Rattle.cluster_core.specs.declared.event.Event.{Event}
 use Rattle.cluster_core.specs.declared.event.Event.TheVariants as event
@@ -25,19 +28,22 @@ use Rattle.transcripts.specs.Caused.{Caused, CausedAt, HadBefore, IsDueBy, IsOwn
 use Rattle.transcripts.specs.Deliveries.{LateMessage}
 use Rattle.transcripts.specs.Faults.{Damaged, Failing, Fault, Taking}
 use Rattle.transcripts.specs.Levels.{MissesLevel}
+use Rattle.transcripts.specs.Peers.{IsJoinedWith, IsUnjoined, MissesMajority}
 use Rattle.transcripts.specs.Placements.{MayStand, printed}
 use Rattle.transcripts.specs.Record.{Record, TurnPosition, IsTurnPosition}
 use Rattle.transcripts.specs.Sweeps.{IsSwept, IsSweptOver}
-use Rattle.transcripts.proofs.MoreFaults.{AreAmong, different_both, failed_more, own_more, step_more}
+use Rattle.transcripts.proofs.MoreFaults.{AreAmong, break_more, different_both, failed_more, own_more, step_more}
 use Rattle.transcripts.proofs.SweepLemmas.{entry_slot, failed_entry}
-use Rattle.told_by.specs.Hears.{HearsBy, HearsSwept, InStretch, IsRestartCall, IsSweepCall}
+use Rattle.told_by.specs.Hears.{HearsBy, HearsPeers, HearsSwept, InStretch, IsRestartCall, IsSweepCall}
 use Rattle.told_by.specs.Openings.{opening_length}
 use Rattle.told_by.specs.Told.{ToldBy}
 use Rattle.told_by.proofs.LineLemmas.{line_below}
+use Rattle.told_causes.specs.Boot.{IsBootAct}
 use Rattle.told_causes.specs.Calls.{IsKnownCall, Within}
 use Rattle.told_causes.specs.Deliveries.{IsKnownDelivery}
 use Rattle.told_causes.specs.Faults.{fault_of, faults_told}
 use Rattle.told_causes.specs.Nodes.{AreReached, NamesReplica}
+use Rattle.told_causes.specs.Peers.{IsKnownStream}
 use Rattle.told_causes.specs.Standing.{HaltsAlone}
 use Rattle.told_causes.specs.Sweeps.{IsKnownSweep, IsSweepAct}
 use Rattle.told_causes.proofs.CallLemmas.{acks_said}
@@ -46,18 +52,22 @@ use Rattle.told_causes.proofs.FaultLemmas.{faults_different, faults_steps}
 use Rattle.told_causes.proofs.HaltLemmas.{take_cut}
 use Rattle.told_causes.proofs.LevelLemmas.{fetch_said, match_said, too_few_said}
 use Rattle.told_causes.proofs.NodeLemmas.{node_answers}
+use Rattle.told_causes.proofs.PeerLemmas.{peers_said}
+use Rattle.told_causes.proofs.StoodLemmas.{may_stand}
 use Rattle.told_causes.proofs.SweepLemmas.{sweeps_said}
+use Rattle.told_causes.proofs.WaitLemmas.{shard_is}
 use Rattle.told_moves.specs.Order.{IsInOrder}
 use Rattle.told_runs.specs.Answers.{AreAnswered, Delivers, HearsOf, IsAnswered, IsDecidedBy, IsOfKind}
 use Rattle.told_runs.specs.Bounds.{IsBounded}
 use Rattle.told_runs.proofs.BoundLemmas.{full_by_many}
 use Rattle.told_runs.proofs.MemberLemmas.{had_before}
 
--- What is known of the calls, the deliveries and the sweeps of a run.
+-- What is known of the calls, the deliveries, the sweeps and the streams of a run.
 pub record AreKnown (tells : Bool) (start : Option MetaState) (turns : List Turn) (events : List Event) (told : ToldBy start turns events) : Type 0 where
   pub calls : (p : TurnPosition) → IsTurnPosition turns p → IsTrue (is_call p.turn.act) → printed p.turn.answer ≡ None → IsKnownCall tells start turns events told p
   pub deliveries : (p : TurnPosition) → IsTurnPosition turns p → p.turn.act ≡ act.Deliver → printed p.turn.answer ≡ None → IsKnownDelivery tells start turns events told p
   pub sweeps : (p : TurnPosition) → IsTurnPosition turns p → IsSweepAct p.turn.act → printed p.turn.answer ≡ None → (place : Placement) → MayStand start p place → IsKnownSweep tells start turns events told p place
+  pub streams : (p : TurnPosition) → IsTurnPosition turns p → IsBootAct p.turn.act → printed p.turn.answer ≡ None → (place moving : Placement) → MayStand start p place → MayStand start p moving → (shard version : ℕ) → IsJoinedWith moving shard version → IsKnownStream tells start turns events told p place shard version
 
 module _ {tells : Bool} (taking : List Fault) (start : Option MetaState) (turns : List Turn) (events : List Event) (legal : Legal tells events) (told : ToldBy start turns events) (order : IsInOrder start turns events told) (halts : HaltsAlone turns) (known : AreKnown tells start turns events told) where
   abbrev told_faults : List Fault
@@ -109,6 +119,30 @@ module _ {tells : Bool} (taking : List Fault) (start : Option MetaState) (turns 
             failed_more tells told_faults all_faults told_among start p over.place x.1 x.0 x.2 (sweeps_said start turns events told p over.place k x.1 x.0 among x.2 (hears.refused x m));
       }
 
+  -- a bootstrap that missed a majority
+  former_node : (shard : Shard) (n : ℕ) → IsIn (former shard) n → IsIn (nodes_of shard) n
+  former_node shard n m = by (is_steady shard) m
+    where
+      by : (steady : Bool) → IsIn (if steady then [] else holders shard) n → IsIn (nodes_of shard) n
+      by true none = absurd none
+      by false among = let x = chosen_node is_holder shard n among in subst (IsIn (nodes_of shard)) (x.2) (map-IsIn (λ (a : Assignment). a.node) shard x.0 x.1)
+
+  of_peers : (p : TurnPosition) → IsTurnPosition turns p → (node : List ℕ) (asked : Option ℕ) (got needed : ℕ) (reasons : List (ℕ × Reason)) (shard : ℕ) → p.turn.act ≡ act.Bootstrap node asked → p.turn.answer ≡ answer.Peers got needed reasons shard → MissesMajority start p node asked got needed reasons shard
+      → IsUnjoined tells all_faults start p node asked got needed reasons shard
+  of_peers p at node asked got needed reasons shard acts answers misses =
+      let hears : HearsPeers (take ((told.spans).from p) events) (Within events told.spans p) shard reasons =
+      subst (λ b. HearsBy start (take ((told.spans).from p) events) (Within events told.spans p) p p.turn.act b) answers ((told.tells).hears p at) in
+      let prints : printed p.turn.answer ≡ None = ap printed answers in
+      let moving = may_stand start turns events legal told order.places p at prints ((told.spans).from p) (omega arith) ((told.tells).order.not_back p at) hears.place hears.last in
+      let joins : IsJoinedWith hears.place shard (hears.joining).tenure =
+      record { joining = hears.joining; among = subst (λ xs. IsIn xs hears.joining) (sym (shard_is (hears.place).shards shard hears.assignments hears.there)) hears.among; is_joining = hears.is_joining; tenure_is = refl } in
+      let k = known.streams p at (subst IsBootAct (sym acts) tt) prints misses.place hears.place misses.stands moving shard (hears.joining).tenure joins in
+      record {
+        misses = misses;
+        refused = λ r m. break_more tells told_faults all_faults told_among start p misses.place shard r.0 r.1
+            (peers_said start turns events told p misses.place shard (hears.joining).tenure k r.0 (former_node (shard_at misses.place shard) r.0 (misses.of_former r m)) r.1 (hears.heard r m));
+      }
+
   -- the answer is the act's own
   own_by : (p : TurnPosition) → IsTurnPosition turns p → (a : Act) (b : Answer) → p.turn.act ≡ a → p.turn.answer ≡ b → (messages : List LateMessage) → HearsOf start (Within events told.spans p) p messages b → IsOfKind taking start p a b
       → IsOwn tells all_faults start messages p a b
@@ -125,6 +159,8 @@ module _ {tells : Bool} (taking : List Fault) (start : Option MetaState) (turns 
   own_by p at (act.Restart node pick) (answer.Disk name shard) acts answers messages h kind = of_node p at (act.Restart node pick) (answer.Disk name shard) acts answers refl shard refl messages
   own_by p at (act.Bootstrap node asked) (answer.Available available place version) acts answers messages h kind = kind
   own_by p at (act.Bootstrap node asked) (answer.Disk name shard) acts answers messages h kind = of_node p at (act.Bootstrap node asked) (answer.Disk name shard) acts answers refl shard refl messages
+  own_by p at (act.Bootstrap node asked) (answer.Peers got needed reasons shard) acts answers messages h kind = of_peers p at node asked got needed reasons shard acts answers kind
+  own_by p at (act.Bootstrap node asked) (answer.Limit limit) acts answers messages h kind = kind
   own_by p at (act.Bootstrap node asked) (answer.Corrupt name shard damage) acts answers messages h kind = of_node p at (act.Bootstrap node asked) (answer.Corrupt name shard damage) acts answers refl shard refl messages
   own_by p at (act.Add node group) b acts answers messages h kind = step_more taking all_faults taking_among start p (act.Add node group) b kind
   own_by p at (act.Drain node) b acts answers messages h kind = step_more taking all_faults taking_among start p (act.Drain node) b kind
@@ -155,13 +191,13 @@ module _ {tells : Bool} (taking : List Fault) (start : Option MetaState) (turns 
   due_by p at messages heard (Some refusal) h = h
   due_by p at messages heard None h = own_by p at p.turn.act p.turn.answer refl refl messages heard h
 
-  module _ (past : List Record) (bounded : IsBounded past turns told.ends) where
+  module _ (past : List Record) (bounded : tells ≡ true → IsBounded past turns told.ends) where
     caused_at : (p : TurnPosition) → IsTurnPosition turns p → (messages : List LateMessage) → Delivers start events told.spans p messages → IsAnswered taking start ((told.spans).to p) p → CausedAt tells all_faults past start messages p
     caused_at p at messages heard (inl memory) = inl memory
     caused_at p at messages heard (inr (inl full)) =
         let less : length p.lines < length turns = line_below turns p at in
         let lines : take (suc (length p.lines)) turns ≡ p.lines ++ p.line ∷ [] = ap (take (suc (length p.lines))) at.in_run ∙ take_cut p.lines p.line at.after in
-        inr (inl (full.0, full_by_many past turns told.ends bounded first p lines less ((told.spans).to p) ((told.lines).high p at) full.1))
+        inr (inl (full.0, λ is. full_by_many past turns told.ends (bounded is) first p lines less ((told.spans).to p) ((told.lines).high p at) full.1))
       where
         first_low : (o : Option MetaState) → opening_length o ≤ 2
         first_low None = omega arith

@@ -71,12 +71,12 @@ serves_first tells = record {
     fenced = λ i n s tenure fence points adds none. inl (at_before (λ k x. x ≡ event.Step n s (call.Begin tenure) (reply.Began fence points) → fence ≡ tenure) (λ e. absurd (cc), (λ e. absurd (cc), (λ e. absurd (cc), (λ e. let t : 1 ≡ tenure = cc in let f : 1 ≡ fence = cc in sym f ∙ t, tt)))) i (event.Step n s (call.Begin tenure) (reply.Began fence points)) adds.1 refl);
     owned = λ i n s tenure adds. absurd (at_before (λ k x. x ≡ event.Step n s (call.Begin tenure) (reply.Refused reason.NotOwned) → ⊥) (λ e. cc, (λ e. cc, (λ e. cc, (λ e. cc, tt)))) i (event.Step n s (call.Begin tenure) (reply.Refused reason.NotOwned)) adds.1 refl);
   };
-  answered = inr (inr ([], record { others = []; some_of = tt; are = refl }, record { before = moving; stands = ([], record { others = []; some_of = tt; are = refl }, refl); made = inl refl; left = refl; version_is = refl }));
+  answered = inr (inr ([], record { others = []; some_of = tt; are = refl }, record { before = moving; stands = ([], record { others = []; some_of = tt; are = refl }, refl); room = tt; made = inl refl; left = refl; version_is = refl }));
   delivers = tt;
   not_again = λ q at x y m. absurd m;
   untaken_are = λ fault m. absurd m;
   different = tt;
-  bound = omega arith;
+  bound = λ is. omega arith;
 }
   where
     no_place : (i : ℕ) (place : Placement) (done : List (ℕ × ℕ)) → 2 ≤ i → At events_before i (event.Place place done) → ⊥
@@ -146,7 +146,7 @@ serves_second tells = record {
     each = each_turn (λ p. IsAnswered [] start (second_line.spans.to p) p)
         (inr (inr (inner_turns lines_before ++ [], after_lines 1 writing.beside writing.turn, tt)))
         (inr (inr (inner_turns lines_before ++ [], after_lines 2 reading.beside reading.turn, tt)))
-        (inr (inr (inner_turns lines_before ++ [], after_lines 3 moving_it.beside moving_it.turn, record { before = moving; stands = (inner_turns lines_before ++ [], after_lines 3 moving_it.beside moving_it.turn, refl); made = inl refl; left = ends_moves; version_is = refl })));
+        (inr (inr (inner_turns lines_before ++ [], after_lines 3 moving_it.beside moving_it.turn, record { before = moving; stands = (inner_turns lines_before ++ [], after_lines 3 moving_it.beside moving_it.turn, refl); made = inl refl; room = omega arith; left = ends_moves; version_is = refl })));
     delivers = each_turn (λ p. Delivers start events second_line.spans p []) tt tt tt;
     not_again = λ p q h k x y m. absurd m;
     once = λ p q h k x y m. absurd m;
@@ -154,7 +154,7 @@ serves_second tells = record {
     untaken_are = λ fault m. absurd m;
     different = tt;
   };
-  bound = omega arith;
+  bound = λ is. omega arith;
 }
 
 abbrev delivered : TurnPosition → List LateMessage

@@ -9,7 +9,7 @@ use Rattle.transcripts.specs.Faults.{Fault}
 use Rattle.transcripts.specs.Placements.{printed}
 use Rattle.transcripts.specs.Record.{Life, TurnPosition, IsTurnPosition}
 use Rattle.told_by.specs.Told.{ToldBy}
-use Rattle.told_moves.proofs.OwnLemmas.{not_owned_said}
+use Rattle.told_moves.proofs.OwnLemmas.{not_owned_said, streams_owned}
 use Rattle.told_moves.proofs.StaleLemmas.{stale_said}
 use Rattle.told_runs.specs.Laws.{IsCausedWhereTold, IsGivenAlone, IsServedRun}
 use Rattle.told_runs.proofs.AnswerLemmas.{AreKnown, caused}
@@ -25,7 +25,7 @@ known_run life events legal told taking delivered served =
     let run = life.present in
     let order = in_order taking run.start run.turns events legal told (served.answers).each served.order in
     let silent : (q : TurnPosition) → IsTurnPosition run.turns q → IsTrue (is_call q.turn.act) → printed q.turn.answer ≡ None = λ q at calls. call_silent taking run.start q ((told.spans).to q) calls ((served.answers).each q at) in
-    are_known run.start run.turns events legal told order served.halts served.opens (λ is. owns run.start run.turns events (subst (λ (known : Bool). Legal known events) is legal) told order (served.owned is)) not_owned_said stale_said silent
+    are_known run.start run.turns events legal told order served.halts served.opens (λ is. owns run.start run.turns events (subst (λ (known : Bool). Legal known events) is legal) told order (served.owned is)) not_owned_said stale_said streams_owned silent
 
 pub told_caused : {tells : Bool} → IsCausedWhereTold tells
 told_caused life events legal told taking delivered served =

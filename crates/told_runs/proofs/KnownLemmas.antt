@@ -25,6 +25,7 @@ use Rattle.transcripts.specs.Calls.{Call, call_of}
 use Rattle.transcripts.specs.Deliveries.{IsBeside, IsLateMessage, LateMessage, shard_of_message}
 use Rattle.transcripts.specs.Fates.{OfNode}
 use Rattle.transcripts.specs.Faults.{Fault}
+use Rattle.transcripts.specs.Peers.{IsJoinedWith}
 use Rattle.transcripts.specs.Placements.{IsCounted, MayStand, has_replica, placement_after, printed, start_placement}
 use Rattle.transcripts.specs.Reasons.{MayFail}
 use Rattle.transcripts.specs.Record.{TurnPosition, IsTurnPosition, inner_turns}
@@ -36,9 +37,10 @@ use Rattle.told_causes.specs.Calls.{IsExplainedAt, IsExplained, IsKnownCall, IsN
 use Rattle.told_causes.specs.Deliveries.{IsKnownDelivery}
 use Rattle.told_causes.specs.Faults.{faults_told}
 use Rattle.told_causes.specs.Standing.{HaltsAlone}
+use Rattle.told_causes.specs.Peers.{IsKnownStream}
 use Rattle.told_causes.specs.Sweeps.{IsKnownSweep, IsSweepAct}
 use Rattle.told_causes.proofs.WaitLemmas.{member_at}
-use Rattle.told_moves.specs.Moves.{IsAtVersion, IsPlacedIn, IsQuiet, IsRefusedAt, NotOwnedIsSaid, StaleIsSaid}
+use Rattle.told_moves.specs.Moves.{IsAtVersion, IsPlacedIn, IsQuiet, IsRefusedAt, NotOwnedIsSaid, StaleIsSaid, StreamsAreOwned}
 use Rattle.told_moves.specs.Order.{IsInOrder, OpensWithin}
 use Rattle.told_moves.proofs.TenureLemmas.{member_named, name_everywhere}
 use Rattle.told_runs.proofs.AnswerLemmas.{AreKnown}
@@ -46,7 +48,7 @@ use Rattle.told_runs.proofs.MemberLemmas.{counted_member, listed_member, was_the
 use Rattle.told_runs.proofs.UsedLemmas.{IsKnownPlace, used_known}
 
 module _ {tells : Bool} (start : Option MetaState) (turns : List Turn) (events : List Event) (legal : Legal tells events) (told : ToldBy start turns events) (order : IsInOrder start turns events told) (halts : HaltsAlone turns) (opens : tells ≡ true → OpensWithin start events)
-    (owns : tells ≡ true → (node shard : ℕ) → OwnsWhereBegun start turns events told node shard) (not_owned : NotOwnedIsSaid tells) (stale : StaleIsSaid) where
+    (owns : tells ≡ true → (node shard : ℕ) → OwnsWhereBegun start turns events told node shard) (not_owned : NotOwnedIsSaid tells) (stale : StaleIsSaid) (streams : StreamsAreOwned tells) where
   abbrev faults : List Fault
   faults = faults_told told.ends events (length turns)
 
@@ -68,7 +70,7 @@ module _ {tells : Bool} (start : Option MetaState) (turns : List Turn) (events :
 
   -- ---- one turn
 
-  module _ (p : TurnPosition) (at : IsTurnPosition turns p) (quiet : IsQuiet p) where
+  module _ (p : TurnPosition) (at : IsTurnPosition turns p) (prints : printed p.turn.answer ≡ None) where
     -- a placement that is known, with a replica of the slot
     record IsSlotAt (place : Placement) (shard node : ℕ) : Type 0 where
       known : IsKnownPlace start turns events told p place
@@ -104,11 +106,11 @@ module _ {tells : Bool} (start : Option MetaState) (turns : List Turn) (events :
     refused_at place shard node slot steady c version why step = record { placed = placed_by p place slot.known; name = steady.name; named = steady.named; asked = c; at_version = version; refused = step }
 
     -- what moves of the shard explain
-    by_moves : (place : Placement) (shard node : ℕ) → IsSlotAt place shard node → IsSteadyNode start turns events told p place shard node → (c : StepCall) → IsAtVersion place.version c → (why : Reason)
+    by_moves : (IsBootAct p.turn.act → ⊥) → (place : Placement) (shard node : ℕ) → IsSlotAt place shard node → IsSteadyNode start turns events told p place shard node → (c : StepCall) → IsAtVersion place.version c → (why : Reason)
         → (i : ℕ) × Within events told.spans p i (event.Step node shard c (reply.Refused why)) → IsExplained Unit (MayFail tells faults start p place shard node) why
-    by_moves place shard node slot steady c version reason.NotOwned step = not_owned start turns events legal told order p at quiet place shard node (refused_at place shard node slot steady c version reason.NotOwned step)
-    by_moves place shard node slot steady c version (reason.Stale fence) step = λ is. stale start turns events (subst (λ (known : Bool). Legal known events) is legal) told order (opens is) p at quiet place shard node fence (refused_at place shard node slot steady c version (reason.Stale fence) step)
-    by_moves place shard node slot steady c version _ step = tt
+    by_moves begins place shard node slot steady c version reason.NotOwned step = not_owned start turns events legal told order p at (record { begins_none = begins; prints_none = prints }) place shard node (refused_at place shard node slot steady c version reason.NotOwned step)
+    by_moves begins place shard node slot steady c version (reason.Stale fence) step = λ is. stale start turns events (subst (λ (known : Bool). Legal known events) is legal) told order (opens is) p at (record { begins_none = begins; prints_none = prints }) place shard node fence (refused_at place shard node slot steady c version (reason.Stale fence) step)
+    by_moves begins place shard node slot steady c version _ step = tt
 
     own_version : (version : ℕ) (c : StepCall) → IsOwnCall start p version c → IsAtVersion version c
     own_version version (call.Put client number rules at_version point) own = own.3
@@ -120,44 +122,44 @@ module _ {tells : Bool} (start : Option MetaState) (turns : List Turn) (events :
     late_version m _ own = absurd own
 
     -- why a replica of a known slot refused a call
-    call_explained : (place : Placement) (shard node : ℕ) (slot : IsSlotAt place shard node) (steady : IsSteadyNode start turns events told p place shard node) (why : Reason) → IsHeard start (Within events told.spans p) p place shard node why
+    call_explained : (IsBootAct p.turn.act → ⊥) → (place : Placement) (shard node : ℕ) (slot : IsSlotAt place shard node) (steady : IsSteadyNode start turns events told p place shard node) (why : Reason) → IsHeard start (Within events told.spans p) p place shard node why
         → IsExplainedAt tells start turns events told p place shard node steady.name why
-    call_explained place shard node slot steady reason.Boot h = λ is. known_member is place shard node slot steady.name steady.everywhere
-    call_explained place shard node slot steady reason.NotOwned h = by_moves place shard node slot steady h.0 (own_version place.version h.0 h.1) reason.NotOwned h.2
-    call_explained place shard node slot steady (reason.Stale fence) h = by_moves place shard node slot steady h.0 (own_version place.version h.0 h.1) (reason.Stale fence) h.2
-    call_explained place shard node slot steady _ h = tt
+    call_explained begins place shard node slot steady reason.Boot h = λ is. known_member is place shard node slot steady.name steady.everywhere
+    call_explained begins place shard node slot steady reason.NotOwned h = by_moves begins place shard node slot steady h.0 (own_version place.version h.0 h.1) reason.NotOwned h.2
+    call_explained begins place shard node slot steady (reason.Stale fence) h = by_moves begins place shard node slot steady h.0 (own_version place.version h.0 h.1) (reason.Stale fence) h.2
+    call_explained begins place shard node slot steady _ h = tt
 
     -- and a late message
-    late_explained : (m : LateMessage) (shard : ℕ) (slot : IsSlotAt m.used shard m.node) (steady : IsSteadyNode start turns events told p m.used shard m.node) (why : Reason) → HearsLate start (Within events told.spans p) p m shard (Some why)
+    late_explained : (IsBootAct p.turn.act → ⊥) → (m : LateMessage) (shard : ℕ) (slot : IsSlotAt m.used shard m.node) (steady : IsSteadyNode start turns events told p m.used shard m.node) (why : Reason) → HearsLate start (Within events told.spans p) p m shard (Some why)
         → IsExplainedAt tells start turns events told p m.used shard m.node steady.name why
-    late_explained m shard slot steady reason.Boot h = λ is. known_member is m.used shard m.node slot steady.name steady.everywhere
-    late_explained m shard slot steady reason.NotOwned h = by_moves m.used shard m.node slot steady h.0 (late_version m h.0 h.1) reason.NotOwned h.2
-    late_explained m shard slot steady (reason.Stale fence) h = by_moves m.used shard m.node slot steady h.0 (late_version m h.0 h.1) (reason.Stale fence) h.2
-    late_explained m shard slot steady _ h = tt
+    late_explained begins m shard slot steady reason.Boot h = λ is. known_member is m.used shard m.node slot steady.name steady.everywhere
+    late_explained begins m shard slot steady reason.NotOwned h = by_moves begins m.used shard m.node slot steady h.0 (late_version m h.0 h.1) reason.NotOwned h.2
+    late_explained begins m shard slot steady (reason.Stale fence) h = by_moves begins m.used shard m.node slot steady h.0 (late_version m h.0 h.1) (reason.Stale fence) h.2
+    late_explained begins m shard slot steady _ h = tt
 
     -- the placement that the turn's call uses
     used_slot : (place : Placement) → IsUsedBy start p place → (shard node : ℕ) → IsCounted place shard node → IsSlotAt place shard node
-    used_slot place used shard node counted = record { known = used_known start turns events legal told order p at quiet.prints_none (used.call).version place used.may_use; member = counted_member place shard node counted }
+    used_slot place used shard node counted = record { known = used_known start turns events legal told order p at prints (used.call).version place used.may_use; member = counted_member place shard node counted }
 
-    pub call_known : IsTrue (is_call p.turn.act) → IsKnownCall tells start turns events told p
-    call_known calls = record {
+    pub call_known : (IsBootAct p.turn.act → ⊥) → IsTrue (is_call p.turn.act) → IsKnownCall tells start turns events told p
+    call_known begins calls = record {
       legal = legal;
       in_run = at;
       calls = calls;
       halts = halts;
       named = λ place used shard node h.
           let sent = h.3 in
-          named_once place node (placed_by p place (used_known start turns events legal told order p at quiet.prints_none (used.call).version place used.may_use)) sent.instance_ sent.stands;
+          named_once place node (placed_by p place (used_known start turns events legal told order p at prints (used.call).version place used.may_use)) sent.instance_ sent.stands;
       explained = λ place used shard node why counted h.
           let slot = used_slot place used shard node counted in
           let steady = steady_at place shard node slot in
-          (steady, call_explained place shard node slot steady why h);
+          (steady, call_explained begins place shard node slot steady why h);
     }
 
     -- ---- sweeps
 
     swept_slot : (place : Placement) → MayStand start p place → (shard node : ℕ) → IsIn (nodes_of (shard_at place shard)) node → IsSlotAt place shard node
-    swept_slot place stands shard node among = record { known = used_known start turns events legal told order p at quiet.prints_none None place stands; member = listed_member place shard node among }
+    swept_slot place stands shard node among = record { known = used_known start turns events legal told order p at prints None place stands; member = listed_member place shard node among }
 
     pub sweep_known : IsSweepAct p.turn.act → (place : Placement) → MayStand start p place → IsKnownSweep tells start turns events told p place
     sweep_known sweeps place stands = record {
@@ -168,6 +170,23 @@ module _ {tells : Bool} (start : Option MetaState) (turns : List Turn) (events :
           let slot = swept_slot place stands shard node among in
           let steady = steady_at place shard node slot in
           (steady, λ is. known_member is place shard node slot steady.name steady.everywhere);
+    }
+
+    -- ---- streams
+
+    pub stream_known : IsBootAct p.turn.act → (place moving : Placement) → MayStand start p place → MayStand start p moving → (shard version : ℕ) → IsJoinedWith moving shard version → IsKnownStream tells start turns events told p place shard version
+    stream_known boots place moving stands goes_on shard version joins = record {
+      legal = legal;
+      in_run = at;
+      boots = boots;
+      explained = λ node among.
+          let slot = swept_slot place stands shard node among in
+          let steady = steady_at place shard node slot in
+          (steady, λ is. known_member is place shard node slot steady.name steady.everywhere);
+      unowned = λ node among h.
+          let slot = swept_slot place stands shard node among in
+          let steady = steady_at place shard node slot in
+          record { tenure = version; moving = moving; stands = goes_on; joins = joins; unowned = streams start turns events legal told order p at prints place shard node version steady.name steady.named steady.everywhere h };
     }
 
     -- ---- late messages
@@ -211,8 +230,8 @@ module _ {tells : Bool} (start : Option MetaState) (turns : List Turn) (events :
           call_is (act.Match ns wanted from to level version) c e = refl
           call_is _ c e = cc
 
-      pub delivery_known : p.turn.act ≡ act.Deliver → IsKnownDelivery tells start turns events told p
-      delivery_known delivers = record {
+      pub delivery_known : (IsBootAct p.turn.act → ⊥) → p.turn.act ≡ act.Deliver → IsKnownDelivery tells start turns events told p
+      delivery_known begins delivers = record {
         legal = legal;
         in_run = at;
         delivers = delivers;
@@ -224,7 +243,7 @@ module _ {tells : Bool} (start : Option MetaState) (turns : List Turn) (events :
         explained = λ m late shard to why h.
             let slot = late_slot m late shard to in
             let steady = steady_at m.used shard m.node slot in
-            (steady, late_explained m shard slot steady why h);
+            (steady, late_explained begins m shard slot steady why h);
       }
 
   -- ---- the run
@@ -239,16 +258,10 @@ module _ {tells : Bool} (start : Option MetaState) (turns : List Turn) (events :
   deliver_quiet : (p : TurnPosition) → p.turn.act ≡ act.Deliver → printed p.turn.answer ≡ None → IsQuiet p
   deliver_quiet p delivers prints = record { begins_none = λ h. subst IsBootAct delivers h; prints_none = prints }
 
-  sweep_quiet : (p : TurnPosition) → IsSweepAct p.turn.act → printed p.turn.answer ≡ None → IsQuiet p
-  sweep_quiet p sweeps prints = record { begins_none = begins p.turn.act sweeps; prints_none = prints }
-    where
-      begins : (a : Act) → IsSweepAct a → IsBootAct a → ⊥
-      begins (act.Bootstrap node asked) s h = s
-      begins _ s h = h
-
   pub are_known : ((q : TurnPosition) → IsTurnPosition turns q → IsTrue (is_call q.turn.act) → printed q.turn.answer ≡ None) → AreKnown tells start turns events told
   are_known silent = record {
-    calls = λ p at calls prints. call_known p at (calls_quiet p calls prints) calls;
-    deliveries = λ p at delivers prints. delivery_known p at (deliver_quiet p delivers prints) silent delivers;
-    sweeps = λ p at sweeps prints place stands. sweep_known p at (sweep_quiet p sweeps prints) sweeps place stands;
+    calls = λ p at calls prints. call_known p at prints (calls_quiet p calls prints).begins_none calls;
+    deliveries = λ p at delivers prints. delivery_known p at prints silent (deliver_quiet p delivers prints).begins_none delivers;
+    sweeps = λ p at sweeps prints place stands. sweep_known p at prints sweeps place stands;
+    streams = λ p at boots prints place moving stands goes_on shard version joins. stream_known p at prints boots place moving stands goes_on shard version joins;
   }

@@ -207,7 +207,7 @@ module _ {tells : Bool} (now was : TurnPosition → List LateMessage) (lines : L
       owned = λ i n s tenure added. absurd (never_refused i n s (call.Begin tenure) reason.NotOwned (short i (event.Step n s (call.Begin tenure) (reply.Refused reason.NotOwned)) added.1));
     };
     answers = answers;
-    bound = bound;
+    bound = λ is. bound;
   }
 
 -- the front of the short run's list

@@ -275,13 +275,13 @@ module _ {tells : Bool} (past : List Record) (start : Option MetaState) (turns :
   abbrev room : Turn → List Turn → ℕ
   room other lines = (MOST_REQUEST_EVENTS * length (acts_in (other ∷ []))) * (writes_taken past lines + 1)
 
-  bound_on : IsBounded past long after.ends
-  bound_on k other there =
+  bound_on : tells ≡ true → IsBounded past long after.ends
+  bound_on is_told k other there =
       elim (cases_lt k (length turns)) as (λ _. after.ends (suc k) ≤ after.ends k + room other (take (suc k) long)) [
         | inl old ↦
             subst (λ ls. after.ends (suc k) ≤ after.ends k + room other ls) (sym (take-append-le (suc k) turns (line ∷ []) old))
             (subst (λ n. after.ends (suc k) ≤ n + room other (take (suc k) turns)) (sym (ends_were k (omega (arith, old))))
-            (subst (λ n. n ≤ told.ends k + room other (take (suc k) turns)) (sym (ends_were (suc k) old)) (served.bound k other (at_front turns (line ∷ []) k other there old))))
+            (subst (λ n. n ≤ told.ends k + room other (take (suc k) turns)) (sym (ends_were (suc k) old)) ((served.bound is_told) k other (at_front turns (line ∷ []) k other there old))))
         | inr ge ↦
             let is : k ≡ length turns = omega (arith, ge, at_within long k other there, length-append turns (line ∷ [])) in
             let same : other ≡ line = at_same long (length turns) other line (subst (λ m. At long m other) is there) (at_cut turns line []) in
@@ -289,7 +289,7 @@ module _ {tells : Bool} (past : List Record) (start : Option MetaState) (turns :
             let begins : after.ends k ≡ length events = ap after.ends is ∙ ends_were (length turns) (omega arith) ∙ (told.lines).last in
             subst (λ ls. after.ends (suc k) ≤ after.ends k + room other ls) (sym full)
             (subst (λ n. n ≤ after.ends k + room other long) (sym (ends_now k is))
-            (subst (λ n. length all ≤ n + room other long) (sym begins) (subst (λ l. length all ≤ length events + room l long) (sym same) serves.bound)))
+            (subst (λ n. length all ≤ n + room other long) (sym begins) (subst (λ l. length all ≤ length events + room l long) (sym same) (serves.bound is_told))))
       ]
 
   served_on : IsServedRun tells (untaken ++ taking) delivered (life_of past start long next) all after
@@ -378,7 +378,7 @@ served_first past unanswered = (
     opens = λ is. record { fenced = λ i n s tenure fence points there. absurd (nothing_at i (event.Step n s (call.Begin tenure) (reply.Began fence points)) there) };
     owned = λ is i n s tenure there. absurd (nothing_at i (event.Step n s (call.Begin tenure) (reply.Refused reason.NotOwned)) there);
     answers = nothing;
-    bound = λ k other there. absurd (nothing_at k other there);
+    bound = λ is k other there. absurd (nothing_at k other there);
   },
 )
   where
@@ -399,7 +399,7 @@ served_afresh past state unanswered lawful = (
     opens = λ is. record { fenced = λ i n s tenure fence points there. absurd (no_step i n s (call.Begin tenure) (reply.Began fence points) there) };
     owned = λ is i n s tenure there. absurd (no_step i n s (call.Begin tenure) (reply.Refused reason.NotOwned) there);
     answers = record { each = λ p at. absurd (no_place p at); delivers = λ p at. absurd (no_place p at); once = λ p q at. absurd (no_place p at); whole = λ before other behind e. absurd (not_empty before other behind e); untaken = λ f m. absurd m; different = tt };
-    bound = λ k other there. absurd (nothing_at k other there);
+    bound = λ is k other there. absurd (nothing_at k other there);
   },
 )
   where

@@ -189,4 +189,4 @@ bounded k line at =
     by (inr (inr (inr (inr none)))) = absurd none
 
 pub short_served : (tells : Bool) → ShortIsServed tells
-short_served tells = (legal_untold tells events sample_legal, sample_told, record { order = order; halts = each_turn _ (λ h. absurd h) (λ h. absurd h) (λ h. absurd h) (λ h. absurd h); opens = λ is. opens; owned = λ is i n s tenure there. absurd (never_refused i n s (call.Begin tenure) reason.NotOwned there); answers = answered; bound = bounded })
+short_served tells = (legal_untold tells events sample_legal, sample_told, record { order = order; halts = each_turn _ (λ h. absurd h) (λ h. absurd h) (λ h. absurd h) (λ h. absurd h); opens = λ is. opens; owned = λ is i n s tenure there. absurd (never_refused i n s (call.Begin tenure) reason.NotOwned there); answers = answered; bound = λ is. bounded })

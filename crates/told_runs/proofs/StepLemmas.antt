@@ -206,7 +206,7 @@ steps_serve {tells} past start turns unanswered later events taking was told pla
       not_again = λ q at x y m k. absurd m;
       untaken_are = λ fault m. absurd m;
       different = tt;
-      bound = fits a b events (event.Ask (asked.Place next []) ∷ event.Place next [] ∷ added_are.ends) (subst (λ es. length es ≤ MOST_REQUEST_EVENTS) added_are.adds makes.few) (writes_taken past (turns ++ line_of a b ∷ []));
+      bound = λ is. fits a b events (event.Ask (asked.Place next []) ∷ event.Place next [] ∷ added_are.ends) (subst (λ es. length es ≤ MOST_REQUEST_EVENTS) added_are.adds makes.few) (writes_taken past (turns ++ line_of a b ∷ []));
     }))
 
 -- ---- lines that make none
@@ -235,7 +235,7 @@ module _ {tells : Bool} (past : List Record) (start : Option MetaState) (turns :
         not_again = λ q at x y m k. absurd m;
         untaken_are = are;
         different = different;
-        bound = fits a b events [] (omega arith) (writes_taken past (turns ++ line_of a b ∷ []));
+        bound = λ is. fits a b events [] (omega arith) (writes_taken past (turns ++ line_of a b ∷ []));
       }))
 
 pub refused_steps_serve : {tells : Bool} → RefusedStepsServe tells

@@ -16,6 +16,7 @@ use Rattle.cluster_core.specs.declared.event.Event.{Event}
 use Rattle.transcripts.specs.Caused.{IsBootstrapped, IsRefusedWhole, IsStepOf, IsUnmade, refusal_after}
 use Rattle.transcripts.specs.Deliveries.{LateMessage, IsLateBefore, IsSameMessage, IsSamePosition}
 use Rattle.transcripts.specs.Faults.{AreDifferent, Fault, Taking}
+use Rattle.transcripts.specs.Peers.{LacksVersion, MissesMajority}
 use Rattle.transcripts.specs.Record.{InnerTurn, TurnPosition, IsAfter, IsTurnPosition}
 use Rattle.transcripts.specs.Sweeps.{IsStatus, IsSweptOver}
 use Rattle.told_by.specs.Hears.{HearsOutcomes, InStretch}
@@ -36,6 +37,8 @@ IsOfKind taking start p (act.Restart node pick) answer.Done = ⊤
 IsOfKind taking start p (act.Restart node pick) (answer.Disk name shard) = ⊤
 IsOfKind taking start p (act.Bootstrap node asked) (answer.Available available place version) = IsBootstrapped start p node asked available place version
 IsOfKind taking start p (act.Bootstrap node asked) (answer.Disk name shard) = ⊤
+IsOfKind taking start p (act.Bootstrap node asked) (answer.Peers got needed reasons shard) = MissesMajority start p node asked got needed reasons shard
+IsOfKind taking start p (act.Bootstrap node asked) (answer.Limit limit) = LacksVersion start p node asked limit
 IsOfKind taking start p (act.Bootstrap node asked) (answer.Corrupt name shard damage) = ⊤
 IsOfKind taking start p (act.Add node group) b = IsStepOf taking start p (act.Add node group) b
 IsOfKind taking start p (act.Drain node) b = IsStepOf taking start p (act.Drain node) b

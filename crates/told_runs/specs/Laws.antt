@@ -44,14 +44,15 @@ pub record IsMadeInOrder (start : Option MetaState) (turns : List Turn) (events 
 -- ---- the run
 
 -- What is known of a run beside that a legal list tells of it: its lines were served in order, stops and restarts alone in theirs; where the disks tell what
--- they hold, its files hold no more than earlier runs left; its answers, with the late messages that its turns deliver; and how many events a line adds at most.
+-- they hold, its files hold no more than earlier runs left; its answers, with the late messages that its turns deliver; and, where they tell, how many events a line adds at
+-- most: a disk that doesn't tell may give a stream of pages without end.
 pub record IsServedRun (tells : Bool) (taking : List Fault) (delivered : TurnPosition → List LateMessage) (life : Life) (events : List Event) (told : ToldBy life.present.start life.present.turns events) : Type 0 where
   pub order : IsMadeInOrder life.present.start life.present.turns events told
   pub halts : HaltsAlone life.present.turns
   pub opens : tells ≡ true → OpensWithin life.present.start events
   pub owned : tells ≡ true → OwnsFiles events
   pub answers : AreAnswered taking delivered life.present.start life.present.turns events told
-  pub bound : IsBounded life.past life.present.turns told.ends
+  pub bound : tells ≡ true → IsBounded life.past life.present.turns told.ends
 
 -- The life's present run is caused, as far as the disks tell, by the faults of disks that couldn't be taken, and those that its steps tell.
 abbrev pub IsCausedWhereTold : Bool → Type 0

@@ -98,7 +98,7 @@ pub record ServesLine (tells : Bool) (untaken : List Fault) (now was : TurnPosit
   pub order : IsNextInOrder turns events line more adds.spans
   pub opens : tells ≡ true → OpensNext start events more
   pub answers : AreNextAnswers untaken now was start turns (events ++ more) line adds.spans
-  pub bound : length (events ++ more) ≤ length events + (MOST_REQUEST_EVENTS * length (acts_in (line ∷ []))) * (writes_taken past (turns ++ line ∷ []) + 1)
+  pub bound : tells ≡ true → length (events ++ more) ≤ length events + (MOST_REQUEST_EVENTS * length (acts_in (line ∷ []))) * (writes_taken past (turns ++ line ∷ []) + 1)
 
 abbrev pub life_of : List Record → Option MetaState → List Turn → Option Request → Life
 life_of past start turns unanswered = record { past = past; present = record { start = start; turns = turns; unanswered = unanswered } }
@@ -124,7 +124,7 @@ pub record ServesOne (tells : Bool) (untaken : List Fault) (messages : List Late
   pub not_again : (q : TurnPosition) → IsTurnPosition turns q → (x y : LateMessage) → IsIn messages x → IsIn (was q) y → ¬ IsSameMessage x y
   pub untaken_are : (fault : Fault) → IsIn untaken fault → (fault.kind ≡ Taking) × (fault.line ≡ length turns)
   pub different : AreDifferent untaken
-  pub bound : length (events ++ more) ≤ length events + (MOST_REQUEST_EVENTS * length (acts_in (line_of a b ∷ []))) * (writes_taken past (turns ++ line_of a b ∷ []) + 1)
+  pub bound : tells ≡ true → length (events ++ more) ≤ length events + (MOST_REQUEST_EVENTS * length (acts_in (line_of a b ∷ []))) * (writes_taken past (turns ++ line_of a b ∷ []) + 1)
 
 -- So a run that is told and served stays so by a line of a kind that says what events tell of it.
 abbrev pub KindServes : (Option MetaState → List Turn → List Event → Act → Answer → List Event → Type 0) → Bool → Type 0

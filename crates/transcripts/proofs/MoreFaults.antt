@@ -17,6 +17,7 @@ use Rattle.transcripts.specs.Deliveries.{AreOutcomes, LateMessage, MayComeOf}
 use Rattle.transcripts.specs.Fates.{IsStoppedAt}
 use Rattle.transcripts.specs.Faults.{AreDifferent, Fault, IsClosedByFault}
 use Rattle.transcripts.specs.Levels.{AreSilent, IsFoundFor, MissesLevel}
+use Rattle.transcripts.specs.Peers.{MayBreak}
 use Rattle.transcripts.specs.Reasons.{MayFail, MayRefuse}
 use Rattle.transcripts.specs.Record.{Record, TurnPosition}
 use Rattle.transcripts.specs.Sweeps.{IsSwept}
@@ -119,6 +120,11 @@ step_more faults more among start p a _ h = h
 swept_more : (tells : Bool) (faults more : List Fault) → AreAmong faults more → (start : Option MetaState) (p : TurnPosition) (done : List (ℕ × ℕ × ℕ)) (failed : List (ℕ × ℕ × Reason)) → IsSwept tells faults start p done failed → IsSwept tells more start p done failed
 swept_more tells faults more among start p done failed h = record { over = h.over; refused = λ x m. failed_more tells faults more among start p (h.over).place x.1 x.0 x.2 (h.refused x m) }
 
+pub break_more : (tells : Bool) (faults more : List Fault) → AreAmong faults more → (start : Option MetaState) (p : TurnPosition) (place : Placement) (shard node : ℕ) (why : Reason) → MayBreak tells faults start p place shard node why → MayBreak tells more start p place shard node why
+break_more tells faults more among start p place shard node reason.NotOwned h = h
+break_more tells faults more among start p place shard node (reason.Stale fence) h = absurd h
+break_more tells faults more among start p place shard node why h = failed_more tells faults more among start p place shard node why h
+
 pub own_more : (tells : Bool) (faults more : List Fault) → AreAmong faults more → (start : Option MetaState) (messages : List LateMessage) (p : TurnPosition) (a : Act) (b : Answer) → IsOwn tells faults start messages p a b → IsOwn tells more start messages p a b
 own_more tells faults more among start messages p (act.Init rf shards seed nodes) (answer.Placed place version) h = h
 own_more tells faults more among start messages p (act.Init rf shards seed nodes) (answer.Group shard) h = h
@@ -132,6 +138,8 @@ own_more tells faults more among start messages p (act.Restart node pick) answer
 own_more tells faults more among start messages p (act.Restart node pick) (answer.Disk name shard) h = (h.0, (h.1.0, h.1.1, h.1.2, among _ h.1.3))
 own_more tells faults more among start messages p (act.Bootstrap node asked) (answer.Available available place version) h = h
 own_more tells faults more among start messages p (act.Bootstrap node asked) (answer.Disk name shard) h = (h.0, h.1, (h.2.0, h.2.1, h.2.2, among _ h.2.3))
+own_more tells faults more among start messages p (act.Bootstrap node asked) (answer.Peers got needed reasons shard) h = record { misses = h.misses; refused = λ r m. break_more tells faults more among start p (h.misses).place shard r.0 r.1 (h.refused r m) }
+own_more tells faults more among start messages p (act.Bootstrap node asked) (answer.Limit limit) h = h
 own_more tells faults more among start messages p (act.Bootstrap node asked) (answer.Corrupt name shard damage) h = (h.0, h.1, (h.2.0, h.2.1, h.2.2, among _ h.2.3), h.3)
 own_more tells faults more among start messages p (act.Add node group) b h = step_more faults more among start p (act.Add node group) b h
 own_more tells faults more among start messages p (act.Drain node) b h = step_more faults more among start p (act.Drain node) b h

@@ -22,6 +22,7 @@ use Rattle.transcripts.specs.Deliveries.{LateMessage, IsDelivered, IsSameMessage
 use Rattle.transcripts.specs.Fates.{is_stopped, OfNode}
 use Rattle.transcripts.specs.Faults.{Fault, AreDifferent, IsUntaken, HasFailed, IsDamaged}
 use Rattle.transcripts.specs.Levels.{IsAcked, MissesLevel, IsFoundFor}
+use Rattle.transcripts.specs.Peers.{HadVersion, IsUnjoined, LacksVersion}
 use Rattle.transcripts.specs.Placements.{placement_after, placement_at, placements, start_placement, HadReplica, MayStand, has_replica}
 use Rattle.transcripts.specs.Reasons.{IsShown}
 use Rattle.transcripts.specs.Record.{Record, Life, InnerTurn, TurnPosition, IsTurnPosition, IsAfter, acts_of, inner_turns, lists_of}
@@ -102,12 +103,13 @@ EndsInto _ place = ⊥
 abbrev pub IsMade : Option MetaState → TurnPosition → Placement → Type 0
 IsMade start p place = (placement_at start p ≡ Some place) ⊎ ((turn : InnerTurn) × IsIn (p.earlier ++ p.beside) turn × EndsInto turn.answer place)
 
--- a bootstrap prints what it leaves of a placement that stands and that was made, and the shards that turned available by it
+-- a bootstrap prints what it leaves of a placement that stands and that was made, and the shards that turned available by it, for which a version was left
 pub record IsBootstrapped (start : Option MetaState) (p : TurnPosition) (name : List ℕ) (asked : Option ℕ) (available : List (ℕ × List ℕ)) (place : Placement) (version : ℕ) : Type 0 where
   pub before : Placement
   pub stands : MayStand start p before
   pub made : IsMade start p before
   pub left : IsLeftBy before name asked available place
+  pub room : HadVersion start stands.0 before available
   pub version_is : version ≡ place.version
 
 -- the answer is the act's own: ok, or too few replicas answered; what a read finds is said by what it keeps
@@ -124,6 +126,8 @@ IsOwn tells faults start messages p (act.Restart node pick) answer.Done = ⊤
 IsOwn tells faults start messages p (act.Restart node pick) (answer.Disk name shard) = (name ≡ node) × OnDisk faults start p (HadBefore start p shard) name shard
 IsOwn tells faults start messages p (act.Bootstrap node asked) (answer.Available available place version) = IsBootstrapped start p node asked available place version
 IsOwn tells faults start messages p (act.Bootstrap node asked) (answer.Disk name shard) = (name ≡ node) × IsTrue (is_covering shard asked) × OnDisk faults start p (IsMemberBefore start p shard) name shard
+IsOwn tells faults start messages p (act.Bootstrap node asked) (answer.Peers got needed reasons shard) = IsUnjoined tells faults start p node asked got needed reasons shard
+IsOwn tells faults start messages p (act.Bootstrap node asked) (answer.Limit limit) = LacksVersion start p node asked limit
 IsOwn tells faults start messages p (act.Bootstrap node asked) (answer.Corrupt name shard damage) = (name ≡ node) × IsTrue (is_covering shard asked) × InFiles faults start p (IsMemberBefore start p shard) name shard × IsShown damage
 IsOwn tells faults start messages p (act.Add node group) b = IsStepOf faults start p (act.Add node group) b
 IsOwn tells faults start messages p (act.Drain node) b = IsStepOf faults start p (act.Drain node) b
@@ -188,9 +192,10 @@ pub record MayBeFull (past : List Record) (p : TurnPosition) : Type 0 where
   pub writes_are : writes ≡ count_by is_write (flat_map acts_taken past ++ acts_in (p.lines ++ p.line ∷ []))
   pub many : MOST_EVENTS ≤ (MOST_REQUEST_EVENTS * (requests + 1)) * (writes + 1)
 
--- an answer is the one that is due, or says that the list of events is full; want of memory may come at any position
+-- An answer is the one that is due, or says that the list of events is full; want of memory may come at any position. Where the disks tell what they hold, so that
+-- the pages of a replica are bounded by what was sent, a list is full only after many requests.
 abbrev pub CausedAt : Bool → List Fault → List Record → Option MetaState → List LateMessage → TurnPosition → Type 0
-CausedAt tells faults past start messages p = (p.turn.answer ≡ answer.Memory) ⊎ (((p.turn.answer ≡ answer.Full) × MayBeFull past p) ⊎ IsDue tells faults start messages p)
+CausedAt tells faults past start messages p = (p.turn.answer ≡ answer.Memory) ⊎ (((p.turn.answer ≡ answer.Full) × (tells ≡ true → MayBeFull past p)) ⊎ IsDue tells faults start messages p)
 
 -- a `par` line is refused as a whole with `order` only where no placement stands
 abbrev pub IsRefusedWhole : Option MetaState → List Turn → Request → Reply → Type 0

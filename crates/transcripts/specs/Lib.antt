@@ -14,4 +14,5 @@ pub mod Deliveries
 pub mod Sweeps
 pub mod Joined
 pub mod Kept
+pub mod Peers
 pub mod Caused

@@ -45,7 +45,7 @@ use Rattle.cluster_upkeep.specs.Upkeep.{HasSwept}
 use Rattle.cluster_upkeep.proofs.SweepLemmas.{asked_quiet}
 use Rattle.act_lines.specs.Nodes.{LeavesStanding}
 use Rattle.act_lines.specs.Stands.{ClusterStands}
-use Rattle.act_lines.proofs.BootLemmas.{form_shown}
+use Rattle.act_lines.proofs.DamageLemmas.{form_shown}
 use Rattle.act_lines.proofs.GrowLemmas.{happens_in}
 use Rattle.act_lines.proofs.HaltLemmas.{IsHaltOf, exchange_halts, plain_so}
 use Rattle.upkeep_lines.specs.Upkeep.{SweptTells, sweep_call}

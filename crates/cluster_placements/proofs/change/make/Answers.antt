@@ -28,11 +28,11 @@ returns g c =
     let later : MetaState = record was { place = c.replace-stood.new.dest } in
     let is = ap (λ (p : Placement). record was { place = p }) c.replace-stood.ensures.after in
     let past = c.push_reserved.ensures.items ∙ ap (λ (p : Placement). (c.args.members.now).past.items ++ p ∷ []) c.replace-stood.ensures.value in
-    let ready = ready_placed g.D.Disk.state was later net.replicas c.place.new.replicas c.end_all.new.replicas net.bag c.args.change.next c.as_slice.result.now c.requires.ready c.requires.lawful c.requires.there c.place.ensures c.end_all.ensures is in
+    let ready = ready_placed g.D.Disk.state was later net.replicas c.place.new.replicas c.end_all.new.replicas net.bag c.args.change.next [] c.as_slice.result.now c.requires.ready c.requires.lawful c.requires.there c.place.ensures c.end_all.ensures is in
     record {
       answer_is = refl;
       ready = ready;
-      serves = serves_placed g.D.Disk.state was later net.replicas c.place.new.replicas c.end_all.new.replicas net.bag (c.args.members.now).past.items c.push_reserved.new.self.items c.args.change.next c.as_slice.result.now c.requires.ready c.requires.serves c.place.ensures c.end_all.ensures ready is past;
+      serves = serves_placed g.D.Disk.state was later net.replicas c.place.new.replicas c.end_all.new.replicas net.bag (c.args.members.now).past.items c.push_reserved.new.self.items c.args.change.next [] c.as_slice.result.now c.requires.ready c.requires.serves c.place.ensures c.end_all.ensures ready is past;
       past = past;
       ran = subst (λ left. Ran g.D.Disk.state net.replicas (step_events c.args.change.next left) c.end_all.new.replicas) c.as_slice.ensures.value
           (ran_then g.D.Disk.state (place_events c.args.change.next) (flat_map end_at c.as_slice.result.now) net.replicas c.place.new.replicas c.end_all.new.replicas c.place.ensures c.end_all.ensures);

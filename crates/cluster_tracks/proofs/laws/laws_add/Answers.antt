@@ -1,5 +1,5 @@
 use Rattle.placement_tracks.specs.told_by.Lines.{ClockLine, InitLine, PlainLine, ReadLine, WriteLine}
-use Rattle.cluster_tracks.proofs.AddLemmas.{anew_adds, begun_adds, call_adds, served_adds, steps_are_of_slots}
+use Rattle.cluster_tracks.proofs.AddLemmas.{anew_adds, call_adds, served_adds, steps_are_of_slots}
 use Rattle.cluster_tracks.proofs.laws.laws_add.Goals as goal
 
 pub returns-clause-plain : goal.returns-clause-plain
@@ -19,9 +19,6 @@ returns-clause-served_clock g c = served_adds ClockLine
 
 pub returns-clause-served_read : goal.returns-clause-served_read
 returns-clause-served_read g c = served_adds ReadLine
-
-pub returns-clause-begun : goal.returns-clause-begun
-returns-clause-begun g c = begun_adds g.D.Disk.state c.args.members.now
 
 pub returns-clause-anew_plain : goal.returns-clause-anew_plain
 returns-clause-anew_plain g c = anew_adds PlainLine

@@ -1,4 +1,4 @@
-use Rattle.std.proofs.Common.{[], sym, ◌∙◌, ap, refl, subst, inl, inr, append-nil}
+use Rattle.std.proofs.Common.{[], sym, ◌∙◌, ap, refl, subst, append-nil}
 use Rattle.std.specs.Prelude.{Err, Ok}
 use Rattle.std.proofs.lemmas.Result.{on_ok_weaker}
 use Rattle.m3_model.specs.declared.answer.Answer.TheVariants as answer
@@ -8,7 +8,7 @@ use Rattle.m3_program.specs.Exchanges.{reply_line}
 use Rattle.m3_program.specs.Streams.{Stage, stage}
 use Rattle.m3_program.proofs.CauseLemmas.{counts_none, counts_wanted}
 use Rattle.m3_program.proofs.WrittenLemmas.{on_err_just}
-use Rattle.m3_program.proofs.ExchangeLemmas.{passes, refuses, answers, drops_served, drops_unserved, put_off_so}
+use Rattle.m3_program.proofs.ExchangeLemmas.{passes, refuses, answers, drops_served, drops_unserved}
 use Rattle.m3_program.proofs.PromiseLemmas.{Serving, may_close, served_so}
 use Rattle.m3_program.proofs.exchange.answer_line.Goals as goal
 
@@ -26,29 +26,28 @@ returns-in-Ok-serve-clause-ok g c =
     let old : Stage g.row.X-D.Denot g.X.D.Disk = stage c.args.cluster.now (g.X.Disks.held c.args.disks.now) (g.X.Disks.counted c.args.disks.now) (g.X.Disks.all_faults c.args.disks.now) in
     let new : Stage g.row.X-D.Denot g.X.D.Disk = stage c.serve.new.self (g.X.Disks.held c.serve.new.disks) (g.X.Disks.counted c.serve.new.disks) (g.X.Disks.all_faults c.serve.new.disks) in
     let s : Serving g.X.D.Disk.state old c.in-Ok.request (Ok c.in-Ok-serve.reply) new = record { out = c.requires.may.meta_out; served = c.in-Ok-serve.ensures.served; tracks = c.in-Ok-serve.ensures.tracks; any_moment = c.in-Ok-serve.ensures.any_moment; tells = c.in-Ok-serve.ensures.tells } in
-    on_ok_weaker c.put_reply-in-Ok-serve.result
+    on_ok_weaker c.put_reply.result
     (λ e. (
       _,
       e,
-      answers g.X.D.Disk.state old new c.args.line.now _ c.in-Ok.request c.in-Ok-serve.reply (sym c.is_blank.ensures ∙ c.if-is_blank.false) c.in-Ok.ensures.ok
-          (put_off_so c.in-Ok.request c.is_put_off_by.ensures c.place.ensures.stands c.if-is_put_off_by.false) (ap (λ place. reply_line place c.in-Ok-serve.reply) c.place-in-Ok-serve.ensures.stands) c.in-Ok-serve.ensures.answered
+      answers g.X.D.Disk.state old new c.args.line.now _ c.in-Ok.request c.in-Ok-serve.reply (sym c.is_blank.ensures ∙ c.if-is_blank.false) c.in-Ok.ensures.ok (ap (λ place. reply_line place c.in-Ok-serve.reply) c.place.ensures.stands) c.in-Ok-serve.ensures.answered
           (λ first turns was. served_so g.X.D.Disk.state old new first turns c.in-Ok.request c.in-Ok-serve.reply was s c.in-Ok-serve.ensures.place c.in-Ok-serve.ensures.may.saved),
-    )) c.put_reply-in-Ok-serve.ensures.ok
+    )) c.put_reply.ensures.ok
 
 pub returns-in-Ok-serve-clause-err : goal.returns-in-Ok-serve-clause-err
 returns-in-Ok-serve-clause-err g c =
     let old : Stage g.row.X-D.Denot g.X.D.Disk = stage c.args.cluster.now (g.X.Disks.held c.args.disks.now) (g.X.Disks.counted c.args.disks.now) (g.X.Disks.all_faults c.args.disks.now) in
     let new : Stage g.row.X-D.Denot g.X.D.Disk = stage c.serve.new.self (g.X.Disks.held c.serve.new.disks) (g.X.Disks.counted c.serve.new.disks) (g.X.Disks.all_faults c.serve.new.disks) in
     let s : Serving g.X.D.Disk.state old c.in-Ok.request (Ok c.in-Ok-serve.reply) new = record { out = c.requires.may.meta_out; served = c.in-Ok-serve.ensures.served; tracks = c.in-Ok-serve.ensures.tracks; any_moment = c.in-Ok-serve.ensures.any_moment; tells = c.in-Ok-serve.ensures.tells } in
-    on_err_just c.put_reply-in-Ok-serve.result (drops_served g.X.D.Disk.state old new c.args.line.now c.in-Ok.request (Ok c.in-Ok-serve.reply) c.in-Ok.ensures.ok s)
+    on_err_just c.put_reply.result (drops_served g.X.D.Disk.state old new c.args.line.now c.in-Ok.request (Ok c.in-Ok-serve.reply) c.in-Ok.ensures.ok s)
 
 pub returns-in-Ok-serve-clause-may : goal.returns-in-Ok-serve-clause-may
 returns-in-Ok-serve-clause-may g c =
-    on_ok_weaker c.put_reply-in-Ok-serve.result (λ e. c.in-Ok-serve.ensures.may) c.put_reply-in-Ok-serve.ensures.ok
+    on_ok_weaker c.put_reply.result (λ e. c.in-Ok-serve.ensures.may) c.put_reply.ensures.ok
 
 pub returns-in-Ok-serve-clause-meta : goal.returns-in-Ok-serve-clause-meta
 returns-in-Ok-serve-clause-meta g c =
-    counts_wanted _ c.put_reply-in-Ok-serve.result (g.X.D.Disk.state c.args.cluster.now.meta).faults (g.X.D.Disk.state c.serve.new.self.meta).faults c.in-Ok-serve.ensures.faults c.put_reply-in-Ok-serve.ensures.want
+    counts_wanted _ c.put_reply.result (g.X.D.Disk.state c.args.cluster.now.meta).faults (g.X.D.Disk.state c.serve.new.self.meta).faults c.in-Ok-serve.ensures.faults c.put_reply.ensures.want
 
 pub returns-in-Err-clause-err : goal.returns-in-Err-clause-err
 returns-in-Err-clause-err g c =
@@ -56,35 +55,6 @@ returns-in-Err-clause-err g c =
     let new : Stage g.row.X-D.Denot g.X.D.Disk = stage c.serve.new.self (g.X.Disks.held c.serve.new.disks) (g.X.Disks.counted c.serve.new.disks) (g.X.Disks.all_faults c.serve.new.disks) in
     let s : Serving g.X.D.Disk.state old c.in-Ok.request (Err c.in-Err.lost) new = record { out = c.requires.may.meta_out; served = c.in-Err.ensures.served; tracks = c.in-Err.ensures.tracks; any_moment = c.in-Err.ensures.any_moment; tells = c.in-Err.ensures.tells } in
     drops_served g.X.D.Disk.state old new c.args.line.now c.in-Ok.request (Err c.in-Err.lost) c.in-Ok.ensures.ok s
-
-pub returns-then-is_put_off_by-clause-ok : goal.returns-then-is_put_off_by-clause-ok
-returns-then-is_put_off_by-clause-ok g c =
-    let now : Stage g.row.X-D.Denot g.X.D.Disk = stage c.args.cluster.now (g.X.Disks.held c.args.disks.now) (g.X.Disks.counted c.args.disks.now) (g.X.Disks.all_faults c.args.disks.now) in
-    on_ok_weaker c.put_reply.result
-    (λ e. (
-      _,
-      e,
-      refuses g.X.D.Disk.state now c.args.line.now _ answer.Later (sym c.is_blank.ensures ∙ c.if-is_blank.false)
-          (inr (record { request = c.in-Ok.request; means = c.in-Ok.ensures.ok; put_off = put_off_so c.in-Ok.request c.is_put_off_by.ensures c.place.ensures.stands c.if-is_put_off_by.true }))
-          (ap (λ place. reply_line place (reply.One answer.Later)) c.place-then-is_put_off_by.ensures.stands),
-    )) c.put_reply.ensures.ok
-
-pub returns-then-is_put_off_by-clause-err : goal.returns-then-is_put_off_by-clause-err
-returns-then-is_put_off_by-clause-err g c =
-    let now : Stage g.row.X-D.Denot g.X.D.Disk = stage c.args.cluster.now (g.X.Disks.held c.args.disks.now) (g.X.Disks.counted c.args.disks.now) (g.X.Disks.all_faults c.args.disks.now) in
-    on_err_just c.put_reply.result (drops_unserved g.X.D.Disk.state now c.args.line.now)
-
-pub returns-then-is_put_off_by-clause-may : goal.returns-then-is_put_off_by-clause-may
-returns-then-is_put_off_by-clause-may g c =
-    on_ok_weaker c.put_reply.result (λ e. c.requires.may) c.put_reply.ensures.ok
-
-pub returns-then-is_put_off_by-clause-close : goal.returns-then-is_put_off_by-clause-close
-returns-then-is_put_off_by-clause-close g c =
-    may_close g.X.D.Disk.state c.args.cluster.now (g.X.Disks.held c.args.disks.now) c.requires.may
-
-pub returns-then-is_put_off_by-clause-meta : goal.returns-then-is_put_off_by-clause-meta
-returns-then-is_put_off_by-clause-meta g c =
-    counts_wanted ⊥ c.put_reply.result (g.X.D.Disk.state c.args.cluster.now.meta).faults (g.X.D.Disk.state c.args.cluster.now.meta).faults (counts_none (g.X.D.Disk.state c.args.cluster.now.meta).faults) c.put_reply.ensures.want
 
 pub returns-in-Err-Form-clause-ok : goal.returns-in-Err-Form-clause-ok
 returns-in-Err-Form-clause-ok g c =
@@ -122,7 +92,7 @@ returns-in-Err-Later-clause-ok g c =
       _,
       e,
       refuses g.X.D.Disk.state now c.args.line.now _ answer.Later (sym c.is_blank.ensures ∙ c.if-is_blank.false)
-          (inl (subst (λ f. LineMeans c.args.line.now (Err f)) c.in-Err-Later.field-0-is c.in-Err-Later.ensures.err)) (ap (λ place. reply_line place (reply.One answer.Later)) c.place-in-Err-Later.ensures.stands),
+          (subst (λ f. LineMeans c.args.line.now (Err f)) c.in-Err-Later.field-0-is c.in-Err-Later.ensures.err) (ap (λ place. reply_line place (reply.One answer.Later)) c.place-in-Err-Later.ensures.stands),
     )) c.put_reply-in-Err-Later.ensures.ok
 
 pub returns-in-Err-Later-clause-err : goal.returns-in-Err-Later-clause-err

@@ -1,7 +1,5 @@
-use Rattle.std.proofs.Common.{inl, inr}
 use Rattle.std.proofs.lemmas.Bool.{both_ways}
 use Rattle.m3_program.specs.Streams.{Stage, stage}
-use Rattle.m3_program.proofs.ExchangeLemmas.{put_off_so}
 use Rattle.m3_program.proofs.PromiseLemmas.{may_close}
 use Rattle.m3_program.proofs.ScriptLemmas.{defers, loses_so, serves_so}
 use Rattle.m3_program.proofs.script.serve_request.Goals as goal
@@ -9,25 +7,17 @@ use Rattle.m3_program.proofs.script.serve_request.Goals as goal
 pub returns-then-not-is_served-clause-continues : goal.returns-then-not-is_served-clause-continues
 returns-then-not-is_served-clause-continues g c =
     let now : Stage g.row.X-D.Denot g.X.D.Disk = stage c.args.cluster.now (g.X.Disks.held c.args.disks.now) (g.X.Disks.counted c.args.disks.now) (g.X.Disks.all_faults c.args.disks.now) in
-    defers g.X.D.Disk.state now c.args.request (inl (λ served. both_ways c.is_served.result c.if-not-is_served.true (c.is_served.ensures.1 served)))
+    defers g.X.D.Disk.state now c.args.request (λ served. both_ways c.is_served.result c.if-not-is_served.true (c.is_served.ensures.1 served))
 
 pub returns-then-not-is_served-clause-close : goal.returns-then-not-is_served-clause-close
 returns-then-not-is_served-clause-close g c = may_close g.X.D.Disk.state c.args.cluster.now (g.X.Disks.held c.args.disks.now) c.requires.may
-
-pub returns-then-is_put_off_by-clause-continues : goal.returns-then-is_put_off_by-clause-continues
-returns-then-is_put_off_by-clause-continues g c =
-    let now : Stage g.row.X-D.Denot g.X.D.Disk = stage c.args.cluster.now (g.X.Disks.held c.args.disks.now) (g.X.Disks.counted c.args.disks.now) (g.X.Disks.all_faults c.args.disks.now) in
-    defers g.X.D.Disk.state now c.args.request (inr (put_off_so c.args.request c.is_put_off_by.ensures c.place.ensures.stands c.if-is_put_off_by.true))
-
-pub returns-then-is_put_off_by-clause-close : goal.returns-then-is_put_off_by-clause-close
-returns-then-is_put_off_by-clause-close g c = may_close g.X.D.Disk.state c.args.cluster.now (g.X.Disks.held c.args.disks.now) c.requires.may
 
 pub returns-clause-continues : goal.returns-clause-continues
 returns-clause-continues g c =
     let old : Stage g.row.X-D.Denot g.X.D.Disk = stage c.args.cluster.now (g.X.Disks.held c.args.disks.now) (g.X.Disks.counted c.args.disks.now) (g.X.Disks.all_faults c.args.disks.now) in
     let new : Stage g.row.X-D.Denot g.X.D.Disk = stage c.serve.new.self (g.X.Disks.held c.serve.new.disks) (g.X.Disks.counted c.serve.new.disks) (g.X.Disks.all_faults c.serve.new.disks) in
     let e = c.serve.ensures in
-    serves_so g.X.D.Disk.state old new c.args.request c.serve.result (put_off_so c.args.request c.is_put_off_by.ensures c.place.ensures.stands c.if-is_put_off_by.false) e.answered
+    serves_so g.X.D.Disk.state old new c.args.request c.serve.result e.answered
     (record { out = c.requires.may.meta_out; served = e.served; tracks = e.tracks; any_moment = e.any_moment; tells = e.tells }) e.place e.may
 
 pub returns-clause-loses : goal.returns-clause-loses

@@ -1,9 +1,9 @@
 use Rattle.std.proofs.Common.{ap, ◌∙◌, rules}
 use Rattle.std.specs.Prelude.{filter}
-use Rattle.listed_volumes.specs.volume_bytes.declared.heads.Head.{Head}
-use Rattle.listed_volumes.specs.volume_bytes.Heads.{head_of}
-use Rattle.listed_volumes.specs.Known.{is_head_of}
-use Rattle.listed_volumes.proofs.RetainLemmas.{filtered}
+use Rattle.store_log.specs.listed_volumes.volume_bytes.declared.heads.Head.{Head}
+use Rattle.store_log.specs.listed_volumes.volume_bytes.Heads.{head_of}
+use Rattle.store_log.specs.listed_volumes.Known.{is_head_of}
+use Rattle.store_log.proofs.listed_volumes_proofs.RetainLemmas.{filtered}
 use Rattle.shard_store.proofs.flush.older.Goals as goal
 
 pub returns-clause-ok : goal.returns-clause-ok

@@ -1,6 +1,6 @@
 use Rattle.std.proofs.Common.{◌∙◌, ap, sym}
-use Rattle.listed_volumes.specs.block_buffer.Joins.{points_of_series}
-use Rattle.listed_volumes.specs.block_buffer.Taken.{settled_with}
+use Rattle.store_log.specs.listed_volumes.block_buffer.Joins.{points_of_series}
+use Rattle.store_log.specs.listed_volumes.block_buffer.Taken.{settled_with}
 use Rattle.shard_store.proofs.ListLemmas.{settled_rows_more}
 use Rattle.shard_store.proofs.settle.settle_rows.Goals as goal
 

@@ -1,6 +1,6 @@
 use Rattle.std.proofs.Common.{◌≡◌, None, take}
-use Rattle.listed_volumes.specs.block_buffer.Taken.{settled_with}
-use Rattle.listed_volumes.specs.wire_bytes.Volumes.{points_of_rows}
+use Rattle.store_log.specs.listed_volumes.block_buffer.Taken.{settled_with}
+use Rattle.store_log.specs.listed_volumes.wire_bytes.Volumes.{points_of_rows}
 use Rattle.shard_store.proofs.settle.settle_rows.Given as goal
 
 abbrev pub invariant-loop-row : goal.invariant-loop-row

@@ -1,8 +1,8 @@
 use Rattle.std.proofs.Common.{◌∙◌, ap, map, sym, take}
-use Rattle.listed_volumes.specs.shard_files.FilesHold.{volume_points}
+use Rattle.store_log.specs.listed_volumes.shard_files.FilesHold.{volume_points}
 use Rattle.shard_open.specs.Loads.{known_of}
-use Rattle.listed_volumes.specs.block_buffer.Taken.{settled_with}
-use Rattle.listed_volumes.specs.wire_bytes.Volumes.{points_of_rows}
+use Rattle.store_log.specs.listed_volumes.block_buffer.Taken.{settled_with}
+use Rattle.store_log.specs.listed_volumes.wire_bytes.Volumes.{points_of_rows}
 use Rattle.shard_store.proofs.ListLemmas.{settled_volumes_more}
 use Rattle.shard_store.proofs.settle.settle_volumes.Goals as goal
 

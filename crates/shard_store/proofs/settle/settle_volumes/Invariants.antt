@@ -1,6 +1,6 @@
 use Rattle.std.proofs.Common.{◌≡◌, None, take, map}
-use Rattle.listed_volumes.specs.block_buffer.Taken.{settled_with}
-use Rattle.listed_volumes.specs.shard_files.FilesHold.{volume_points}
+use Rattle.store_log.specs.listed_volumes.block_buffer.Taken.{settled_with}
+use Rattle.store_log.specs.listed_volumes.shard_files.FilesHold.{volume_points}
 use Rattle.shard_open.specs.Loads.{known_of}
 use Rattle.shard_store.proofs.settle.settle_volumes.Given as goal
 

@@ -1,5 +1,5 @@
 use Rattle.std.proofs.Common.{◌≡◌, take}
-use Rattle.listed_volumes.specs.wire_bytes.Volumes.{count_of}
+use Rattle.store_log.specs.listed_volumes.wire_bytes.Volumes.{count_of}
 use Rattle.shard_store.proofs.tick.count.Given as goal
 
 abbrev pub invariant-loop-one : goal.invariant-loop-one

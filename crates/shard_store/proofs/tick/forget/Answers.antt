@@ -1,8 +1,8 @@
 use Rattle.std.proofs.Common.{ap, ◌∙◌, not, rules}
-use Rattle.listed_volumes.proofs.RetainLemmas.{filtered}
-use Rattle.listed_volumes.specs.Listed.{known_as, known_in}
+use Rattle.store_log.proofs.listed_volumes_proofs.RetainLemmas.{filtered}
+use Rattle.store_log.specs.listed_volumes.Listed.{known_as, known_in}
 use Rattle.shard_store.specs.Ticks.{has_outlived}
-use Rattle.listed_volumes.specs.declared.volume.ListedVolume.{ListedVolume}
+use Rattle.store_log.specs.listed_volumes.declared.volume.ListedVolume.{ListedVolume}
 use Rattle.shard_store.proofs.VolumeLists.{filter_known}
 use Rattle.shard_store.proofs.tick.forget.Goals as goal
 

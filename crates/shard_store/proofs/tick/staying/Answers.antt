@@ -1,8 +1,8 @@
 use Rattle.std.proofs.Common.{not, rules}
-use Rattle.listed_volumes.specs.wire_bytes.Volumes.{VolumeHead}
-use Rattle.listed_volumes.specs.volume_bytes.declared.heads.Head.{Head}
-use Rattle.listed_volumes.specs.volume_bytes.Heads.{head_of}
-use Rattle.listed_volumes.proofs.RetainLemmas.{filtered}
+use Rattle.store_log.specs.listed_volumes.wire_bytes.Volumes.{VolumeHead}
+use Rattle.store_log.specs.listed_volumes.volume_bytes.declared.heads.Head.{Head}
+use Rattle.store_log.specs.listed_volumes.volume_bytes.Heads.{head_of}
+use Rattle.store_log.proofs.listed_volumes_proofs.RetainLemmas.{filtered}
 use Rattle.shard_store.specs.Ticks.{is_outlived}
 use Rattle.shard_store.proofs.VolumeLists.{some_heads}
 use Rattle.shard_store.proofs.tick.staying.Goals as goal

@@ -1,7 +1,7 @@
 use Rattle.std.proofs.Common.{◌≡◌, ◌++◌, ◌∷◌, List, take, drop, subst}
-use Rattle.snapshot_steps.specs.volume_steps.KnownLists.{with_volume}
-use Rattle.listed_volumes.specs.Listed.{known_as, known_in}
-use Rattle.listed_volumes.specs.declared.volume.ListedVolume.{ListedVolume}
+use Rattle.store_log.specs.snapshot_steps.volume_steps.KnownLists.{with_volume}
+use Rattle.store_log.specs.listed_volumes.Listed.{known_as, known_in}
+use Rattle.store_log.specs.listed_volumes.declared.volume.ListedVolume.{ListedVolume}
 use Rattle.shard_store.proofs.VolumeLists.{added}
 use Rattle.shard_store.proofs.volumes.add.Goals as goal
 

@@ -1,6 +1,6 @@
 use Rattle.std.proofs.Common.{◌≡◌, false, [], take}
-use Rattle.listed_volumes.specs.volume_bytes.Heads.{head_of}
-use Rattle.snapshot_steps.specs.volume_steps.KnownLists.{is_one_of}
+use Rattle.store_log.specs.listed_volumes.volume_bytes.Heads.{head_of}
+use Rattle.store_log.specs.snapshot_steps.volume_steps.KnownLists.{is_one_of}
 use Rattle.shard_store.proofs.volumes.is_among.Given as goal
 
 -- it is none of those so far

@@ -1,6 +1,6 @@
 use Rattle.std.proofs.Common.{◌≡◌, map, take}
 use Rattle.shard_open.specs.Loads.{known_of}
-use Rattle.listed_volumes.specs.Listed.{known_in}
+use Rattle.store_log.specs.listed_volumes.Listed.{known_in}
 use Rattle.shard_store.proofs.volumes.listed.Given as goal
 
 abbrev pub invariant-loop-volume : goal.invariant-loop-volume

@@ -1,5 +1,5 @@
 use Rattle.std.proofs.Common.{sym, arith}
-use Rattle.listed_volumes.specs.volume_bytes.Heads.{head_of}
+use Rattle.store_log.specs.listed_volumes.volume_bytes.Heads.{head_of}
 use Rattle.shard_store.proofs.VolumeLists.{with_next, with_here, with_last}
 use Rattle.shard_store.proofs.volumes.position_of.Goals as goal
 

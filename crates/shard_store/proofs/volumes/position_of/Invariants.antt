@@ -1,8 +1,8 @@
 use Rattle.std.proofs.Common.{◌≡◌, ◌++◌, List, take, drop}
 use Rattle.m3_model.specs.declared.point.Series.{Series}
-use Rattle.listed_volumes.specs.volume_bytes.Heads.{head_of}
-use Rattle.snapshot_steps.specs.volume_steps.KnownLists.{with_volume}
-use Rattle.listed_volumes.specs.Listed.{known_in}
+use Rattle.store_log.specs.listed_volumes.volume_bytes.Heads.{head_of}
+use Rattle.store_log.specs.snapshot_steps.volume_steps.KnownLists.{with_volume}
+use Rattle.store_log.specs.listed_volumes.Listed.{known_in}
 use Rattle.shard_store.proofs.volumes.position_of.Given as goal
 
 -- the volume comes behind those so far

@@ -1,8 +1,8 @@
 use Rattle.std.proofs.Common.{ap, ◌∙◌, not, rules}
-use Rattle.listed_volumes.proofs.RetainLemmas.{filtered}
-use Rattle.snapshot_steps.specs.volume_steps.KnownLists.{is_one_of}
-use Rattle.listed_volumes.specs.Listed.{known_as, known_in}
-use Rattle.listed_volumes.specs.declared.volume.ListedVolume.{ListedVolume}
+use Rattle.store_log.proofs.listed_volumes_proofs.RetainLemmas.{filtered}
+use Rattle.store_log.specs.snapshot_steps.volume_steps.KnownLists.{is_one_of}
+use Rattle.store_log.specs.listed_volumes.Listed.{known_as, known_in}
+use Rattle.store_log.specs.listed_volumes.declared.volume.ListedVolume.{ListedVolume}
 use Rattle.shard_store.proofs.VolumeLists.{filter_known}
 use Rattle.shard_store.proofs.volumes.take_off.Goals as goal
 

@@ -11,14 +11,14 @@ use Rattle.replica_machine.proofs.machine.Machine.begin.Goals as goal
 not_read : (g : Over) (c : goal.After-not_loaded g) → BeginDone g.D.Disk.state c.args.self.now c.args.tenure (Err c.not_loaded.result) c.not_loaded.new.self
 not_read g c =
     let inside = c.self.inside in
-    not_loaded_of g.D.Disk.state inside.standing inside.tenure inside.begun c.args.self.now inside.store c.load.new.self c.self.view_is c.args.tenure c.requires.boot c.requires.high c.in-Err.ensures.closed c.in-Err.ensures.tells
+    not_loaded_of g.D.Disk.state inside.standing inside.tenure inside.begun inside.work c.args.self.now inside.store c.load.new.self c.self.view_is c.args.tenure c.requires.boot c.requires.high c.in-Err.ensures.closed c.in-Err.ensures.tells
     c.in-Err.ensures.any_moment c.in-Err.why c.not_loaded.result c.not_loaded.new.self c.in-Err.ensures.faults c.in-Err.ensures.err c.not_loaded.ensures.why c.not_loaded.ensures.left c.not_loaded.ensures.disk
 
 -- they were opened
 opened : (g : Over) (c : goal.After-open g) → BeginDone g.D.Disk.state c.args.self.now c.args.tenure c.open.result c.open.new.self
 opened g c =
     let inside = c.self.inside in
-    opened_of g.D.Disk.state inside.standing inside.tenure inside.begun c.args.self.now inside.store c.load.new.self c.self.view_is c.args.tenure c.requires.boot c.requires.high c.in-Ok.ensures.closed c.in-Ok.ensures.tells
+    opened_of g.D.Disk.state inside.standing inside.tenure inside.begun inside.work c.args.self.now inside.store c.load.new.self c.self.view_is c.args.tenure c.requires.boot c.requires.high c.in-Ok.ensures.closed c.in-Ok.ensures.tells
     c.in-Ok.ensures.any_moment c.in-Ok.ensures.faults c.in-Ok.ensures.files c.open.result c.open.new.self c.open.ensures.began c.open.ensures.err c.open.ensures.own c.open.ensures.disk c.open.ensures.step
 
 pub load-requires : goal.load-requires
@@ -80,7 +80,7 @@ returns-then-tenure-loaded-clause-began g c =
     let loaded = c.in-Ok.loaded in
     let lawful = (g.met.D.Disk g.world.𝓛 g.world.𝓜 g.world.𝓡 ((λ s x. x), (λ x. x), (λ x. x), (λ x. x))).lawful inside.store.disk in
     let done =
-    higher_of g.D.Disk.state inside.standing inside.tenure inside.begun c.args.self.now inside.store c.load.new.self c.self.view_is c.args.tenure c.requires.boot c.requires.high c.in-Ok.ensures.closed c.in-Ok.ensures.tells
+    higher_of g.D.Disk.state inside.standing inside.tenure inside.begun inside.work c.args.self.now inside.store c.load.new.self c.self.view_is c.args.tenure c.requires.boot c.requires.high c.in-Ok.ensures.closed c.in-Ok.ensures.tells
     c.in-Ok.ensures.any_moment c.in-Ok.ensures.faults c.in-Ok.ensures.files loaded.points loaded.tenure loaded.fence c.in-Ok.ensures.ok c.if-tenure-loaded.true lawful.read_is_image in
     done.began
 
@@ -90,7 +90,7 @@ returns-then-tenure-loaded-clause-not_down g c =
     let loaded = c.in-Ok.loaded in
     let lawful = (g.met.D.Disk g.world.𝓛 g.world.𝓜 g.world.𝓡 ((λ s x. x), (λ x. x), (λ x. x), (λ x. x))).lawful inside.store.disk in
     let done =
-    higher_of g.D.Disk.state inside.standing inside.tenure inside.begun c.args.self.now inside.store c.load.new.self c.self.view_is c.args.tenure c.requires.boot c.requires.high c.in-Ok.ensures.closed c.in-Ok.ensures.tells
+    higher_of g.D.Disk.state inside.standing inside.tenure inside.begun inside.work c.args.self.now inside.store c.load.new.self c.self.view_is c.args.tenure c.requires.boot c.requires.high c.in-Ok.ensures.closed c.in-Ok.ensures.tells
     c.in-Ok.ensures.any_moment c.in-Ok.ensures.faults c.in-Ok.ensures.files loaded.points loaded.tenure loaded.fence c.in-Ok.ensures.ok c.if-tenure-loaded.true lawful.read_is_image in
     done.not_down
 
@@ -100,7 +100,7 @@ returns-then-tenure-loaded-clause-unowned g c =
     let loaded = c.in-Ok.loaded in
     let lawful = (g.met.D.Disk g.world.𝓛 g.world.𝓜 g.world.𝓡 ((λ s x. x), (λ x. x), (λ x. x), (λ x. x))).lawful inside.store.disk in
     let done =
-    higher_of g.D.Disk.state inside.standing inside.tenure inside.begun c.args.self.now inside.store c.load.new.self c.self.view_is c.args.tenure c.requires.boot c.requires.high c.in-Ok.ensures.closed c.in-Ok.ensures.tells
+    higher_of g.D.Disk.state inside.standing inside.tenure inside.begun inside.work c.args.self.now inside.store c.load.new.self c.self.view_is c.args.tenure c.requires.boot c.requires.high c.in-Ok.ensures.closed c.in-Ok.ensures.tells
     c.in-Ok.ensures.any_moment c.in-Ok.ensures.faults c.in-Ok.ensures.files loaded.points loaded.tenure loaded.fence c.in-Ok.ensures.ok c.if-tenure-loaded.true lawful.read_is_image in
     done.unowned
 
@@ -110,7 +110,7 @@ returns-then-tenure-loaded-clause-damage g c =
     let loaded = c.in-Ok.loaded in
     let lawful = (g.met.D.Disk g.world.𝓛 g.world.𝓜 g.world.𝓡 ((λ s x. x), (λ x. x), (λ x. x), (λ x. x))).lawful inside.store.disk in
     let done =
-    higher_of g.D.Disk.state inside.standing inside.tenure inside.begun c.args.self.now inside.store c.load.new.self c.self.view_is c.args.tenure c.requires.boot c.requires.high c.in-Ok.ensures.closed c.in-Ok.ensures.tells
+    higher_of g.D.Disk.state inside.standing inside.tenure inside.begun inside.work c.args.self.now inside.store c.load.new.self c.self.view_is c.args.tenure c.requires.boot c.requires.high c.in-Ok.ensures.closed c.in-Ok.ensures.tells
     c.in-Ok.ensures.any_moment c.in-Ok.ensures.faults c.in-Ok.ensures.files loaded.points loaded.tenure loaded.fence c.in-Ok.ensures.ok c.if-tenure-loaded.true lawful.read_is_image in
     done.damage
 
@@ -120,7 +120,7 @@ returns-then-tenure-loaded-clause-err g c =
     let loaded = c.in-Ok.loaded in
     let lawful = (g.met.D.Disk g.world.𝓛 g.world.𝓜 g.world.𝓡 ((λ s x. x), (λ x. x), (λ x. x), (λ x. x))).lawful inside.store.disk in
     let done =
-    higher_of g.D.Disk.state inside.standing inside.tenure inside.begun c.args.self.now inside.store c.load.new.self c.self.view_is c.args.tenure c.requires.boot c.requires.high c.in-Ok.ensures.closed c.in-Ok.ensures.tells
+    higher_of g.D.Disk.state inside.standing inside.tenure inside.begun inside.work c.args.self.now inside.store c.load.new.self c.self.view_is c.args.tenure c.requires.boot c.requires.high c.in-Ok.ensures.closed c.in-Ok.ensures.tells
     c.in-Ok.ensures.any_moment c.in-Ok.ensures.faults c.in-Ok.ensures.files loaded.points loaded.tenure loaded.fence c.in-Ok.ensures.ok c.if-tenure-loaded.true lawful.read_is_image in
     done.err
 
@@ -130,7 +130,7 @@ returns-then-tenure-loaded-clause-disk g c =
     let loaded = c.in-Ok.loaded in
     let lawful = (g.met.D.Disk g.world.𝓛 g.world.𝓜 g.world.𝓡 ((λ s x. x), (λ x. x), (λ x. x), (λ x. x))).lawful inside.store.disk in
     let done =
-    higher_of g.D.Disk.state inside.standing inside.tenure inside.begun c.args.self.now inside.store c.load.new.self c.self.view_is c.args.tenure c.requires.boot c.requires.high c.in-Ok.ensures.closed c.in-Ok.ensures.tells
+    higher_of g.D.Disk.state inside.standing inside.tenure inside.begun inside.work c.args.self.now inside.store c.load.new.self c.self.view_is c.args.tenure c.requires.boot c.requires.high c.in-Ok.ensures.closed c.in-Ok.ensures.tells
     c.in-Ok.ensures.any_moment c.in-Ok.ensures.faults c.in-Ok.ensures.files loaded.points loaded.tenure loaded.fence c.in-Ok.ensures.ok c.if-tenure-loaded.true lawful.read_is_image in
     done.disk
 
@@ -140,7 +140,7 @@ returns-then-tenure-loaded-clause-step g c =
     let loaded = c.in-Ok.loaded in
     let lawful = (g.met.D.Disk g.world.𝓛 g.world.𝓜 g.world.𝓡 ((λ s x. x), (λ x. x), (λ x. x), (λ x. x))).lawful inside.store.disk in
     let done =
-    higher_of g.D.Disk.state inside.standing inside.tenure inside.begun c.args.self.now inside.store c.load.new.self c.self.view_is c.args.tenure c.requires.boot c.requires.high c.in-Ok.ensures.closed c.in-Ok.ensures.tells
+    higher_of g.D.Disk.state inside.standing inside.tenure inside.begun inside.work c.args.self.now inside.store c.load.new.self c.self.view_is c.args.tenure c.requires.boot c.requires.high c.in-Ok.ensures.closed c.in-Ok.ensures.tells
     c.in-Ok.ensures.any_moment c.in-Ok.ensures.faults c.in-Ok.ensures.files loaded.points loaded.tenure loaded.fence c.in-Ok.ensures.ok c.if-tenure-loaded.true lawful.read_is_image in
     done.step
 

@@ -6,10 +6,10 @@ use Rattle.replica_machine.proofs.StepLemmas.{machine_of, failed_is, store_open,
 use Rattle.replica_machine.proofs.machine.Machine.begin_again.Given.{Over}
 use Rattle.replica_machine.proofs.machine.Machine.begin_again.Goals as goal
 
-failed : (g : Over) (c : goal.After-fall g) → BeginLeft g.D.Disk.state c.args.self.now c.args.tenure c.fall.result (machine_of c.fall.new.standing c.self.inside.tenure c.self.inside.begun c.begin.new.self)
+failed : (g : Over) (c : goal.After-fall g) → BeginLeft g.D.Disk.state c.args.self.now c.args.tenure c.fall.result (machine_of c.fall.new.standing c.self.inside.tenure c.self.inside.begun c.self.inside.work c.begin.new.self)
 failed g c =
     let inside = c.self.inside in
-    again_left g.D.Disk.state inside.standing inside.tenure inside.begun c.args.self.now inside.store c.begin.new.self c.self.view_is c.args.tenure (ap closed c.requires.open_) c.requires.high c.in-Err.why c.fall.new.standing c.fall.result c.in-Err.ensures.memory c.in-Err.ensures.fault
+    again_left g.D.Disk.state inside.standing inside.tenure inside.begun inside.work c.args.self.now inside.store c.begin.new.self c.self.view_is c.args.tenure (ap closed c.requires.open_) c.requires.high c.in-Err.why c.fall.new.standing c.fall.result c.in-Err.ensures.memory c.in-Err.ensures.fault
     c.fall.ensures.why c.fall.ensures.down c.fall.ensures.stays c.in-Err.ensures.disk
 
 pub begin-requires-clause-open_ : goal.begin-requires-clause-open_
@@ -35,7 +35,7 @@ invariant_of-self g c =
     let inside = c.self.inside in
     let is_open = ap (λ m. m.standing) c.self.view_is ∙ c.requires.open_ in
     let opened = store_open inside.standing inside.store c.self.invariant is_open in
-    store_after inside.standing inside.tenure inside.begun inside.store c.begin.new.self c.fall.new.standing (Err c.in-Err.why) is_open opened tt c.in-Err.ensures.memory c.in-Err.ensures.fault
+    store_after inside.standing inside.tenure inside.begun inside.work inside.store c.begin.new.self c.fall.new.standing (Err c.in-Err.why) is_open opened tt c.in-Err.ensures.memory c.in-Err.ensures.fault
     (λ f. c.fall.ensures.down (failed_is c.in-Err.why f)) (λ fine. c.fall.ensures.stays (λ f. fine (ap Err f)))
 
 pub invariant_of-self-2 : goal.invariant_of-self-2
@@ -46,7 +46,7 @@ returns-clause-again g c =
     let inside = c.self.inside in
     let began : Began = record { fence = c.present_fence.result; points = c.new.result } in
     let done =
-    again_done g.D.Disk.state inside.standing inside.tenure inside.begun c.args.self.now inside.store c.begin.new.self c.self.view_is c.args.tenure began tt c.requires.open_ c.requires.high c.in_default.ensures.ok c.in_default.ensures.disk
+    again_done g.D.Disk.state inside.standing inside.tenure inside.begun inside.work c.args.self.now inside.store c.begin.new.self c.self.view_is c.args.tenure began tt c.requires.open_ c.requires.high c.in_default.ensures.ok c.in_default.ensures.disk
     c.present_fence.ensures c.new.ensures in
     done.again
 
@@ -55,7 +55,7 @@ returns-clause-disk g c =
     let inside = c.self.inside in
     let began : Began = record { fence = c.present_fence.result; points = c.new.result } in
     let done =
-    again_done g.D.Disk.state inside.standing inside.tenure inside.begun c.args.self.now inside.store c.begin.new.self c.self.view_is c.args.tenure began tt c.requires.open_ c.requires.high c.in_default.ensures.ok c.in_default.ensures.disk
+    again_done g.D.Disk.state inside.standing inside.tenure inside.begun inside.work c.args.self.now inside.store c.begin.new.self c.self.view_is c.args.tenure began tt c.requires.open_ c.requires.high c.in_default.ensures.ok c.in_default.ensures.disk
     c.present_fence.ensures c.new.ensures in
     done.disk
 
@@ -64,6 +64,6 @@ returns-clause-step g c =
     let inside = c.self.inside in
     let began : Began = record { fence = c.present_fence.result; points = c.new.result } in
     let done =
-    again_done g.D.Disk.state inside.standing inside.tenure inside.begun c.args.self.now inside.store c.begin.new.self c.self.view_is c.args.tenure began tt c.requires.open_ c.requires.high c.in_default.ensures.ok c.in_default.ensures.disk
+    again_done g.D.Disk.state inside.standing inside.tenure inside.begun inside.work c.args.self.now inside.store c.begin.new.self c.self.view_is c.args.tenure began tt c.requires.open_ c.requires.high c.in_default.ensures.ok c.in_default.ensures.disk
     c.present_fence.ensures c.new.ensures in
     done.step

@@ -30,17 +30,17 @@ not_owner g c =
     (after_two (shut old.standing) (unowned old.tenure version) (Some why) (subst (λ s. shut s ≡ None) (ap (λ m. m.standing) c.self.view_is) c.in_ok-check_open.ensures.ok) (subst (λ t. unowned t version ≡ Some why) (ap (λ m. m.tenure) c.self.view_is) c.in_err-check_owner.ensures.err)))
 
 -- what the store answered
-settles : (g : Over) (c : goal.After-settle g) → FenceDone g.D.Disk.state c.args.self.now c.args.version c.settle.result (machine_of c.settle.new.standing c.self.inside.tenure c.self.inside.begun c.fence-said.new.self)
+settles : (g : Over) (c : goal.After-settle g) → FenceDone g.D.Disk.state c.args.self.now c.args.version c.settle.result (machine_of c.settle.new.standing c.self.inside.tenure c.self.inside.begun c.self.inside.work c.fence-said.new.self)
 settles g c =
     let inside = c.self.inside in
     let old = c.args.self.now in
     let version = c.args.version in
     let said = c.fence-said.result in
-    let mid = middle inside.standing inside.tenure inside.begun inside.store c.fence-said.new.self old said in
-    let by = fence_by g.D.Disk.state inside.standing inside.tenure inside.begun old inside.store c.fence-said.new.self version said c.self.view_is c.fence-said.ensures.ok c.fence-said.ensures.unchanged c.fence-said.ensures.disk in
+    let mid = middle inside.standing inside.tenure inside.begun inside.work inside.store c.fence-said.new.self old said in
+    let by = fence_by g.D.Disk.state inside.standing inside.tenure inside.begun inside.work old inside.store c.fence-said.new.self version said c.self.view_is c.fence-said.ensures.ok c.fence-said.ensures.unchanged c.fence-said.ensures.disk in
     let left =
-    settled_is inside.standing inside.tenure inside.begun inside.store c.fence-said.new.self c.settle.new.standing said c.fence-said.ensures.memory c.fence-said.ensures.fault c.settle.ensures.down c.settle.ensures.stays
-    ∙ ap (λ m. settled said (middle inside.standing inside.tenure inside.begun inside.store c.fence-said.new.self m said)) c.self.view_is in
+    settled_is inside.standing inside.tenure inside.begun inside.work inside.store c.fence-said.new.self c.settle.new.standing said c.fence-said.ensures.memory c.fence-said.ensures.fault c.settle.ensures.down c.settle.ensures.stays
+    ∙ ap (λ m. settled said (middle inside.standing inside.tenure inside.begun inside.work inside.store c.fence-said.new.self m said)) c.self.view_is in
     let first =
     after_two (shut old.standing) (unowned old.tenure version) None (subst (λ s. shut s ≡ None) (ap (λ m. m.standing) c.self.view_is) c.in_ok-check_open.ensures.ok)
     (subst (λ t. unowned t version ≡ None) (ap (λ m. m.tenure) c.self.view_is) c.in_ok-check_owner.ensures.ok) in
@@ -54,7 +54,7 @@ invariant_of-self g c =
     let inside = c.self.inside in
     let is_open = fence_open inside.standing c.in_ok-check_open.ensures.ok in
     let opened = store_open inside.standing inside.store c.self.invariant is_open in
-    store_after inside.standing inside.tenure inside.begun inside.store c.fence-said.new.self c.settle.new.standing c.fence-said.result is_open opened (on_ok_as c.fence-said.result (λ is. ap (λ s. s.open_) is) c.fence-said.ensures.ok) c.fence-said.ensures.memory c.fence-said.ensures.fault
+    store_after inside.standing inside.tenure inside.begun inside.work inside.store c.fence-said.new.self c.settle.new.standing c.fence-said.result is_open opened (on_ok_as c.fence-said.result (λ is. ap (λ s. s.open_) is) c.fence-said.ensures.ok) c.fence-said.ensures.memory c.fence-said.ensures.fault
     c.settle.ensures.down c.settle.ensures.stays
 
 pub returns-in_err-check_open-clause-ok : goal.returns-in_err-check_open-clause-ok

@@ -8,6 +8,8 @@ use Rattle.shard_store.specs.fileset_read.declared.file_err.FileErr.{FileErr}
 use Rattle.shard_store.specs.Flushes.{AreFlushed, HasFlushed}
 use Rattle.shard_store.specs.Stores.{StoreState}
 use Rattle.shard_store.proofs.LogStepLemmas.{err_is}
+use Rattle.replica_machine.specs.declared.work.Work.{Work}
+use Rattle.replica_machine.specs.Works.{with_flush, work_after}
 use Rattle.replica_machine.proofs.FenceLemmas.{fence_open}
 use Rattle.replica_machine.proofs.FilesLemmas.{store_after_files}
 use Rattle.replica_machine.proofs.KeptLemmas.{rearranges_open, rearranges_empty, no_points}
@@ -24,7 +26,7 @@ still_open state rules before now (Err why) done opened = tt
 not_open : (g : Over) (c : goal.After-from_residual g) → FlushDone g.D.Disk.state c.args.self.now c.args.rules.now c.from_residual.result c.args.self.now
 not_open g c =
     let inside = c.self.inside in
-    let old = machine_of inside.standing inside.tenure inside.begun inside.store in
+    let old = machine_of inside.standing inside.tenure inside.begun inside.work inside.store in
     let why = c.in_err-check_open.field-0.0 in
     let first = c.in_err-check_open.ensures.err in
     subst (λ (r : Result ℕ Reason). FlushDone g.D.Disk.state c.args.self.now c.args.rules.now r c.args.self.now) (sym (err_is c.from_residual.result why c.from_residual.ensures))
@@ -40,19 +42,20 @@ wanted g c =
     let is = err_is c.from_residual-in_err-room.result c.in_err-room.field-0.0 c.from_residual-in_err-room.ensures ∙ ap Err c.in_err-room.ensures.err in
     subst (λ (r : Result ℕ Reason). FlushDone g.D.Disk.state c.args.self.now c.args.rules.now r c.args.self.now) (sym is)
     (subst (λ m. FlushDone g.D.Disk.state m c.args.rules.now (Err reason.Memory) m) c.self.view_is
-    (flush_wanted g.D.Disk.state inside.standing inside.tenure inside.begun inside.store c.args.rules.now is_open (rearranges_open inside.store.content inside.store.content inside.store.tenure inside.store.fence ⊥ (g.D.Disk.state inside.store.disk) (λ f. f) (λ p has. has) (c.images_hold.ensures opened))))
+    (flush_wanted g.D.Disk.state inside.standing inside.tenure inside.begun inside.work inside.store c.args.rules.now is_open (rearranges_open inside.store.content inside.store.content inside.store.tenure inside.store.fence ⊥ (g.D.Disk.state inside.store.disk) (λ f. f) (λ p has. has) (c.images_hold.ensures opened))))
 
 -- what the store answered
-answered : (g : Over) (c : goal.After-settle_files g) → FlushDone g.D.Disk.state c.args.self.now c.args.rules.now c.settle_files.result (machine_of c.settle_files.new.standing c.self.inside.tenure c.self.inside.begun c.flush-said.new.self)
+answered : (g : Over) (c : goal.After-settle_files g) → FlushDone g.D.Disk.state c.args.self.now c.args.rules.now c.settle_files.result (machine_of c.settle_files.new.standing c.self.inside.tenure c.self.inside.begun c.note_flush.new.self c.flush-said.new.self)
 answered g c =
     let inside = c.self.inside in
     let is_open = fence_open inside.standing c.in_ok-check_open.ensures.ok in
     let said = c.flush-said in
     let settled = c.settle_files.ensures in
-    subst (λ m. FlushDone g.D.Disk.state m c.args.rules.now c.settle_files.result (machine_of c.settle_files.new.standing inside.tenure inside.begun said.new.self)) c.self.view_is
-    (flush_done g.D.Disk.state inside.standing inside.tenure inside.begun inside.store said.new.self c.args.rules.now is_open said.result c.settle_files.result c.settle_files.new.standing settled.said
+    subst (λ (w : Work). FlushDone g.D.Disk.state c.args.self.now c.args.rules.now c.settle_files.result (machine_of c.settle_files.new.standing inside.tenure inside.begun w said.new.self)) (sym c.note_flush.ensures)
+    (subst (λ m. FlushDone g.D.Disk.state m c.args.rules.now c.settle_files.result (machine_of c.settle_files.new.standing inside.tenure inside.begun (work_after with_flush said.result inside.work) said.new.self)) c.self.view_is
+    (flush_done g.D.Disk.state inside.standing inside.tenure inside.begun inside.work inside.store said.new.self c.args.rules.now is_open said.result c.settle_files.result c.settle_files.new.standing settled.said
     said.ensures.ok said.ensures.memory said.ensures.closed said.ensures.sound said.ensures.disk
-    settled.ok settled.down settled.memory)
+    settled.ok settled.down settled.memory))
 
 pub flush-said-requires-clause-open_ : goal.flush-said-requires-clause-open_
 flush-said-requires-clause-open_ g c = λ a b. store_open c.self.inside.standing c.self.inside.store c.self.invariant (fence_open c.self.inside.standing c.in_ok-check_open.ensures.ok)

@@ -19,7 +19,7 @@ failed : (g : Over) (c : goal.After-drop-loaded-in-Err-6 g) → BeginLeft g.D.Di
 failed g c =
     let inside = c.self.inside in
     let is_boot = ap (λ m. m.standing) c.self.view_is ∙ c.requires.boot in
-    begin_left_of g.D.Disk.state inside.standing inside.tenure inside.begun c.args.self.now inside.store c.open_store.new.store c.self.view_is c.args.tenure (ap closed c.requires.boot) c.requires.high c.in-Err.why c.refused.result c.refused.new.self
+    begin_left_of g.D.Disk.state inside.standing inside.tenure inside.begun inside.work c.args.self.now inside.store c.open_store.new.store c.self.view_is c.args.tenure (ap closed c.requires.boot) c.requires.high c.in-Err.why c.refused.result c.refused.new.self
     (closed_moved inside.store c.open_store.new.store (store_closed inside.standing inside.store c.self.invariant is_boot) c.in-Err.ensures.err) c.refused.ensures.why c.refused.ensures.left c.in-Err.ensures.disk
 
 pub open_store-requires-clause-closed : goal.open_store-requires-clause-closed
@@ -66,7 +66,7 @@ returns-clause-began g c =
     let began : Began = record { fence = c.present_fence-fence.result; points = loaded.points } in
     let image = ((g.met.D.Disk g.world.𝓛 g.world.𝓜 g.world.𝓡 ((λ s x. x), (λ x. x), (λ x. x), (λ x. x))).lawful c.args.self.now.disk).read_is_image in
     let done =
-    open_done g.D.Disk.state inside.standing inside.tenure inside.begun c.args.self.now inside.store c.open_store.new.store c.self.view_is c.args.tenure began tt c.requires.boot c.requires.high loaded.points loaded.tenure loaded.fence c.requires.not_higher
+    open_done g.D.Disk.state inside.standing inside.tenure inside.begun inside.work c.args.self.now inside.store c.open_store.new.store c.self.view_is c.args.tenure began tt c.requires.boot c.requires.high loaded.points loaded.tenure loaded.fence c.requires.not_higher
     c.requires.held c.requires.only image (beside_volumes loaded) c.in_default.ensures.ok (subst (λ d. (g.D.Disk.state d).tells ≡ true → c.open_store.new.store.content ≡ content_of loaded.points) (ap (λ m. m.disk) c.self.view_is) c.in_default.ensures.content) (λ told. beside loaded (g.D.Disk.state c.args.self.now.disk).files (c.requires.volumes told)) c.in_default.ensures.disk c.present_fence-fence.ensures refl in
     done.from
 
@@ -77,7 +77,7 @@ returns-clause-disk g c =
     let began : Began = record { fence = c.present_fence-fence.result; points = loaded.points } in
     let image = ((g.met.D.Disk g.world.𝓛 g.world.𝓜 g.world.𝓡 ((λ s x. x), (λ x. x), (λ x. x), (λ x. x))).lawful c.args.self.now.disk).read_is_image in
     let done =
-    open_done g.D.Disk.state inside.standing inside.tenure inside.begun c.args.self.now inside.store c.open_store.new.store c.self.view_is c.args.tenure began tt c.requires.boot c.requires.high loaded.points loaded.tenure loaded.fence c.requires.not_higher
+    open_done g.D.Disk.state inside.standing inside.tenure inside.begun inside.work c.args.self.now inside.store c.open_store.new.store c.self.view_is c.args.tenure began tt c.requires.boot c.requires.high loaded.points loaded.tenure loaded.fence c.requires.not_higher
     c.requires.held c.requires.only image (beside_volumes loaded) c.in_default.ensures.ok (subst (λ d. (g.D.Disk.state d).tells ≡ true → c.open_store.new.store.content ≡ content_of loaded.points) (ap (λ m. m.disk) c.self.view_is) c.in_default.ensures.content) (λ told. beside loaded (g.D.Disk.state c.args.self.now.disk).files (c.requires.volumes told)) c.in_default.ensures.disk c.present_fence-fence.ensures refl in
     done.disk
 
@@ -88,6 +88,6 @@ returns-clause-step g c =
     let began : Began = record { fence = c.present_fence-fence.result; points = loaded.points } in
     let image = ((g.met.D.Disk g.world.𝓛 g.world.𝓜 g.world.𝓡 ((λ s x. x), (λ x. x), (λ x. x), (λ x. x))).lawful c.args.self.now.disk).read_is_image in
     let done =
-    open_done g.D.Disk.state inside.standing inside.tenure inside.begun c.args.self.now inside.store c.open_store.new.store c.self.view_is c.args.tenure began tt c.requires.boot c.requires.high loaded.points loaded.tenure loaded.fence c.requires.not_higher
+    open_done g.D.Disk.state inside.standing inside.tenure inside.begun inside.work c.args.self.now inside.store c.open_store.new.store c.self.view_is c.args.tenure began tt c.requires.boot c.requires.high loaded.points loaded.tenure loaded.fence c.requires.not_higher
     c.requires.held c.requires.only image (beside_volumes loaded) c.in_default.ensures.ok (subst (λ d. (g.D.Disk.state d).tells ≡ true → c.open_store.new.store.content ≡ content_of loaded.points) (ap (λ m. m.disk) c.self.view_is) c.in_default.ensures.content) (λ told. beside loaded (g.D.Disk.state c.args.self.now.disk).files (c.requires.volumes told)) c.in_default.ensures.disk c.present_fence-fence.ensures refl in
     done.step

@@ -36,17 +36,17 @@ not_inside g c =
 
 -- what the store answered
 settles : (g : Over) (c : goal.After-settle g)
-    → PutDone g.D.Disk.state c.args.self.now c.args.version c.args.rules.now c.args.point.now c.settle.result (machine_of c.settle.new.standing c.self.inside.tenure c.self.inside.begun c.put-said.new.self)
+    → PutDone g.D.Disk.state c.args.self.now c.args.version c.args.rules.now c.args.point.now c.settle.result (machine_of c.settle.new.standing c.self.inside.tenure c.self.inside.begun c.self.inside.work c.put-said.new.self)
 settles g c =
     let inside = c.self.inside in
     let rules = c.args.rules.now in
     let point = c.args.point.now in
     let said = c.put-said.result in
-    let mid = middle inside.standing inside.tenure inside.begun inside.store c.put-said.new.self c.args.self.now said in
-    let by = put_by g.D.Disk.state inside.standing inside.tenure inside.begun c.args.self.now inside.store c.put-said.new.self point said c.self.view_is c.put-said.ensures.ok c.put-said.ensures.unchanged c.put-said.ensures.disk in
+    let mid = middle inside.standing inside.tenure inside.begun inside.work inside.store c.put-said.new.self c.args.self.now said in
+    let by = put_by g.D.Disk.state inside.standing inside.tenure inside.begun inside.work c.args.self.now inside.store c.put-said.new.self point said c.self.view_is c.put-said.ensures.ok c.put-said.ensures.unchanged c.put-said.ensures.disk in
     let left =
-    settled_is inside.standing inside.tenure inside.begun inside.store c.put-said.new.self c.settle.new.standing said c.put-said.ensures.memory c.put-said.ensures.fault c.settle.ensures.down c.settle.ensures.stays
-    ∙ ap (λ m. settled said (middle inside.standing inside.tenure inside.begun inside.store c.put-said.new.self m said)) c.self.view_is in
+    settled_is inside.standing inside.tenure inside.begun inside.work inside.store c.put-said.new.self c.settle.new.standing said c.put-said.ensures.memory c.put-said.ensures.fault c.settle.ensures.down c.settle.ensures.stays
+    ∙ ap (λ m. settled said (middle inside.standing inside.tenure inside.begun inside.work inside.store c.put-said.new.self m said)) c.self.view_is in
     put_done g.D.Disk.state c.args.self.now c.args.version rules point c.in_ok-check_version.ensures.ok (in_window rules point c.requires.space c.in_ok-check_window.ensures.ok) c.in_ok-check_window.ensures.ok mid said c.settle.result _ c.settle.ensures.said left by
 
 pub put-said-requires-clause-open_ : goal.put-said-requires-clause-open_
@@ -60,7 +60,7 @@ invariant_of-self g c =
     let is_up = up c.args.self.now.standing c.args.self.now.tenure c.args.self.now.fence c.args.version c.in_ok-check_version.ensures.ok in
     let is_open = ap (λ m. m.standing) c.self.view_is ∙ is_up.open_ in
     let opened = store_open inside.standing inside.store c.self.invariant is_open in
-    store_after inside.standing inside.tenure inside.begun inside.store c.put-said.new.self c.settle.new.standing c.put-said.result is_open opened (on_ok_as c.put-said.result (λ is. ap (λ s. s.open_) is ∙ opened) c.put-said.ensures.ok) c.put-said.ensures.memory c.put-said.ensures.fault
+    store_after inside.standing inside.tenure inside.begun inside.work inside.store c.put-said.new.self c.settle.new.standing c.put-said.result is_open opened (on_ok_as c.put-said.result (λ is. ap (λ s. s.open_) is ∙ opened) c.put-said.ensures.ok) c.put-said.ensures.memory c.put-said.ensures.fault
     c.settle.ensures.down c.settle.ensures.stays
 
 pub returns-in_err-check_version-clause-ok : goal.returns-in_err-check_version-clause-ok

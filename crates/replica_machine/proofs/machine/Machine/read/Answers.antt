@@ -34,7 +34,7 @@ wanted g c =
 
 -- what the store answered
 fetched : (g : Over) (c : goal.After-settle_files g)
-    → ReadDone g.D.Disk.state c.args.self.now c.args.rules.now c.args.version c.args.pick.now c.args.from c.args.to c.settle_files.result (machine_of c.settle_files.new.standing c.self.inside.tenure c.self.inside.begun c.fetch-said.new.self)
+    → ReadDone g.D.Disk.state c.args.self.now c.args.rules.now c.args.version c.args.pick.now c.args.from c.args.to c.settle_files.result (machine_of c.settle_files.new.standing c.self.inside.tenure c.self.inside.begun c.self.inside.work c.fetch-said.new.self)
 fetched g c =
     let inside = c.self.inside in
     let rules = c.args.rules.now in
@@ -45,8 +45,8 @@ fetched g c =
     let first = c.first_live-first.ensures in
     let served = subst (λ m. unserved m c.args.version ≡ None) (sym c.self.view_is) c.in_ok-check_version.ensures.ok in
     let said = c.fetch-said in
-    subst (λ m. ReadDone g.D.Disk.state m rules c.args.version pick c.args.from c.args.to c.settle_files.result (machine_of c.settle_files.new.standing inside.tenure inside.begun said.new.self)) c.self.view_is
-    (read_done g.D.Disk.state inside.standing inside.tenure inside.begun inside.store said.new.self rules c.args.version pick c.args.from c.args.to served space at said.result c.settle_files.result c.settle_files.new.standing c.settle_files.ensures.said
+    subst (λ m. ReadDone g.D.Disk.state m rules c.args.version pick c.args.from c.args.to c.settle_files.result (machine_of c.settle_files.new.standing inside.tenure inside.begun inside.work said.new.self)) c.self.view_is
+    (read_done g.D.Disk.state inside.standing inside.tenure inside.begun inside.work inside.store said.new.self rules c.args.version pick c.args.from c.args.to served space at said.result c.settle_files.result c.settle_files.new.standing c.settle_files.ensures.said
     (λ tells. IfOk-weaker said.result (IsAnswer inside.store.content pick c.first_live-first.result c.args.to) (IsLiveAnswer inside.store.content rules pick c.args.from c.args.to)
     (λ series answer. live_answer inside.store.content rules pick c.args.from c.first_live-first.result c.args.to space series at first.low (λ t below low. first.live t (let fits : c.args.to < 2 ^ 64 = c.ranges.to.fits in omega arith) low) first.first answer) (said.ensures.answer tells))
     said.ensures.ordered said.ensures.ok said.ensures.memory said.ensures.closed said.ensures.sound said.ensures.leaves c.settle_files.ensures.ok c.settle_files.ensures.down c.settle_files.ensures.memory)

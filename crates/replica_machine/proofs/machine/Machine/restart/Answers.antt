@@ -6,7 +6,7 @@ use Rattle.replica_machine.proofs.machine.Machine.restart.Goals as goal
 failed : (g : Over) (c : goal.After-refused g) → RestartDone g.D.Disk.state c.args.self.now (Err c.refused.result) c.refused.new.self
 failed g c =
     let inside = c.self.inside in
-    restart_refused_of g.D.Disk.state inside.standing inside.tenure inside.begun c.args.self.now inside.store c.restart.new.self c.self.view_is c.in-Err.why c.refused.result c.refused.new.self c.in-Err.ensures.err c.refused.ensures.why
+    restart_refused_of g.D.Disk.state inside.standing inside.tenure inside.begun inside.work c.args.self.now inside.store c.restart.new.self c.self.view_is c.in-Err.why c.refused.result c.refused.new.self c.in-Err.ensures.err c.refused.ensures.why
     c.refused.ensures.left c.in-Err.ensures.restarts
 
 pub invariant_of-self : goal.invariant_of-self
@@ -31,19 +31,19 @@ pub returns-in-Err-clause-step : goal.returns-in-Err-clause-step
 returns-in-Err-clause-step g c = (failed g c).step
 
 pub returns-clause-ok : goal.returns-clause-ok
-returns-clause-ok g c = (restart_ok_of g.D.Disk.state c.self.inside.standing c.self.inside.tenure c.self.inside.begun c.args.self.now c.self.inside.store c.restart.new.self c.self.view_is tt c.in_default.ensures.ok c.in_default.ensures.restarts).ok
+returns-clause-ok g c = (restart_ok_of g.D.Disk.state c.self.inside.standing c.self.inside.tenure c.self.inside.begun c.self.inside.work c.args.self.now c.self.inside.store c.restart.new.self c.self.view_is tt c.in_default.ensures.ok c.in_default.ensures.restarts).ok
 
 pub returns-clause-memory : goal.returns-clause-memory
-returns-clause-memory g c = (restart_ok_of g.D.Disk.state c.self.inside.standing c.self.inside.tenure c.self.inside.begun c.args.self.now c.self.inside.store c.restart.new.self c.self.view_is tt c.in_default.ensures.ok c.in_default.ensures.restarts).memory
+returns-clause-memory g c = (restart_ok_of g.D.Disk.state c.self.inside.standing c.self.inside.tenure c.self.inside.begun c.self.inside.work c.args.self.now c.self.inside.store c.restart.new.self c.self.view_is tt c.in_default.ensures.ok c.in_default.ensures.restarts).memory
 
 pub returns-clause-fault : goal.returns-clause-fault
-returns-clause-fault g c = (restart_ok_of g.D.Disk.state c.self.inside.standing c.self.inside.tenure c.self.inside.begun c.args.self.now c.self.inside.store c.restart.new.self c.self.view_is tt c.in_default.ensures.ok c.in_default.ensures.restarts).fault
+returns-clause-fault g c = (restart_ok_of g.D.Disk.state c.self.inside.standing c.self.inside.tenure c.self.inside.begun c.self.inside.work c.args.self.now c.self.inside.store c.restart.new.self c.self.view_is tt c.in_default.ensures.ok c.in_default.ensures.restarts).fault
 
 pub returns-clause-err : goal.returns-clause-err
-returns-clause-err g c = (restart_ok_of g.D.Disk.state c.self.inside.standing c.self.inside.tenure c.self.inside.begun c.args.self.now c.self.inside.store c.restart.new.self c.self.view_is tt c.in_default.ensures.ok c.in_default.ensures.restarts).err
+returns-clause-err g c = (restart_ok_of g.D.Disk.state c.self.inside.standing c.self.inside.tenure c.self.inside.begun c.self.inside.work c.args.self.now c.self.inside.store c.restart.new.self c.self.view_is tt c.in_default.ensures.ok c.in_default.ensures.restarts).err
 
 pub returns-clause-restarts : goal.returns-clause-restarts
-returns-clause-restarts g c = (restart_ok_of g.D.Disk.state c.self.inside.standing c.self.inside.tenure c.self.inside.begun c.args.self.now c.self.inside.store c.restart.new.self c.self.view_is tt c.in_default.ensures.ok c.in_default.ensures.restarts).restarts
+returns-clause-restarts g c = (restart_ok_of g.D.Disk.state c.self.inside.standing c.self.inside.tenure c.self.inside.begun c.self.inside.work c.args.self.now c.self.inside.store c.restart.new.self c.self.view_is tt c.in_default.ensures.ok c.in_default.ensures.restarts).restarts
 
 pub returns-clause-step : goal.returns-clause-step
-returns-clause-step g c = (restart_ok_of g.D.Disk.state c.self.inside.standing c.self.inside.tenure c.self.inside.begun c.args.self.now c.self.inside.store c.restart.new.self c.self.view_is tt c.in_default.ensures.ok c.in_default.ensures.restarts).step
+returns-clause-step g c = (restart_ok_of g.D.Disk.state c.self.inside.standing c.self.inside.tenure c.self.inside.begun c.self.inside.work c.args.self.now c.self.inside.store c.restart.new.self c.self.view_is tt c.in_default.ensures.ok c.in_default.ensures.restarts).step

@@ -1,6 +1,8 @@
 use Rattle.std.proofs.Common.{◌∙◌, ap, sym, subst, ℕ, Result, Err}
 use Rattle.m3_model.specs.declared.reason.Reason.{Reason}
 use Rattle.shard_store.proofs.LogStepLemmas.{err_is, on_ok_as}
+use Rattle.replica_machine.specs.declared.work.Work.{Work}
+use Rattle.replica_machine.specs.Works.{with_snapshot, work_after}
 use Rattle.replica_machine.proofs.FenceLemmas.{fence_open}
 use Rattle.replica_machine.proofs.KeptLemmas.{rearranges_empty, no_points}
 use Rattle.replica_machine.proofs.SavedLemmas.{SavedDone, saved_refused, saved_done}
@@ -12,7 +14,7 @@ use Rattle.replica_machine.proofs.machine.Machine.snapshot.Goals as goal
 not_open : (g : Over) (c : goal.After-from_residual g) → SavedDone g.D.Disk.state c.args.self.now c.from_residual.result c.args.self.now
 not_open g c =
     let inside = c.self.inside in
-    let old = machine_of inside.standing inside.tenure inside.begun inside.store in
+    let old = machine_of inside.standing inside.tenure inside.begun inside.work inside.store in
     let why = c.in_err-check_open.field-0.0 in
     let first = c.in_err-check_open.ensures.err in
     subst (λ (r : Result ℕ Reason). SavedDone g.D.Disk.state c.args.self.now r c.args.self.now) (sym (err_is c.from_residual.result why c.from_residual.ensures))
@@ -20,15 +22,16 @@ not_open g c =
     (saved_refused g.D.Disk.state old why first (rearranges_empty inside.store.content ⊥ (g.D.Disk.state inside.store.disk) (λ f. f) (λ p has. no_points inside.standing inside.store why c.self.invariant first p has))))
 
 -- what the store answered
-answered : (g : Over) (c : goal.After-settle g) → SavedDone g.D.Disk.state c.args.self.now c.settle.result (machine_of c.settle.new.standing c.self.inside.tenure c.self.inside.begun c.snapshot-said.new.self)
+answered : (g : Over) (c : goal.After-settle g) → SavedDone g.D.Disk.state c.args.self.now c.settle.result (machine_of c.settle.new.standing c.self.inside.tenure c.self.inside.begun c.note_snapshot.new.self c.snapshot-said.new.self)
 answered g c =
     let inside = c.self.inside in
     let is_open = fence_open inside.standing c.in_ok-check_open.ensures.ok in
     let said = c.snapshot-said in
-    subst (λ m. SavedDone g.D.Disk.state m c.settle.result (machine_of c.settle.new.standing inside.tenure inside.begun said.new.self)) c.self.view_is
-    (saved_done g.D.Disk.state inside.standing inside.tenure inside.begun inside.store said.new.self is_open said.result c.settle.result c.settle.new.standing c.settle.ensures.said
+    subst (λ (w : Work). SavedDone g.D.Disk.state c.args.self.now c.settle.result (machine_of c.settle.new.standing inside.tenure inside.begun w said.new.self)) (sym c.note_snapshot.ensures)
+    (subst (λ m. SavedDone g.D.Disk.state m c.settle.result (machine_of c.settle.new.standing inside.tenure inside.begun (work_after with_snapshot said.result inside.work) said.new.self)) c.self.view_is
+    (saved_done g.D.Disk.state inside.standing inside.tenure inside.begun inside.work inside.store said.new.self is_open said.result c.settle.result c.settle.new.standing c.settle.ensures.said
     said.ensures.ok said.ensures.number said.ensures.saved said.ensures.volumes said.ensures.memory said.ensures.fault said.ensures.disk
-    c.settle.ensures.down c.settle.ensures.stays)
+    c.settle.ensures.down c.settle.ensures.stays))
 
 pub snapshot-said-requires-clause-open_ : goal.snapshot-said-requires-clause-open_
 snapshot-said-requires-clause-open_ g c = λ a b. store_open c.self.inside.standing c.self.inside.store c.self.invariant (fence_open c.self.inside.standing c.in_ok-check_open.ensures.ok)
@@ -39,7 +42,7 @@ invariant_of-self g c =
     let said = c.snapshot-said in
     let is_open = fence_open inside.standing c.in_ok-check_open.ensures.ok in
     let opened = store_open inside.standing inside.store c.self.invariant is_open in
-    store_after inside.standing inside.tenure inside.begun inside.store said.new.self c.settle.new.standing said.result is_open opened (on_ok_as said.result (λ same. ap (λ s. s.open_) same ∙ opened) said.ensures.ok) said.ensures.memory said.ensures.fault
+    store_after inside.standing inside.tenure inside.begun inside.work inside.store said.new.self c.settle.new.standing said.result is_open opened (on_ok_as said.result (λ same. ap (λ s. s.open_) same ∙ opened) said.ensures.ok) said.ensures.memory said.ensures.fault
     c.settle.ensures.down c.settle.ensures.stays
 
 pub returns-in_err-check_open-clause-ok : goal.returns-in_err-check_open-clause-ok

@@ -3,6 +3,8 @@ use Rattle.shard_store.specs.block_buffer.Held.{without, has_expired}
 use Rattle.m3_model.specs.declared.reason.Reason.{Reason}
 use Rattle.m3_model.specs.declared.reason.Reason.TheVariants as reason
 use Rattle.shard_store.proofs.LogStepLemmas.{err_is, on_ok_as}
+use Rattle.replica_machine.specs.declared.work.Work.{Work}
+use Rattle.replica_machine.specs.Works.{with_tick, work_after}
 use Rattle.replica_machine.proofs.FenceLemmas.{fence_open}
 use Rattle.replica_machine.proofs.FilesLemmas.{store_after_files}
 use Rattle.replica_machine.proofs.KeptLemmas.{rearranges_open, rearranges_empty, no_points, fewer}
@@ -15,7 +17,7 @@ use Rattle.replica_machine.proofs.machine.Machine.tick.Goals as goal
 not_open : (g : Over) (c : goal.After-from_residual g) → TickDone g.D.Disk.state c.args.self.now c.args.rules.now c.from_residual.result c.args.self.now
 not_open g c =
     let inside = c.self.inside in
-    let old = machine_of inside.standing inside.tenure inside.begun inside.store in
+    let old = machine_of inside.standing inside.tenure inside.begun inside.work inside.store in
     let why = c.in_err-check_open.field-0.0 in
     let first = c.in_err-check_open.ensures.err in
     subst (λ (r : Result ℕ Reason). TickDone g.D.Disk.state c.args.self.now c.args.rules.now r c.args.self.now) (sym (err_is c.from_residual.result why c.from_residual.ensures))
@@ -31,19 +33,20 @@ wanted g c =
     let is = err_is c.from_residual-in_err-room.result c.in_err-room.field-0.0 c.from_residual-in_err-room.ensures ∙ ap Err c.in_err-room.ensures.err in
     subst (λ (r : Result ℕ Reason). TickDone g.D.Disk.state c.args.self.now c.args.rules.now r c.args.self.now) (sym is)
     (subst (λ m. TickDone g.D.Disk.state m c.args.rules.now (Err reason.Memory) m) c.self.view_is
-    (tick_wanted g.D.Disk.state inside.standing inside.tenure inside.begun inside.store c.args.rules.now is_open (rearranges_open (without inside.store.content (has_expired c.args.rules.now)) inside.store.content inside.store.tenure inside.store.fence ⊥ (g.D.Disk.state inside.store.disk) (λ f. f) (fewer c.args.rules.now inside.store.content) (c.images_hold.ensures opened))))
+    (tick_wanted g.D.Disk.state inside.standing inside.tenure inside.begun inside.work inside.store c.args.rules.now is_open (rearranges_open (without inside.store.content (has_expired c.args.rules.now)) inside.store.content inside.store.tenure inside.store.fence ⊥ (g.D.Disk.state inside.store.disk) (λ f. f) (fewer c.args.rules.now inside.store.content) (c.images_hold.ensures opened))))
 
 -- what the store answered
-answered : (g : Over) (c : goal.After-settle_files g) → TickDone g.D.Disk.state c.args.self.now c.args.rules.now c.settle_files.result (machine_of c.settle_files.new.standing c.self.inside.tenure c.self.inside.begun c.tick-said.new.self)
+answered : (g : Over) (c : goal.After-settle_files g) → TickDone g.D.Disk.state c.args.self.now c.args.rules.now c.settle_files.result (machine_of c.settle_files.new.standing c.self.inside.tenure c.self.inside.begun c.note_tick.new.self c.tick-said.new.self)
 answered g c =
     let inside = c.self.inside in
     let is_open = fence_open inside.standing c.in_ok-check_open.ensures.ok in
     let said = c.tick-said in
     let settled = c.settle_files.ensures in
-    subst (λ m. TickDone g.D.Disk.state m c.args.rules.now c.settle_files.result (machine_of c.settle_files.new.standing inside.tenure inside.begun said.new.self)) c.self.view_is
-    (tick_done g.D.Disk.state inside.standing inside.tenure inside.begun inside.store said.new.self c.args.rules.now is_open said.result c.settle_files.result c.settle_files.new.standing settled.said
+    subst (λ (w : Work). TickDone g.D.Disk.state c.args.self.now c.args.rules.now c.settle_files.result (machine_of c.settle_files.new.standing inside.tenure inside.begun w said.new.self)) (sym c.note_tick.ensures)
+    (subst (λ m. TickDone g.D.Disk.state m c.args.rules.now c.settle_files.result (machine_of c.settle_files.new.standing inside.tenure inside.begun (work_after with_tick said.result inside.work) said.new.self)) c.self.view_is
+    (tick_done g.D.Disk.state inside.standing inside.tenure inside.begun inside.work inside.store said.new.self c.args.rules.now is_open said.result c.settle_files.result c.settle_files.new.standing settled.said
     said.ensures.ok said.ensures.lost said.ensures.there said.ensures.stays ((g.met.D.Disk g.world.𝓛 g.world.𝓜 g.world.𝓡 ((λ s x. x), (λ x. x), (λ x. x), (λ x. x))).lawful inside.store.disk).read_is_image said.ensures.memory said.ensures.unchanged said.ensures.closed said.ensures.sound said.ensures.disk
-    settled.ok settled.down settled.memory)
+    settled.ok settled.down settled.memory))
 
 pub tick-said-requires-clause-open_ : goal.tick-said-requires-clause-open_
 tick-said-requires-clause-open_ g c = λ a b. store_open c.self.inside.standing c.self.inside.store c.self.invariant (fence_open c.self.inside.standing c.in_ok-check_open.ensures.ok)

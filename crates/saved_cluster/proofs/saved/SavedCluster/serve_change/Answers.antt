@@ -1,5 +1,5 @@
 use Rattle.std.proofs.Common.{◌≡◌, refl, sym, ap, subst, ◌∙◌, true, false}
-use Rattle.std.specs.Prelude.{Option, Some, Err, option_map}
+use Rattle.std.specs.Prelude.{Option, Some, Err, IfSome, option_map}
 use Rattle.m3_model.specs.declared.answer.Answer.TheVariants as answer
 use Rattle.m3_model.specs.declared.rules.MetaState.{MetaState}
 use Rattle.m3_outside.proofs.Moments.{counts_none}
@@ -8,11 +8,12 @@ use Rattle.cluster_tracks.specs.first_cluster.Depots.{depot_by}
 use Rattle.served_cluster.specs.Acts.{Serves}
 use Rattle.served_cluster.specs.Owned.{MayServeCluster}
 use Rattle.served_cluster.specs.Plans.{IsPlannedBy, by_plan, state_after, state_of}
+use Rattle.meta_bytes.specs.States.{IsMetaState}
 use Rattle.placement_log.specs.States.{MayBeState}
 use Rattle.saved_cluster.specs.Saved.{IsReadyFor, IsSaved}
 use Rattle.saved_cluster.proofs.DiskLemmas.{counts_as}
 use Rattle.saved_cluster.proofs.SaveLemmas.{answered_same, answered_saved, answered_unsaved, lost_saved, lost_unsaved, may_close, may_readied}
-use Rattle.saved_cluster.proofs.ServeLemmas.{plan_lawful, plan_leads, state_made, state_unmade, wanted_serves}
+use Rattle.saved_cluster.proofs.ServeLemmas.{made_lawful, made_ready, plan_lawful, plan_leads, state_made, state_unmade, wanted_serves}
 use Rattle.saved_cluster.proofs.OutLemmas.{serves_out}
 use Rattle.saved_cluster.proofs.saved.SavedCluster.serve_change.Goals as goal
 
@@ -23,8 +24,13 @@ returns-in-Err-clause-answered g c =
     answered_same g.D.Disk.state depot c.args.self.now c.args.act c.in-Err.refused c.requires.may (c.in-Err.ensures.refused depot)
 
 -- The save is readied.
-pub ready-requires-clause-planned : goal.ready-requires-clause-planned
-ready-requires-clause-planned g c κs lives = (c.args.act, c.requires.limits, c.in-Ok.ensures.planned)
+pub state_by-requires-clause-planned : goal.state_by-requires-clause-planned
+state_by-requires-clause-planned g c κs lives = (c.args.act, c.in-Ok.ensures.planned)
+
+pub ready-requires-clause-state : goal.ready-requires-clause-state
+ready-requires-clause-state g c κs lives =
+    subst (λ o. IfSome o IsMetaState) (sym c.ok-next.ensures.value)
+    (made_lawful c.state_by.result _ c.state_by.ensures (λ next leads. plan_lawful c.args.self.now.cluster c.args.act c.in-Ok.plan c.in-Ok.ensures.planned next leads c.requires.limits c.requires.may.state))
 
 pub returns-in-Err-Memory-clause-answered : goal.returns-in-Err-Memory-clause-answered
 returns-in-Err-Memory-clause-answered g c =
@@ -78,7 +84,8 @@ save-requires-after_bounds g c κs within =
     let made = c.make-answer.ensures in
     let mid = c.ready.new.self in
     let same = made.state ∙ state_made c.make-answer.result.1 c.in-Ok.plan (state_of mid.cluster) c.if-not-made.false ∙ ap (λ x. option_map (by_plan c.in-Ok.plan) (state_of x)) c.ready.ensures.cluster in
-    subst (λ o. IsReadyFor o mid.log (g.D.Disk.state mid.meta)) (sym same) c.in-Ok-ready.ensures.ok
+    let next = subst (λ o. IsReadyFor o mid.log (g.D.Disk.state mid.meta)) c.ok-next.ensures.value c.in-Ok-ready.ensures.ok in
+    subst (λ o. IsReadyFor o mid.log (g.D.Disk.state mid.meta)) (sym same) (made_ready c.state_by.result _ mid.log (g.D.Disk.state mid.meta) c.state_by.ensures next)
 
 pub returns-in-Ok-save-clause-answered : goal.returns-in-Ok-save-clause-answered
 returns-in-Ok-save-clause-answered g c =

@@ -4,7 +4,7 @@ use Rattle.m3_model.specs.declared.turn.Request.TheVariants as request
 use Rattle.cluster_tracks.specs.first_cluster.Depots.{depot_by}
 use Rattle.served_cluster.specs.Acts.{is_init}
 use Rattle.saved_cluster.specs.Saved.{AnswersSaved, IsUnbegun}
-use Rattle.saved_cluster.proofs.ServeLemmas.{changes_by, no_init, no_want}
+use Rattle.saved_cluster.proofs.ServeLemmas.{no_init, no_init_so, no_want}
 use Rattle.saved_cluster.proofs.saved.SavedCluster.serve_saving.Goals as goal
 
 -- An `init`.
@@ -27,15 +27,15 @@ pub returns-in-Init-clause-unbegun : goal.returns-in-Init-clause-unbegun
 returns-in-Init-clause-unbegun g c = λ is. subst (λ a. IsUnbegun g.D.Disk.state c.args.self.now (request.One a) c.serve_init.new.self) (sym c.in-Init.is) (c.serve_init.ensures.unbegun is)
 
 -- Any other act.
-pub serve_change-requires-clause-changes : goal.serve_change-requires-clause-changes
-serve_change-requires-clause-changes g c κs lives = changes_by c.args.act c.requires.saving c.in_default.not-Init
+pub serve_standing-requires-clause-no_init : goal.serve_standing-requires-clause-no_init
+serve_standing-requires-clause-no_init g c κs lives = no_init_so c.args.act c.in_default.not-Init
 
 pub returns : goal.returns
 returns g c =
-    let change = c.serve_change.ensures in
+    let stands = c.serve_standing.ensures in
     record {
-      answered = change.answered;
+      answered = stands.answered;
       untouched = λ is init. absurd (no_init c.args.act c.in_default.not-Init init);
-      wanted = λ is. absurd (no_want c.serve_change.result change.meta is);
-      unbegun = λ is. absurd (no_want c.serve_change.result change.meta is);
+      wanted = λ is. absurd (no_want c.serve_standing.result stands.meta is);
+      unbegun = λ is. absurd (no_want c.serve_standing.result stands.meta is);
     }

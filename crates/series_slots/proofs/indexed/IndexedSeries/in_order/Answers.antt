@@ -11,6 +11,6 @@ use Rattle.series_slots.proofs.indexed.IndexedSeries.in_order.Goals as goal
 
 pub returns : goal.returns
 returns c ns from to is wanted =
-    space_range c.args.self.now ns from to wanted c.from_vec.result (subst (λ (es : SeriesEntries). IsDistinct series_eq (keys_of es)) c.self.view_is c.self.invariant)
+    space_range c.args.self.now ns from to wanted c.from_vec.result (subst (λ (es : SeriesEntries). IsDistinct series_eq (keys_of es)) c.self.view_is c.self.invariant.0)
     (subst (IsPermutation _) (sym c.from_vec.ensures) (subst (λ (xs : List Series). IsPermutation xs c.by_id.result.items) is c.by_id.ensures.same))
     (subst (IsSortedByKey (λ (s : Series). s.id) (slice_cmp nat_cmp)) (sym c.from_vec.ensures) c.by_id.ensures.order)

@@ -16,4 +16,4 @@ pub returns-clause-found : goal.returns-clause-found
 returns-clause-found c s slots at =
     let es : SeriesEntries = c.self.inside.map.entries in
     let there : slice_get es c.args.position ≡ Some (s, slots) = subst (λ (ps : SeriesEntries). slice_get ps c.args.position ≡ Some (s, slots)) (sym c.self.view_is) at in
-    subst (λ (ps : SeriesEntries). finite.get (slots_of ps) s ≡ Some slots) c.self.view_is (found_in es c.args.position s slots c.self.invariant there)
+    subst (λ (ps : SeriesEntries). finite.get (slots_of ps) s ≡ Some slots) c.self.view_is (found_in es c.args.position s slots c.self.invariant.0 there)

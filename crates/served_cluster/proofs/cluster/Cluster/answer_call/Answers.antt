@@ -1,7 +1,7 @@
 use Rattle.std.proofs.Common.{subst}
 use Rattle.served_cluster.specs.Owned.{AreReady}
 use Rattle.served_cluster.proofs.ActLemmas.{made, wanted}
-use Rattle.served_cluster.proofs.KeptLemmas.{ready_on}
+use Rattle.served_cluster.proofs.KeptLemmas.{call_boots_none, ready_on}
 use Rattle.served_cluster.proofs.cluster.Cluster.answer_call.Goals as goal
 
 pub returns-then-number-clause-answers : goal.returns-then-number-clause-answers
@@ -18,4 +18,4 @@ returns-clause-answers g c =
 pub returns-clause-ready : goal.returns-clause-ready
 returns-clause-ready g c =
     let call = c.make_call in
-    ready_on g.D.Disk.state c.in-Some.members call.new.members c.call_of.result c.args.act call.result call.ensures.does (subst AreReady c.in-Some.is c.requires.ready) call.ensures.ready
+    ready_on g.D.Disk.state c.in-Some.members call.new.members c.call_of.result c.args.act call.result (call_boots_none c.args.act c.requires.call) call.ensures.does (subst AreReady c.in-Some.is c.requires.ready) call.ensures.ready

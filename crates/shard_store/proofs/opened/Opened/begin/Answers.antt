@@ -1,11 +1,11 @@
 use Rattle.std.proofs.Common.{max, ◌++◌, List, ℕ, ◌∙◌, ap, sym, arith}
-use Rattle.listed_volumes.specs.wire_bytes.Entries.{tenure_entry}
+use Rattle.store_log.specs.listed_volumes.wire_bytes.Entries.{tenure_entry}
 use Rattle.m3_outside.specs.declared.disk_err.DiskErr.TheVariants.{Memory, Failed as DiskFailed}
-use Rattle.listed_volumes.specs.shard_files.Gains.{a_tenure}
-use Rattle.listed_volumes.specs.shard_files.declared.entries.LogEntry.TheVariants as entry
-use Rattle.listed_volumes.specs.Listed.{known_in}
-use Rattle.shard_store.proofs.CountedLemmas.{counted_on}
-use Rattle.shard_store.proofs.LogStepLemmas.{err_is, memory_else, brings_none, brings_there, brings_as, kept_for, err_to}
+use Rattle.store_log.specs.listed_volumes.shard_files.Gains.{a_tenure}
+use Rattle.store_log.specs.listed_volumes.shard_files.declared.entries.LogEntry.TheVariants as entry
+use Rattle.store_log.specs.listed_volumes.Listed.{known_in}
+use Rattle.store_log.proofs.LogStepLemmas.{counted_on}
+use Rattle.store_log.proofs.LogStepLemmas.{err_is, memory_else, brings_none, brings_there, brings_as, kept_for, err_to}
 use Rattle.shard_store.proofs.opened.Opened.begin.Goals as goal
 
 pub returns-then-tenure-self-clause-disk : goal.returns-then-tenure-self-clause-disk

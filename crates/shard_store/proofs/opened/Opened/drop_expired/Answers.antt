@@ -2,12 +2,12 @@ use Rattle.std.proofs.Common.{List, ap, refl, sym, subst}
 use Rattle.std.specs.Prelude.{IsErrOf}
 use Rattle.m3_outside.specs.DiskState.{EachImage}
 use Rattle.m3_outside.specs.declared.disk_err.DiskErr.TheVariants.{Failed as DiskFailed}
-use Rattle.listed_volumes.specs.block_buffer.Held.{InMemory, has_expired, without}
-use Rattle.listed_volumes.specs.fileset_read.declared.file_err.FileErr.TheVariants as unread
-use Rattle.listed_volumes.specs.shard_files.Parts.{KnownVolume}
+use Rattle.store_log.specs.listed_volumes.block_buffer.Held.{InMemory, has_expired, without}
+use Rattle.store_log.specs.listed_volumes.fileset_read.declared.file_err.FileErr.TheVariants as unread
+use Rattle.store_log.specs.listed_volumes.shard_files.Parts.{KnownVolume}
 use Rattle.shard_open.proofs.Counts.{counts_for}
-use Rattle.snapshot_steps.specs.volume_steps.Known.{HoldsKnown}
-use Rattle.listed_volumes.specs.Listed.{known_in}
+use Rattle.store_log.specs.snapshot_steps.volume_steps.Known.{HoldsKnown}
+use Rattle.store_log.specs.listed_volumes.Listed.{known_in}
 use Rattle.shard_store.specs.StoreParts.{content_of_opened}
 use Rattle.shard_store.proofs.CountedLemmas.{counted_removed}
 use Rattle.shard_store.proofs.LossLemmas.{live_known, live_left, live_there, only_fault}

@@ -3,13 +3,13 @@ use Rattle.std.specs.Prelude.{IsErrOf, slice_get}
 use Rattle.std.proofs.lemmas.List.{get_or_default}
 use Rattle.m3_model.specs.Answers.{HasPoint}
 use Rattle.m3_model.specs.Contents.{Contents}
-use Rattle.listed_volumes.specs.block_buffer.Blocks.{IsClosedBlocksOf}
-use Rattle.listed_volumes.proofs.commit_log_proofs.Leaves.{leaves_none}
-use Rattle.listed_volumes.proofs.commit_log_proofs.ReadLemmas.{passed_err}
-use Rattle.listed_volumes.specs.fileset_read.declared.file_err.FileErr.TheVariants as failures
-use Rattle.listed_volumes.proofs.ReadLemmas.{not_fault}
+use Rattle.store_log.specs.listed_volumes.block_buffer.Blocks.{IsClosedBlocksOf}
+use Rattle.store_log.proofs.listed_volumes_proofs.commit_log_proofs.Leaves.{leaves_none}
+use Rattle.store_log.proofs.listed_volumes_proofs.commit_log_proofs.ReadLemmas.{passed_err}
+use Rattle.store_log.specs.listed_volumes.fileset_read.declared.file_err.FileErr.TheVariants as failures
+use Rattle.store_log.proofs.listed_volumes_proofs.ReadLemmas.{not_fault}
 use Rattle.shard_store.specs.Flushes.{is_in_one}
-use Rattle.listed_volumes.specs.Listed.{known_in}
+use Rattle.store_log.specs.listed_volumes.Listed.{known_in}
 use Rattle.shard_store.specs.StoreParts.{content_of_opened}
 use Rattle.shard_store.proofs.FlushLoop.{closed_aligned, flushed_all, flushed_few, flushed_of, flushing_ended, flushing_none, flushing_still, next_fresh}
 use Rattle.shard_store.proofs.FlushedLemmas.{not_ended}

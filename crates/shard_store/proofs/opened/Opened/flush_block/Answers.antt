@@ -2,17 +2,17 @@ use Rattle.std.proofs.Common.{List, ap, map, refl, sym, subst, ◌∙◌}
 use Rattle.std.specs.Prelude.{IsErrOf, filter}
 use Rattle.m3_outside.specs.Files.{Files}
 use Rattle.m3_outside.specs.declared.disk_err.DiskErr.TheVariants.{Failed as DiskFailed}
-use Rattle.listed_volumes.proofs.commit_log_proofs.Leaves.{leaves_as}
-use Rattle.listed_volumes.proofs.commit_log_proofs.ReadLemmas.{passed_err}
-use Rattle.listed_volumes.specs.fileset_read.declared.file_err.FileErr.TheVariants as failures
-use Rattle.listed_volumes.specs.volume_bytes.Heads.{head_of}
-use Rattle.listed_volumes.specs.shard_files.Steps.{next_volume}
-use Rattle.listed_volumes.specs.Known.{is_head_of}
-use Rattle.listed_volumes.proofs.ReadLemmas.{not_fault}
+use Rattle.store_log.proofs.listed_volumes_proofs.commit_log_proofs.Leaves.{leaves_as}
+use Rattle.store_log.proofs.listed_volumes_proofs.commit_log_proofs.ReadLemmas.{passed_err}
+use Rattle.store_log.specs.listed_volumes.fileset_read.declared.file_err.FileErr.TheVariants as failures
+use Rattle.store_log.specs.listed_volumes.volume_bytes.Heads.{head_of}
+use Rattle.store_log.specs.listed_volumes.shard_files.Steps.{next_volume}
+use Rattle.store_log.specs.listed_volumes.Known.{is_head_of}
+use Rattle.store_log.proofs.listed_volumes_proofs.ReadLemmas.{not_fault}
 use Rattle.shard_store.specs.Blocks.{IsOneVolume}
-use Rattle.listed_volumes.specs.Listed.{known_in}
+use Rattle.store_log.specs.listed_volumes.Listed.{known_in}
 use Rattle.shard_store.specs.StoreParts.{content_of_opened}
-use Rattle.listed_volumes.specs.declared.volume.ListedVolume.{ListedVolume}
+use Rattle.store_log.specs.listed_volumes.declared.volume.ListedVolume.{ListedVolume}
 use Rattle.shard_store.proofs.CountedLemmas.{counted_left}
 use Rattle.shard_store.proofs.RearrangeLemmas.{rearranges_left, rearranges_then, rearranges_for}
 use Rattle.shard_store.proofs.StillLemmas.{fault_said, memory_said, opened_left, undamaged_said}

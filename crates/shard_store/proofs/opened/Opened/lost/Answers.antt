@@ -2,11 +2,11 @@ use Rattle.std.proofs.Common.{◌≡◌, ◌∙◌, ◌+◌, ◌<◌, ℕ, ap, a
 use Rattle.std.specs.Prelude.{slice_get}
 use Rattle.std.proofs.lemmas.Option.{slice_get_read}
 use Rattle.m3_model.specs.Contents.{content_of}
-use Rattle.listed_volumes.proofs.commit_log_proofs.Leaves.{leaves_as, leaves_then}
-use Rattle.listed_volumes.proofs.commit_log_proofs.ReadLemmas.{passed_err}
-use Rattle.listed_volumes.specs.fileset_read.declared.file_err.FileErr.TheVariants as unread
-use Rattle.listed_volumes.specs.shard_files.FilesHold.{volume_points}
-use Rattle.listed_volumes.specs.Listed.{known_in}
+use Rattle.store_log.proofs.listed_volumes_proofs.commit_log_proofs.Leaves.{leaves_as, leaves_then}
+use Rattle.store_log.proofs.listed_volumes_proofs.commit_log_proofs.ReadLemmas.{passed_err}
+use Rattle.store_log.specs.listed_volumes.fileset_read.declared.file_err.FileErr.TheVariants as unread
+use Rattle.store_log.specs.listed_volumes.shard_files.FilesHold.{volume_points}
+use Rattle.store_log.specs.listed_volumes.Listed.{known_in}
 use Rattle.shard_store.specs.StoreParts.{content_of_opened}
 use Rattle.shard_store.specs.Ticks.{keys_in, live_volumes}
 use Rattle.shard_store.proofs.KnownReads.{known_counted}

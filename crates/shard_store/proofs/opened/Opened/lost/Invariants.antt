@@ -1,4 +1,4 @@
-use Rattle.listed_volumes.specs.Listed.{known_in}
+use Rattle.store_log.specs.listed_volumes.Listed.{known_in}
 use Rattle.shard_store.proofs.LossLemmas.{Losing}
 use Rattle.shard_store.proofs.opened.Opened.lost.Given as goal
 

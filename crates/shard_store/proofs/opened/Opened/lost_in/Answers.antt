@@ -3,15 +3,15 @@ use Rattle.std.specs.Prelude.{◌==◌, filter, IfSome, not}
 use Rattle.m3_model.specs.Contents.{content_of}
 use Rattle.m3_model.specs.declared.point.Pick.TheVariants as pick
 use Rattle.m3_model.specs.declared.point.Series.{Series}
-use Rattle.listed_volumes.specs.block_buffer.Joins.{joined}
-use Rattle.listed_volumes.proofs.commit_log_proofs.Leaves.{leaves_none, leaves_as, leaves_then}
-use Rattle.listed_volumes.proofs.commit_log_proofs.ReadLemmas.{passed_err}
-use Rattle.listed_volumes.specs.fileset_read.declared.file_err.FileErr.TheVariants as unread
-use Rattle.listed_volumes.specs.wire_bytes.Volumes.{count_of}
-use Rattle.listed_volumes.specs.shard_files.FilesHold.{volume_points}
-use Rattle.listed_volumes.specs.Known.{AreOf, AreThere}
-use Rattle.listed_volumes.proofs.ReadLemmas.{not_fault}
-use Rattle.listed_volumes.specs.Listed.{known_in}
+use Rattle.store_log.specs.listed_volumes.block_buffer.Joins.{joined}
+use Rattle.store_log.proofs.listed_volumes_proofs.commit_log_proofs.Leaves.{leaves_none, leaves_as, leaves_then}
+use Rattle.store_log.proofs.listed_volumes_proofs.commit_log_proofs.ReadLemmas.{passed_err}
+use Rattle.store_log.specs.listed_volumes.fileset_read.declared.file_err.FileErr.TheVariants as unread
+use Rattle.store_log.specs.listed_volumes.wire_bytes.Volumes.{count_of}
+use Rattle.store_log.specs.listed_volumes.shard_files.FilesHold.{volume_points}
+use Rattle.store_log.specs.listed_volumes.Known.{AreOf, AreThere}
+use Rattle.store_log.proofs.listed_volumes_proofs.ReadLemmas.{not_fault}
+use Rattle.store_log.specs.listed_volumes.Listed.{known_in}
 use Rattle.shard_store.specs.Ticks.{has_outlived, keys_in, live_volumes}
 use Rattle.shard_store.specs.StoreParts.{content_of_opened}
 use Rattle.shard_store.proofs.KnownReads.{of_chosen, there_chosen}

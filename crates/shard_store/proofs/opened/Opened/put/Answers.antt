@@ -1,19 +1,19 @@
 use Rattle.std.proofs.Common.{◌++◌, [], ◌∷◌, List, ℕ, max, ◌∙◌, ap, sym, refl, subst, arith}
 use Rattle.std.specs.Prelude.{⊤, IsErr, IsErrOf}
-use Rattle.listed_volumes.specs.wire_bytes.Entries.{points_entry}
+use Rattle.store_log.specs.listed_volumes.wire_bytes.Entries.{points_entry}
 use Rattle.m3_model.specs.Contents.{key_of, raised}
 use Rattle.std.specs.Prelude.{Some}
 use Rattle.m3_outside.specs.Causes.{CountsFaults}
 use Rattle.m3_outside.specs.declared.disk_err.DiskErr.TheVariants.{Memory, Failed as DiskFailed}
-use Rattle.listed_volumes.specs.block_buffer.Held.{InMemory}
-use Rattle.listed_volumes.specs.shard_files.Gains.{a_point}
-use Rattle.listed_volumes.specs.shard_files.declared.entries.LogEntry.TheVariants as entry
+use Rattle.store_log.specs.listed_volumes.block_buffer.Held.{InMemory}
+use Rattle.store_log.specs.listed_volumes.shard_files.Gains.{a_point}
+use Rattle.store_log.specs.listed_volumes.shard_files.declared.entries.LogEntry.TheVariants as entry
 use Rattle.shard_store.specs.Stores.{IsKeptOn, joined_with}
-use Rattle.listed_volumes.specs.shard_files.FilesHold.{volume_points}
+use Rattle.store_log.specs.listed_volumes.shard_files.FilesHold.{volume_points}
 use Rattle.shard_store.proofs.PointLemmas.{joined_raised}
-use Rattle.listed_volumes.specs.Listed.{known_in}
-use Rattle.shard_store.proofs.CountedLemmas.{counted_on}
-use Rattle.shard_store.proofs.LogStepLemmas.{one_bounded, err_is, brings_none, brings_nothing, brings_fault, brings_all, after_nothing, steps_after_nothing, kept_for, memory_put}
+use Rattle.store_log.specs.listed_volumes.Listed.{known_in}
+use Rattle.store_log.proofs.LogStepLemmas.{counted_on}
+use Rattle.store_log.proofs.LogStepLemmas.{one_bounded, err_is, brings_none, brings_nothing, brings_fault, brings_all, after_nothing, steps_after_nothing, kept_for, memory_put}
 use Rattle.shard_open.proofs.Counts.{counts_both, counts_for}
 use Rattle.shard_store.proofs.opened.Opened.put.Goals as goal
 

@@ -1,13 +1,13 @@
 use Rattle.std.proofs.Common.{◌∙◌, List, ap, map}
 use Rattle.std.specs.Prelude.{filter}
-use Rattle.listed_volumes.proofs.commit_log_proofs.Leaves.{leaves_none, leaves_as, leaves_then}
-use Rattle.listed_volumes.proofs.commit_log_proofs.ReadLemmas.{passed_err}
-use Rattle.listed_volumes.specs.fileset_read.declared.file_err.FileErr.TheVariants as unread
-use Rattle.listed_volumes.specs.volume_bytes.Heads.{head_of}
-use Rattle.listed_volumes.proofs.ReadLemmas.{not_fault}
-use Rattle.listed_volumes.specs.Listed.{known_in}
+use Rattle.store_log.proofs.listed_volumes_proofs.commit_log_proofs.Leaves.{leaves_none, leaves_as, leaves_then}
+use Rattle.store_log.proofs.listed_volumes_proofs.commit_log_proofs.ReadLemmas.{passed_err}
+use Rattle.store_log.specs.listed_volumes.fileset_read.declared.file_err.FileErr.TheVariants as unread
+use Rattle.store_log.specs.listed_volumes.volume_bytes.Heads.{head_of}
+use Rattle.store_log.proofs.listed_volumes_proofs.ReadLemmas.{not_fault}
+use Rattle.store_log.specs.listed_volumes.Listed.{known_in}
 use Rattle.shard_store.specs.Ticks.{has_outlived, live_volumes}
-use Rattle.listed_volumes.specs.declared.volume.ListedVolume.{ListedVolume}
+use Rattle.store_log.specs.listed_volumes.declared.volume.ListedVolume.{ListedVolume}
 use Rattle.shard_store.proofs.StillLemmas.{fault_said}
 use Rattle.shard_store.proofs.opened.Opened.ready_tick.Goals as goal
 

@@ -2,14 +2,14 @@ use Rattle.std.proofs.Common.{List, refl, sym, subst}
 use Rattle.std.specs.Prelude.{IsErrOf}
 use Rattle.m3_outside.specs.DiskState.{EachImage}
 use Rattle.m3_outside.specs.declared.disk_err.DiskErr.TheVariants.{Failed as DiskFailed}
-use Rattle.listed_volumes.proofs.commit_log_proofs.ReadLemmas.{passed_err}
-use Rattle.listed_volumes.specs.shard_files.Parts.{KnownVolume}
+use Rattle.store_log.proofs.listed_volumes_proofs.commit_log_proofs.ReadLemmas.{passed_err}
+use Rattle.store_log.specs.listed_volumes.shard_files.Parts.{KnownVolume}
 use Rattle.shard_open.proofs.Counts.{counts_for}
-use Rattle.snapshot_steps.specs.volume_steps.Known.{HoldsKnown}
-use Rattle.listed_volumes.specs.Listed.{known_in}
+use Rattle.store_log.specs.snapshot_steps.volume_steps.Known.{HoldsKnown}
+use Rattle.store_log.specs.listed_volumes.Listed.{known_in}
 use Rattle.shard_store.specs.StoreParts.{content_of_opened}
 use Rattle.shard_store.proofs.CountedLemmas.{counted_removed}
-use Rattle.shard_store.proofs.LogStepLemmas.{err_is, memory_else}
+use Rattle.store_log.proofs.LogStepLemmas.{err_is, memory_else}
 use Rattle.shard_store.proofs.RearrangeLemmas.{becomes_each}
 use Rattle.shard_store.proofs.ReplaceLemmas.{content_removed}
 use Rattle.shard_store.proofs.CacheLemmas.{cached_still, cached_without}

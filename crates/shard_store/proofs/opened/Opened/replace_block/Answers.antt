@@ -2,12 +2,12 @@ use Rattle.std.proofs.Common.{ap, sym, subst, ◌∙◌}
 use Rattle.std.specs.Prelude.{IsErrOf}
 use Rattle.m3_model.specs.Answers.{HasPoint}
 use Rattle.m3_outside.specs.declared.disk_err.DiskErr.TheVariants.{Failed as DiskFailed}
-use Rattle.listed_volumes.specs.block_buffer.Held.{InMemory, is_in_block}
-use Rattle.listed_volumes.proofs.commit_log_proofs.ReadLemmas.{passed_err}
-use Rattle.listed_volumes.specs.Listed.{known_in}
+use Rattle.store_log.specs.listed_volumes.block_buffer.Held.{InMemory, is_in_block}
+use Rattle.store_log.proofs.listed_volumes_proofs.commit_log_proofs.ReadLemmas.{passed_err}
+use Rattle.store_log.specs.listed_volumes.Listed.{known_in}
 use Rattle.shard_store.specs.StoreParts.{content_of_opened}
 use Rattle.shard_store.proofs.KnownReads.{known_counted}
-use Rattle.shard_store.proofs.LogStepLemmas.{err_is, err_to}
+use Rattle.store_log.proofs.LogStepLemmas.{err_is, err_to}
 use Rattle.shard_store.proofs.PointLemmas.{has_fewer}
 use Rattle.shard_store.proofs.RearrangeLemmas.{rearranges_then, rearranges_for}
 use Rattle.shard_store.proofs.ReplaceLemmas.{there_after, one_after, numbers_after}

@@ -1,14 +1,14 @@
 use Rattle.std.proofs.Common.{◌∙◌, [], ap, map}
 use Rattle.std.specs.Prelude.{filter}
-use Rattle.listed_volumes.specs.block_buffer.Joins.{joined}
-use Rattle.listed_volumes.proofs.commit_log_proofs.Leaves.{leaves_none}
-use Rattle.listed_volumes.proofs.commit_log_proofs.ReadLemmas.{passed_err}
-use Rattle.listed_volumes.specs.shard_files.FilesHold.{volume_points}
-use Rattle.listed_volumes.specs.fileset_read.declared.file_err.FileErr.TheVariants as failures
-use Rattle.listed_volumes.specs.Known.{is_of}
-use Rattle.listed_volumes.proofs.AnswerLemmas.{block_is_range}
-use Rattle.listed_volumes.proofs.ReadLemmas.{not_fault}
-use Rattle.listed_volumes.specs.Listed.{known_in}
+use Rattle.store_log.specs.listed_volumes.block_buffer.Joins.{joined}
+use Rattle.store_log.proofs.listed_volumes_proofs.commit_log_proofs.Leaves.{leaves_none}
+use Rattle.store_log.proofs.listed_volumes_proofs.commit_log_proofs.ReadLemmas.{passed_err}
+use Rattle.store_log.specs.listed_volumes.shard_files.FilesHold.{volume_points}
+use Rattle.store_log.specs.listed_volumes.fileset_read.declared.file_err.FileErr.TheVariants as failures
+use Rattle.store_log.specs.listed_volumes.Known.{is_of}
+use Rattle.store_log.proofs.listed_volumes_proofs.AnswerLemmas.{block_is_range}
+use Rattle.store_log.proofs.listed_volumes_proofs.ReadLemmas.{not_fault}
+use Rattle.store_log.specs.listed_volumes.Listed.{known_in}
 use Rattle.shard_store.proofs.KnownReads.{of_heads, there_heads, bounded_of}
 use Rattle.shard_store.proofs.VolumeLists.{known_by_heads}
 use Rattle.shard_store.proofs.opened.Opened.rows_of.Goals as goal

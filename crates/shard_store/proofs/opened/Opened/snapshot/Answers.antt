@@ -1,9 +1,9 @@
 use Rattle.std.proofs.Common.{◌∙◌, List, sym, subst}
-use Rattle.listed_volumes.proofs.commit_log_proofs.Leaves.{leaves_none}
-use Rattle.listed_volumes.specs.commit_log.Contents.{next_after, numbers}
-use Rattle.listed_volumes.specs.shard_files.Parts.{KnownVolume, VolumesAre}
-use Rattle.snapshot_steps.proofs.volume_steps_proofs.LawLemmas.{join_is_there}
-use Rattle.listed_volumes.specs.Listed.{known_in}
+use Rattle.store_log.proofs.listed_volumes_proofs.commit_log_proofs.Leaves.{leaves_none}
+use Rattle.store_log.specs.listed_volumes.commit_log.Contents.{next_after, numbers}
+use Rattle.store_log.specs.listed_volumes.shard_files.Parts.{KnownVolume, VolumesAre}
+use Rattle.store_log.proofs.snapshot_steps_proofs.volume_steps_proofs.LawLemmas.{join_is_there}
+use Rattle.store_log.specs.listed_volumes.Listed.{known_in}
 use Rattle.shard_store.specs.StoreParts.{content_of_opened}
 use Rattle.shard_store.proofs.KnownReads.{known_counted, counted_is}
 use Rattle.shard_store.proofs.RearrangeLemmas.{rearranges_left}

@@ -2,12 +2,12 @@ use Rattle.std.proofs.Common.{◌∙◌, ◌-◌, ap, length, map, refl, sym, ar
 use Rattle.std.specs.Prelude.{IsErrOf}
 use Rattle.std.specs.FinMap.{len}
 use Rattle.m3_outside.proofs.Moments.{becomes_stays}
-use Rattle.listed_volumes.specs.block_buffer.Held.{has_expired, without}
-use Rattle.listed_volumes.proofs.commit_log_proofs.Leaves.{leaves_as}
-use Rattle.listed_volumes.proofs.commit_log_proofs.ReadLemmas.{passed_err}
-use Rattle.listed_volumes.specs.fileset_read.declared.file_err.FileErr.TheVariants as unread
-use Rattle.listed_volumes.specs.volume_bytes.Heads.{head_of}
-use Rattle.listed_volumes.specs.Listed.{known_in}
+use Rattle.store_log.specs.listed_volumes.block_buffer.Held.{has_expired, without}
+use Rattle.store_log.proofs.listed_volumes_proofs.commit_log_proofs.Leaves.{leaves_as}
+use Rattle.store_log.proofs.listed_volumes_proofs.commit_log_proofs.ReadLemmas.{passed_err}
+use Rattle.store_log.specs.listed_volumes.fileset_read.declared.file_err.FileErr.TheVariants as unread
+use Rattle.store_log.specs.listed_volumes.volume_bytes.Heads.{head_of}
+use Rattle.store_log.specs.listed_volumes.Listed.{known_in}
 use Rattle.shard_store.specs.Stores.{joined_with}
 use Rattle.shard_store.specs.StoreParts.{content_of_opened}
 use Rattle.shard_store.proofs.CountedLemmas.{counted_left}

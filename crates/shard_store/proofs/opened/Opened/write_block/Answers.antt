@@ -3,26 +3,26 @@ use Rattle.std.specs.Prelude.{⊤, IsErrOf, Result}
 use Rattle.m3_outside.specs.DiskState.{EachImage}
 use Rattle.m3_outside.specs.declared.disk_err.DiskErr.{DiskErr}
 use Rattle.m3_outside.specs.declared.disk_err.DiskErr.TheVariants.{Memory, Failed as DiskFailed}
-use Rattle.listed_volumes.specs.block_buffer.Held.{InMemory, is_in_block, without}
-use Rattle.listed_volumes.proofs.commit_log_proofs.Leaves.{leaves_none}
-use Rattle.listed_volumes.specs.shard_files.Parts.{KnownVolume}
-use Rattle.snapshot_steps.specs.volume_steps.Known.{HoldsKnown}
-use Rattle.snapshot_steps.specs.volume_steps.KnownLists.{volume_of, with_volume}
-use Rattle.snapshot_steps.proofs.volume_steps_proofs.KnownLemmas.{hold_with_fewer}
+use Rattle.store_log.specs.listed_volumes.block_buffer.Held.{InMemory, is_in_block, without}
+use Rattle.store_log.proofs.listed_volumes_proofs.commit_log_proofs.Leaves.{leaves_none}
+use Rattle.store_log.specs.listed_volumes.shard_files.Parts.{KnownVolume}
+use Rattle.store_log.specs.snapshot_steps.volume_steps.Known.{HoldsKnown}
+use Rattle.store_log.specs.snapshot_steps.volume_steps.KnownLists.{volume_of, with_volume}
+use Rattle.store_log.proofs.snapshot_steps_proofs.volume_steps_proofs.KnownLemmas.{hold_with_fewer}
 use Rattle.shard_store.proofs.CountedLemmas.{counted_wrote}
 use Rattle.shard_store.proofs.PointLemmas.{has_fewer}
-use Rattle.listed_volumes.proofs.commit_log_proofs.ReadLemmas.{passed_err}
+use Rattle.store_log.proofs.listed_volumes_proofs.commit_log_proofs.ReadLemmas.{passed_err}
 use Rattle.shard_open.proofs.Counts.{counts_for}
-use Rattle.snapshot_steps.proofs.volume_steps_proofs.LawLemmas.{join_is_there}
-use Rattle.listed_volumes.specs.declared.volume.ListedVolume.{ListedVolume}
-use Rattle.listed_volumes.specs.Listed.{known_as, known_in}
+use Rattle.store_log.proofs.snapshot_steps_proofs.volume_steps_proofs.LawLemmas.{join_is_there}
+use Rattle.store_log.specs.listed_volumes.declared.volume.ListedVolume.{ListedVolume}
+use Rattle.store_log.specs.listed_volumes.Listed.{known_as, known_in}
 use Rattle.shard_store.specs.StoreParts.{content_of_opened}
 use Rattle.shard_store.specs.Stores.{joined_with}
 use Rattle.shard_store.proofs.BlockLemmas.{content_written, have_rows, other_numbers}
 use Rattle.shard_store.proofs.VolumeLists.{numbered}
-use Rattle.shard_store.proofs.LogStepLemmas.{err_is, not_failed, want_else}
+use Rattle.store_log.proofs.LogStepLemmas.{err_is, not_failed, want_else}
 use Rattle.shard_store.proofs.RearrangeLemmas.{rearranges_left}
-use Rattle.listed_volumes.specs.Cached.{cache_key}
+use Rattle.store_log.specs.listed_volumes.Cached.{cache_key}
 use Rattle.shard_store.proofs.CacheLemmas.{cached_added, cached_still}
 use Rattle.shard_store.proofs.opened.Opened.write_block.Goals as goal
 

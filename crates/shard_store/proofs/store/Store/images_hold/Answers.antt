@@ -1,4 +1,4 @@
-use Rattle.shard_store.proofs.LogStepLemmas.{shown_by_each}
+use Rattle.shard_store.proofs.OpenLemmas.{shown_by_each}
 use Rattle.shard_store.proofs.store.Store.images_hold.Goals as goal
 
 pub returns : goal.returns

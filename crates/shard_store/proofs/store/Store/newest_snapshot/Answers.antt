@@ -1,5 +1,5 @@
 use Rattle.std.proofs.Common.{◌≡◌, Option, true, ap, sym, subst}
-use Rattle.listed_volumes.specs.shard_files.Parts.{IsNewestNumber}
+use Rattle.store_log.specs.listed_volumes.shard_files.Parts.{IsNewestNumber}
 use Rattle.shard_store.specs.StoreParts.{IsKept}
 use Rattle.shard_store.specs.declared.opened.Opened.{Opened}
 use Rattle.shard_store.proofs.store.Store.newest_snapshot.Goals as goal

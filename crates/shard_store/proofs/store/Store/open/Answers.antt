@@ -3,23 +3,24 @@ use Rattle.std.specs.Prelude.{IsErrOf}
 use Rattle.m3_outside.specs.DiskState.{EachImage, Told}
 use Rattle.m3_outside.specs.declared.disk_err.DiskErr.{DiskErr}
 use Rattle.m3_outside.specs.declared.disk_err.DiskErr.TheVariants.{Memory, Failed as DiskFailed}
-use Rattle.listed_volumes.specs.shard_files.Gains.{Brings, nothing}
+use Rattle.store_log.specs.listed_volumes.shard_files.Gains.{Brings, nothing}
 use Rattle.std.specs.Prelude.{⊤, Err, Option, Result}
 use Rattle.shard_store.specs.declared.opened.Opened.{Opened}
-use Rattle.listed_volumes.specs.commit_log.Contents.{numbers}
-use Rattle.listed_volumes.specs.shard_files.Parts.{IsNewestNumber, KnownVolume}
-use Rattle.listed_volumes.specs.shard_files.FilesHold.{volume_points}
+use Rattle.store_log.specs.listed_volumes.commit_log.Contents.{numbers}
+use Rattle.store_log.specs.listed_volumes.shard_files.Parts.{IsNewestNumber, KnownVolume}
+use Rattle.store_log.specs.listed_volumes.shard_files.FilesHold.{volume_points}
 use Rattle.shard_open.specs.Loads.{known_of}
-use Rattle.snapshot_steps.specs.volume_steps.Known.{HoldsKnown}
-use Rattle.listed_volumes.specs.Cached.{AreOfVolumes, AreRight}
-use Rattle.listed_volumes.specs.Listed.{known_in}
-use Rattle.listed_volumes.specs.declared.row_cache.RowCache.{RowCache}
+use Rattle.store_log.specs.snapshot_steps.volume_steps.Known.{HoldsKnown}
+use Rattle.store_log.specs.listed_volumes.Cached.{AreOfVolumes, AreRight}
+use Rattle.store_log.specs.listed_volumes.Listed.{known_in}
+use Rattle.store_log.specs.listed_volumes.declared.row_cache.RowCache.{RowCache}
 use Rattle.shard_store.specs.StoreParts.{IsKept, content_in}
 use Rattle.shard_store.specs.Stores.{joined_with}
-use Rattle.snapshot_steps.proofs.LogCounts.{few_segments}
+use Rattle.store_log.proofs.snapshot_steps_proofs.LogCounts.{few_segments}
 use Rattle.shard_store.proofs.PointLemmas.{settled_joins}
-use Rattle.listed_volumes.specs.block_buffer.Held.{InMemory}
-use Rattle.shard_store.proofs.LogStepLemmas.{err_is, brings_none, brings_nothing, brings_nothing_more, only_held, volumes_among, err_to}
+use Rattle.store_log.specs.listed_volumes.block_buffer.Held.{InMemory}
+use Rattle.store_log.proofs.LogStepLemmas.{err_is, brings_none, brings_nothing, brings_nothing_more, err_to}
+use Rattle.shard_store.proofs.OpenLemmas.{only_held, volumes_among}
 use Rattle.shard_open.proofs.Counts.{counts_for}
 use Rattle.shard_store.proofs.store.Store.open.Goals as goal
 

@@ -1,6 +1,6 @@
 use Rattle.std.proofs.Common.{◌≡◌, Option, Some, ap, sym, subst, ◌∙◌}
 use Rattle.std.specs.Option.{option_copied_mut}
-use Rattle.listed_volumes.specs.Listed.{known_in}
+use Rattle.store_log.specs.listed_volumes.Listed.{known_in}
 use Rattle.shard_store.specs.StoreParts.{IsKept}
 use Rattle.shard_store.specs.declared.opened.Opened.{Opened}
 use Rattle.shard_store.proofs.CacheLemmas.{cached_still}

@@ -1,5 +1,5 @@
 use Rattle.std.proofs.Common.{◌≡◌, ◌∙◌, Option, length, true, ap, sym, subst}
-use Rattle.listed_volumes.specs.commit_log.Contents.{numbers}
+use Rattle.store_log.specs.listed_volumes.commit_log.Contents.{numbers}
 use Rattle.shard_store.specs.StoreParts.{IsKept}
 use Rattle.shard_store.specs.declared.opened.Opened.{Opened}
 use Rattle.shard_store.proofs.store.Store.segments.Goals as goal

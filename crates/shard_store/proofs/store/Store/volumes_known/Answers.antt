@@ -1,6 +1,6 @@
 use Rattle.std.proofs.Common.{◌≡◌, Option, length, true, ap, sym, subst, arith}
-use Rattle.listed_volumes.specs.shard_files.Parts.{counted_volumes}
-use Rattle.listed_volumes.specs.Listed.{known_in}
+use Rattle.store_log.specs.listed_volumes.shard_files.Parts.{counted_volumes}
+use Rattle.store_log.specs.listed_volumes.Listed.{known_in}
 use Rattle.shard_store.specs.StoreParts.{IsKept}
 use Rattle.shard_store.specs.declared.opened.Opened.{Opened}
 use Rattle.shard_store.proofs.KnownReads.{known_counted, volumes_counted}

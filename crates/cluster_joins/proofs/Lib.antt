@@ -1,0 +1,6 @@
+pub mod BootLemmas
+pub mod JoinedLemmas
+pub mod MarkLemmas
+pub mod OpenedLemmas
+pub mod PartLemmas
+pub mod StillLemmas

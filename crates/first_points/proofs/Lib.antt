@@ -1,0 +1,9 @@
+pub mod TurnLemmas
+pub mod MergeLemmas
+pub mod KeyOrder
+pub mod ListedLemmas
+pub mod PastLemmas
+pub mod PartitionLemmas
+pub mod TakeLemmas
+pub mod RowLemmas
+pub mod PageLemmas

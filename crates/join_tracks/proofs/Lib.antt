@@ -1,0 +1,4 @@
+pub mod CameLemmas
+pub mod ServeLemmas
+pub mod MoveLemmas
+pub mod StandLemmas

@@ -1,0 +1,2 @@
+pub mod BesideLemmas
+pub use Rattle.listed_volumes.proofs as listed_volumes_proofs

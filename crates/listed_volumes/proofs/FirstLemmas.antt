@@ -1,0 +1,69 @@
+-- The first points of several listed volumes, from those of fewer.
+use Rattle.std.proofs.Common.{◌≡◌, ◌∙◌, ℕ, ◌<◌, ◌≤◌, ℤ, List, [], ◌∷◌, ◌++◌, length, take, drop, refl, sym, ap, subst, arith, append-nil, get_or, Result, fold}
+use Rattle.std.specs.Prelude.{IfOk, Option, Some, None}
+use Rattle.std.specs.List.{take-map, drop-map}
+use Rattle.std.specs.FinMap.{empty, get, get-empty}
+use Rattle.std.proofs.lemmas.List.{take_all}
+use Rattle.std.proofs.lemmas.List.Sums.{fold-append}
+use Rattle.m3_model.specs.Contents.{Contents, content_of, raised}
+use Rattle.m3_model.specs.Keys.{key_cmp}
+use Rattle.m3_model.specs.declared.point.Key.{Key}
+use Rattle.m3_model.specs.declared.point.Point.{Point}
+use Rattle.m3_model.specs.declared.point.Series.{Series}
+use Rattle.volume_points.specs.wire_bytes.Volumes.{VolumeHead, IsVolume, points_of_rows}
+use Rattle.volume_points.specs.shard_files.Parts.{KnownVolume}
+use Rattle.volume_points.specs.shard_files.FilesHold.{volume_points}
+use Rattle.volume_points.specs.fileset_read.declared.file_err.FileErr.{FileErr}
+use Rattle.volume_points.proofs.JoinedLemmas.{get-joined, higher_of as higher_there}
+use Rattle.volume_points.proofs.KnownLemmas.{points_of_both}
+use Rattle.volume_points.proofs.VolumeLemmas.{rows_ascend}
+use Rattle.first_points.specs.Firsts.{AreFirst}
+use Rattle.first_points.specs.Merges.{IsJoinOf, higher_of}
+use Rattle.first_points.proofs.RowLemmas.{first_below}
+use Rattle.listed_volumes.specs.declared.volume.ListedVolume.{ListedVolume}
+use Rattle.listed_volumes.specs.FirstListed.{IsSpaceBelow}
+use Rattle.listed_volumes.specs.Listed.{known_as, known_in}
+
+module _ (after : Option Key) (limit : ℕ) where
+  -- what they have first above the key
+  abbrev First : List KnownVolume → List Point → Type 0
+  First known points = AreFirst (content_of (volume_points known)) after limit points
+
+  pub first_none : (vs : List ListedVolume) → length vs < 1 → First (known_in vs) []
+  first_none (v ∷ vs) few = absurd (omega (arith, few))
+  first_none [] few = record { in_turn = tt; few = omega arith; all = λ less k v here past. let none = get-empty {X = ℤ} key_cmp k in let bad : None ≡ Some v = sym none ∙ here in cc }
+
+  -- the first of one
+  pub first_alone : (vs : List ListedVolume) (v : ListedVolume) (r : Result (List Point) FileErr) → 1 ≤ length vs → length vs < 2 → v ≡ get_or vs 0 v
+      → IfOk r (AreFirst (content_of (points_of_rows v.head.ns v.rows.value)) after limit) → IfOk r (First (known_in vs))
+  first_alone [] v r some few is h = absurd (omega (arith, some))
+  first_alone (w ∷ []) v r some few is h =
+      subst (λ (u : ListedVolume). IfOk r (First (known_as u ∷ []))) is (subst (λ (ps : List Point). IfOk r (AreFirst (content_of ps) after limit)) (sym (append-nil (points_of_rows v.head.ns v.rows.value))) h)
+  first_alone (w ∷ x ∷ vs) v r some few is h = absurd (omega (arith, few))
+
+  -- of volumes before the key's namespace nothing
+  pub first_lower : (v : VolumeHead) (rows : List Series) → IsVolume v rows → IsSpaceBelow v.ns after → AreFirst (content_of (points_of_rows v.ns rows)) after limit []
+  first_lower v rows is low = by after low
+    where
+      by : (o : Option Key) → IsSpaceBelow v.ns o → AreFirst (content_of (points_of_rows v.ns rows)) o limit []
+      by None low = absurd low
+      by (Some key) low =
+          let asc = rows_ascend v rows is in
+          subst (AreFirst (content_of (points_of_rows v.ns rows)) (Some key) limit) (take_all limit [] (omega arith)) (first_below v.ns rows asc.ids asc.times limit key low)
+
+higher_same : (o p : Option ℤ) → higher_there o p ≡ higher_of o p
+higher_same o None = refl
+higher_same o (Some v) = refl
+
+-- a content, joined with points
+pub join_of_points : (c : Contents) (points : List Point) → IsJoinOf c (content_of points) (fold raised c points)
+join_of_points c points k = get-joined c points k ∙ higher_same (get c k) (get (content_of points) k)
+
+-- what both parts have is joined
+pub join_of_parts : (n : ℕ) (vs : List ListedVolume) → IsJoinOf (content_of (volume_points (known_in (take n vs)))) (content_of (volume_points (known_in (drop n vs)))) (content_of (volume_points (known_in vs)))
+join_of_parts n vs =
+    let front = volume_points (known_in (take n vs)) in
+    let back = volume_points (known_in (drop n vs)) in
+    let parts : volume_points (known_in vs) ≡ front ++ back =
+    points_of_both n (known_in vs) ∙ ap (λ (l : List KnownVolume). volume_points l ++ volume_points (drop n (known_in vs))) (take-map known_as n vs) ∙ ap (λ (l : List KnownVolume). front ++ volume_points l) (drop-map known_as n vs) in
+    subst (IsJoinOf (content_of front) (content_of back)) (sym (fold-append raised empty front back) ∙ ap content_of (sym parts)) (join_of_points (content_of front) back)

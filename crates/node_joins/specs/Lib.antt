@@ -1,0 +1,4 @@
+pub mod Joined
+pub mod Opens
+pub mod Shards
+pub mod Unowned

@@ -1,0 +1,35 @@
+use Rattle.std.proofs.Common.{refl, inr}
+use Rattle.replica_machine.specs.cluster_core.declared.event.StepCall.TheVariants as call
+use Rattle.replica_machine.specs.cluster_core.declared.event.StepReply.TheVariants as reply
+use Rattle.replica_machine.specs.Steps.{reply_by}
+use Rattle.replica_exchange.specs.MachineCalls.{AddsBoth}
+use Rattle.replica_exchange.proofs.ExchangeLemmas.{Went, opened_after, is_answer, went}
+use Rattle.replica_exchange.proofs.exchange.merge_on.Given.{Over}
+use Rattle.replica_exchange.proofs.exchange.merge_on.Goals as goal
+
+pub answer-requires-clause-answers : goal.answer-requires-clause-answers
+answer-requires-clause-answers g c κs lives =
+    is_answer g.D.Disk.state c.args.slot c.args.trail.now c.ask.new.trail c.args.member.now c.merge-said.new.self (call.Merge c.args.page.now) c.merge-call.result c.merge-call.result (reply_by (λ n. reply.Count n) c.merge-said.result) c.count_view-reply.result c.ask.ensures c.merge-call.ensures c.merge-call.ensures c.count_view-reply.ensures
+    c.requires.opened c.requires.given c.requires.is c.merge-said.ensures.step (λ e. cc)
+
+both : (g : Over) (c : goal.Joined-call g) → Went g.D.Disk.state c.args.slot (AddsBoth c.args.slot) (call.Merge c.args.page.now) (reply_by (λ n. reply.Count n) c.merge-said.result) c.args.trail.now c.answer.new.trail (record c.args.member.now { machine = c.merge-said.new.self })
+both g c = went g.D.Disk.state c.args.slot c.args.trail.now c.ask.new.trail c.answer.new.trail c.args.member.now (record c.args.member.now { machine = c.merge-said.new.self }) (call.Merge c.args.page.now) c.merge-call.result c.merge-call.result (reply_by (λ n. reply.Count n) c.merge-said.result) c.count_view-reply.result c.ask.ensures c.answer.ensures c.merge-call.ensures c.merge-call.ensures c.count_view-reply.ensures c.requires.is c.merge-said.ensures.step refl
+
+pub returns-clause-is : goal.returns-clause-is
+returns-clause-is g c = (both g c).is
+
+pub returns-clause-others : goal.returns-clause-others
+returns-clause-others g c = (both g c).others
+
+pub returns-clause-opened : goal.returns-clause-opened
+returns-clause-opened g c = opened_after c.requires.opened (both g c).longer
+
+pub returns-clause-answered : goal.returns-clause-answered
+returns-clause-answered g c = inr (record {
+  said = c.merge-said.result;
+  step = c.merge-said.ensures.step;
+  promised = record { ok = c.merge-said.ensures.ok; err = c.merge-said.ensures.err; plain = c.merge-said.ensures.plain; refused = c.merge-said.ensures.refused; form = c.merge-said.ensures.form; disk = c.merge-said.ensures.disk };
+  first = refl;
+  adds = (both g c).adds;
+  told = c.count_of.ensures;
+})

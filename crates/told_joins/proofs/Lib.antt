@@ -1,0 +1,10 @@
+pub mod ListLemmas
+pub mod AskLemmas
+pub mod FrontLemmas
+pub mod MarkLemmas
+pub mod LineLemmas
+pub mod MoveLemmas
+pub mod JoinLemmas
+pub mod WholeLemmas
+pub mod MissLemmas
+pub mod SampleLemmas
