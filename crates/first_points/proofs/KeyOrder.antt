@@ -19,7 +19,7 @@ tied m n same = subst (λ k. nat_cmp m k ≡ Equal) same (tied_itself nat_cmp_to
 tied_ids : (x y : List ℕ) → x ≡ y → slice_cmp nat_cmp x y ≡ Equal
 tied_ids x y same = subst (λ z. slice_cmp nat_cmp x z ≡ Equal) same (tied_itself nat_list_cmp_total x)
 
-below : (m n : ℕ) → m < n → nat_cmp m n ≡ Less
+pub below : (m n : ℕ) → m < n → nat_cmp m n ≡ Less
 below m n less = grind (arith, nat_tests)
 
 pub by_space : (a b : Key) → a.ns < b.ns → key_cmp a b ≡ Less

@@ -1,3 +1,4 @@
+pub mod BoundLemmas
 pub mod TurnLemmas
 pub mod MergeLemmas
 pub mod KeyOrder

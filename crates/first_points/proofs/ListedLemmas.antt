@@ -15,6 +15,7 @@ use Rattle.series_merge.proofs.JoinLemmas.{joined_has}
 use Rattle.series_merge.proofs.OrderLemmas.{content_in}
 use Rattle.page_cut.specs.Pages.{IsBefore}
 use Rattle.first_points.specs.Firsts.{IsPast, HasNonePast, IsNext, AreInTurn, last_key, AreFirst}
+use Rattle.first_points.proofs.PartitionLemmas.{back_ascends}
 use Rattle.first_points.proofs.TurnLemmas.{not_itself, not_both}
 
 -- of two points at one key in a list that ascends there is one
@@ -82,7 +83,7 @@ pub first_ends : (limit : ℕ) (points front back : List Point) (after : Option 
     → ((p : Point) → IsIn back p → IsPast after (key_of p)) → AreFirst (content_of points) after limit (take limit back)
 first_ends limit points front back after ascend parts low high =
     first_of limit (content_of points) after back (record {
-      ascend = ascends_back front back (subst (Ascends IsBefore) parts ascend);
+      ascend = back_ascends IsBefore front back (subst (Ascends IsBefore) parts ascend);
       stand = λ p m. listed_has points p ascend (subst (λ l. IsIn l p) (sym parts) (IsIn-append_right front back p m));
       past = high;
       all = λ k v here above.
@@ -91,7 +92,3 @@ first_ends limit points front back after ascend parts low high =
             | inr m ↦ m
           ];
     })
-  where
-    ascends_back : (xs ys : List Point) → Ascends IsBefore (xs ++ ys) → Ascends IsBefore ys
-    ascends_back [] ys h = h
-    ascends_back (x ∷ xs) ys h = ascends_back xs ys h.1

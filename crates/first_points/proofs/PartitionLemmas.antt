@@ -1,10 +1,11 @@
--- What a search for the end of the first elements that pass a test gives.
-use Rattle.std.proofs.Common.{◌≡◌, ℕ, zero, suc, ◌<◌, ◌≤◌, List, [], ◌∷◌, length, take, drop, get_or, Bool, true, false, refl, sym, ap, ◌∙◌, subst, inl, inr, arith}
+-- What a search for the end of the first elements that pass a test gives, and parts of lists that ascend.
+use Rattle.std.proofs.Common.{◌≡◌, ℕ, zero, suc, ◌<◌, ◌≤◌, List, [], ◌∷◌, ◌++◌, length, take, drop, get_or, Bool, true, false, refl, sym, ap, ◌∙◌, subst, inl, inr, arith}
 use Rattle.std.specs.Prelude.{◌⊎◌}
 use Rattle.std.specs.List.Sorted.{IsPartitionedBy, IsPartitionPoint}
 use Rattle.m3_model.specs.Ascends.{Ascends}
 use Rattle.m3_model.specs.Members.{IsIn}
 use Rattle.m3_model.proofs.Lists.{IsIn-get_or}
+use Rattle.m3_model.proofs.MemberLemmas.{IsIn-append_left}
 
 module _ {X : Type 0} (R : X → X → Type 0) (p : X → Bool) (lower : (x y : X) → R x y → p y ≡ true → p x ≡ true) where
   -- where elements before those that pass pass, the elements that pass come first
@@ -34,3 +35,13 @@ module _ {X : Type 0} (p : X → Bool) where
 
   pub found_behind : (xs : List X) (i : ℕ) → i ≤ length xs → IsPartitionPoint (λ y. p y ≡ true) (λ y. p y ≡ false) xs i → (x : X) → IsIn (drop i xs) x → p x ≡ false
   found_behind xs i bound h = behind_fails xs i bound (λ k d le lt. h.1 k d le lt)
+
+-- ---- parts of a list that ascends
+
+pub front_ascends : {X : Type 0} (R : X → X → Type 0) (xs ys : List X) → Ascends R (xs ++ ys) → Ascends R xs
+front_ascends R [] ys h = tt
+front_ascends R (x ∷ xs) ys h = (λ y m. h.0 y (IsIn-append_left xs ys y m), front_ascends R xs ys h.1)
+
+pub back_ascends : {X : Type 0} (R : X → X → Type 0) (xs ys : List X) → Ascends R (xs ++ ys) → Ascends R ys
+back_ascends R [] ys h = h
+back_ascends R (x ∷ xs) ys h = back_ascends R xs ys h.1

@@ -1,14 +1,14 @@
 -- The points of rows above a key.
-use Rattle.std.proofs.Common.{◌≡◌, ℕ, ◌+◌, ◌<◌, ◌≤◌, ℤ, List, [], ◌∷◌, ◌++◌, length, take, map, refl, sym, ap, ◌∙◌, subst, inl, inr, arith, append_assoc}
-use Rattle.std.specs.Prelude.{◌⊎◌, Option, Some, None}
+use Rattle.std.proofs.Common.{◌≡◌, ℕ, ◌+◌, ◌<◌, ◌≤◌, ℤ, List, [], ◌∷◌, ◌++◌, Bool, true, false, length, take, drop, map, refl, sym, ap, ◌∙◌, subst, inl, inr, arith, append_assoc, append-nil}
+use Rattle.std.specs.Prelude.{◌⊎◌, Option, Some, None, not}
 use Rattle.std.specs.FinMap.{slice_cmp-IsAntisymmetric, nat_cmp-IsAntisymmetric}
-use Rattle.std.specs.Ordering.{nat_cmp, ordering_reverse}
+use Rattle.std.specs.Ordering.{nat_cmp, ordering_reverse, ordering_then, is_lt}
 use Rattle.std.specs.Cmp.{tied_itself}
 use Rattle.std.specs.Cmp.Lexicographic.{slice_cmp}
 use Rattle.std.specs.declared.cmp.Ordering.{Ordering}
 use Rattle.std.specs.declared.cmp.Ordering.TheVariants.{Less, Equal, Greater}
 use Rattle.std.proofs.lemmas.Cmp.{nat_list_cmp_total}
-use Rattle.std.proofs.lemmas.List.{map-append}
+use Rattle.std.proofs.lemmas.List.{map-append, take-append-drop}
 use Rattle.std.proofs.lemmas.List.Concat.{flat_map-append}
 use Rattle.m3_model.specs.Ascends.{Ascends}
 use Rattle.m3_model.specs.Contents.{content_of, key_of}
@@ -19,11 +19,14 @@ use Rattle.m3_model.specs.Tags.{IsBelow}
 use Rattle.m3_model.specs.declared.point.Key.{Key}
 use Rattle.m3_model.specs.declared.point.Point.{Point}
 use Rattle.m3_model.specs.declared.point.Series.{Series}
-use Rattle.m3_model.proofs.Ascending.{Ascends-append}
+use Rattle.m3_model.proofs.Ascending.{Ascends-append, Ascends-filter}
+use Rattle.m3_model.proofs.Lists.{IsIn-filter}
 use Rattle.m3_model.proofs.MemberLemmas.{IsIn-append_cases, IsIn-append_left, IsIn-append_right, IsIn-map}
 use Rattle.page_cut.specs.Pages.{IsBefore}
+use Rattle.first_points.specs.Bounds.{is_up_to, points_up_to}
 use Rattle.first_points.specs.Firsts.{IsPast, AreFirst}
 use Rattle.first_points.specs.Rows.{points_at, EndsPast, AreLater, AreFrom}
+use Rattle.first_points.proofs.BoundLemmas.{series_above, time_within, up_to_apart, up_to_front, up_to_whole_front}
 use Rattle.first_points.proofs.KeyOrder.{by_space, by_id, by_time, not_by_time}
 use Rattle.first_points.proofs.TurnLemmas.{not_both}
 use Rattle.first_points.proofs.ListedLemmas.{first_ends}
@@ -165,24 +168,61 @@ module _ (key : Key) (rows : List Series) (ids : Ascends (λ (a b : Series). IsB
 
 -- ---- the first points
 
-module _ (ns : ℕ) (rows : List Series) (ids : Ascends (λ (a b : Series). IsBelow a.id b.id) rows) (times : (s : Series) → IsIn rows s → Ascends (λ (a b : ℕ × ℤ). a.0 < b.0) s.points) (limit : ℕ) where
+module _ (ns : ℕ) (rows : List Series) (ids : Ascends (λ (a b : Series). IsBelow a.id b.id) rows) (times : (s : Series) → IsIn rows s → Ascends (λ (a b : ℕ × ℤ). a.0 < b.0) s.points) (last : Option Point) (limit : ℕ) where
+  ends_up_to : (front back : List Point) (after : Option Key) → points_in ns rows ≡ front ++ back → ((p : Point) → IsIn front p → IsPast after (key_of p) → ⊥) → ((p : Point) → IsIn back p → IsPast after (key_of p))
+      → AreFirst (content_of (points_up_to last (points_in ns rows))) after limit (take limit (points_up_to last back))
+  ends_up_to front back after parts low high =
+      first_ends limit (points_up_to last (points_in ns rows)) (points_up_to last front) (points_up_to last back) after (Ascends-filter IsBefore (λ p. is_up_to last (key_of p)) (points_in ns rows) (rows_ascend ns rows ids times))
+      (ap (points_up_to last) parts ∙ up_to_apart last front back) (λ p m. low p (IsIn-filter (λ p. is_up_to last (key_of p)) front p m)) (λ p m. high p (IsIn-filter (λ p. is_up_to last (key_of p)) back p m))
+
   pub first_from_end : (after : Option Key) (id : List ℕ) (pairs : List (ℕ × ℤ)) (later : List Series) → EndsPast ns rows after id pairs later
-      → AreFirst (content_of (points_in ns rows)) after limit (take limit (points_at ns id pairs ++ points_in ns later))
-  first_from_end after id pairs later h = first_ends limit (points_in ns rows) h.front (points_at ns id pairs ++ points_in ns later) after (rows_ascend ns rows ids times) h.parts h.not_past h.past
+      → AreFirst (content_of (points_up_to last (points_in ns rows))) after limit (take limit (points_up_to last (points_at ns id pairs) ++ points_up_to last (points_in ns later)))
+  first_from_end after id pairs later h =
+      subst (λ (l : List Point). AreFirst (content_of (points_up_to last (points_in ns rows))) after limit (take limit l)) (up_to_apart last (points_at ns id pairs) (points_in ns later))
+      (ends_up_to h.front (points_at ns id pairs ++ points_in ns later) after h.parts h.not_past h.past)
 
-  pub first_from_none : AreFirst (content_of (points_in ns rows)) None limit (take limit (points_in ns rows))
-  first_from_none = first_ends limit (points_in ns rows) [] (points_in ns rows) None (rows_ascend ns rows ids times) refl (λ p m. absurd m) (λ p m. tt)
+  pub first_from_none : AreFirst (content_of (points_up_to last (points_in ns rows))) None limit (take limit (points_up_to last (points_in ns rows)))
+  first_from_none = ends_up_to [] (points_in ns rows) None refl (λ p m. absurd m) (λ p m. tt)
 
-  pub first_from_above : (key : Key) → key.ns < ns → AreFirst (content_of (points_in ns rows)) (Some key) limit (take limit (points_in ns rows))
-  first_from_above key low =
-      first_ends limit (points_in ns rows) [] (points_in ns rows) (Some key) (rows_ascend ns rows ids times) refl (λ p m. absurd m)
-      (λ p m. by_space key (key_of p) (subst (λ n. key.ns < n) (sym (row_of ns rows p m).space) low))
+  pub first_from_above : (key : Key) → key.ns < ns → AreFirst (content_of (points_up_to last (points_in ns rows))) (Some key) limit (take limit (points_up_to last (points_in ns rows)))
+  first_from_above key low = ends_up_to [] (points_in ns rows) (Some key) refl (λ p m. absurd m) (λ p m. by_space key (key_of p) (subst (λ n. key.ns < n) (sym (row_of ns rows p m).space) low))
 
-  pub first_below : (key : Key) → ns < key.ns → AreFirst (content_of (points_in ns rows)) (Some key) limit (take limit [])
+  pub first_below : (key : Key) → ns < key.ns → AreFirst (content_of (points_up_to last (points_in ns rows))) (Some key) limit (take limit [])
   first_below key high =
-      first_ends limit (points_in ns rows) (points_in ns rows) [] (Some key) (rows_ascend ns rows ids times) (sym (append_nil (points_in ns rows)))
+      ends_up_to (points_in ns rows) [] (Some key) (sym (append-nil (points_in ns rows)))
       (λ p m past. not_both key (key_of p) past (by_space (key_of p) key (subst (λ n. n < key.ns) (sym (row_of ns rows p m).space) high))) (λ p m. absurd m)
-    where
-      append_nil : (xs : List Point) → xs ++ [] ≡ xs
-      append_nil [] = refl
-      append_nil (x ∷ xs) = ap (λ ys. x ∷ ys) (append_nil xs)
+
+-- ---- what a search for the last point finds
+
+-- where the time of a pair of a series of this order is above the last one, or isn't
+abbrev pub is_time_within : Ordering → Point → ℕ → Bool
+is_time_within series last t = not (is_lt (ordering_then series (nat_cmp last.t t)))
+
+abbrev pub series_order : Point → ℕ → List ℕ → Ordering
+series_order last ns id = ordering_then (nat_cmp last.ns ns) (slice_cmp nat_cmp last.id id)
+
+pairs_within : (last : Point) (ns : ℕ) (id : List ℕ) (pairs : List (ℕ × ℤ)) (b : Bool) → ((x : ℕ × ℤ) → IsIn pairs x → is_time_within (series_order last ns id) last x.0 ≡ b) → (p : Point) → IsIn (points_at ns id pairs) p → is_up_to (Some last) (key_of p) ≡ b
+pairs_within last ns id pairs b each p m =
+    let pair = pair_of ns id pairs p m in
+    time_within last p b (ap (λ (n : ℕ). is_time_within (series_order last n p.id) last p.t) pair.space ∙ ap (λ (x : List ℕ). is_time_within (series_order last ns x) last p.t) pair.named ∙ each (p.t, p.v) pair.pair)
+
+pub pairs_found : (last : Point) (ns : ℕ) (id : List ℕ) (series : Ordering) → series ≡ series_order last ns id → (pairs : List (ℕ × ℤ)) (i : ℕ) → ((x : ℕ × ℤ) → IsIn (take i pairs) x → is_time_within series last x.0 ≡ true)
+    → ((x : ℕ × ℤ) → IsIn (drop i pairs) x → is_time_within series last x.0 ≡ false) → points_at ns id (take i pairs) ≡ points_up_to (Some last) (points_at ns id pairs)
+pairs_found last ns id series is pairs i before behind =
+    let front = points_at ns id (take i pairs) in
+    let back = points_at ns id (drop i pairs) in
+    sym (ap (λ (l : List (ℕ × ℤ)). points_up_to (Some last) (points_at ns id l)) (sym (take-append-drop i pairs))
+    ∙ ap (points_up_to (Some last)) (map-append (timed ns id) (take i pairs) (drop i pairs))
+    ∙ up_to_whole_front (Some last) front back (pairs_within last ns id (take i pairs) true (λ x m. ap (λ s. is_time_within s last x.0) (sym is) ∙ before x m))
+    (pairs_within last ns id (drop i pairs) false (λ x m. ap (λ s. is_time_within s last x.0) (sym is) ∙ behind x m)))
+
+-- the points of rows whose series are above the last one are
+rows_above : (last : Point) (ns : ℕ) (rows : List Series) → ((s : Series) → IsIn rows s → not (is_lt (series_order last ns s.id)) ≡ false) → (p : Point) → IsIn (points_in ns rows) p → is_up_to (Some last) (key_of p) ≡ false
+rows_above last ns rows above p m =
+    let of = row_of ns rows p m in
+    series_above last p (ap (λ (n : ℕ). not (is_lt (series_order last n p.id))) of.space ∙ ap (λ (x : List ℕ). not (is_lt (series_order last ns x))) of.named ∙ above of.row of.is_in)
+
+pub rows_found : (last : Point) (ns : ℕ) (rows : List Series) (i : ℕ) → ((s : Series) → IsIn (drop i rows) s → not (is_lt (series_order last ns s.id)) ≡ false) → points_up_to (Some last) (points_in ns (take i rows)) ≡ points_up_to (Some last) (points_in ns rows)
+rows_found last ns rows i behind =
+    sym (ap (λ (l : List Series). points_up_to (Some last) (points_in ns l)) (sym (take-append-drop i rows)) ∙ ap (points_up_to (Some last)) (points_apart ns (take i rows) (drop i rows))
+    ∙ up_to_front (Some last) (points_in ns (take i rows)) (points_in ns (drop i rows)) (rows_above last ns (drop i rows) behind))

@@ -1,3 +1,4 @@
+pub mod Bounds
 pub mod Firsts
 pub mod Merges
 pub mod Rows

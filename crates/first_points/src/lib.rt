@@ -1,6 +1,7 @@
 //! The first points of a content above a key, in the order of keys: of two contents joined, of rows, and the page of them.
 #![tactic(auto)]
 
+mod bounds;
 mod listed;
 mod merging;
 mod paging;

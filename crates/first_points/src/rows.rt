@@ -8,9 +8,11 @@ ghost use Rattle.m3_model.specs.Reads.{points_in};
 ghost use Rattle.m3_model.specs.Tags.{IsBelow};
 ghost use Rattle.m3_model.specs.declared.point.Point.{Point as Held};
 ghost use Rattle.m3_model.specs.declared.point.Series.{Series as Row};
+ghost use Rattle.first_points.specs.Bounds.{points_up_to};
 ghost use Rattle.first_points.specs.Firsts.{AreFirst};
 ghost use Rattle.first_points.specs.Rows.{AreFrom, AreLater, EndsPast, points_at};
 
+use crate::bounds::{pairs_up_to, rows_up_to};
 use m3_model::{Duplicate, Key, Memory, Point, Seq, Series, Text};
 use std::alloc::Global;
 
@@ -34,7 +36,9 @@ fn rows_from<'a>(rows: &'a [Series], id: &Text) -> &'a [Series]
 fn past_key<'a>(rows: &'a [Series], key: &Key) -> (&'a [(u64, i64)], &'a [Series])
     requires ids { Ascends (λ a b. IsBelow a.id b.id) rows.now }
     requires times { (s : Row) → IsIn rows.now s → Ascends (λ a b. a.0 < b.0) s.points }
-    ensures { EndsPast key.now.ns rows.now (Some key.now) key.now.id result.0.now result.1.now }
+    ensures ends { EndsPast key.now.ns rows.now (Some key.now) key.now.id result.0.now result.1.now }
+    ensures pairs { Ascends (λ a b. a.0 < b.0) result.0.now }
+    ensures later { (s : Row) → IsIn result.1.now s → IsIn rows.now s }
 {
     match rows_from(rows, &key.id) {
         [row, later @ ..] if row.id.cmp(&key.id).is_eq() => {
@@ -44,18 +48,21 @@ fn past_key<'a>(rows: &'a [Series], key: &Key) -> (&'a [(u64, i64)], &'a [Series
     }
 }
 
-// Pushes the pairs of an identifier, up to the limit.
+// Pushes the pairs of an identifier up to the last point, and up to the limit.
 fn push_pairs(
     alloc: Global,
     first: &mut Vec<Point>,
     ns: u8,
     id: &Text,
     pairs: &[(u64, i64)],
+    last: Option<&Point>,
     limit: usize,
 ) -> Result<(), Memory>
-    ensures { (points : List Held) → first.old.items ≡ take limit points → OnOk result (first.new.items ≡ take limit (points ++ points_at ns id.now pairs.now)) }
+    requires { Ascends (λ a b. a.0 < b.0) pairs.now }
+    ensures { (points : List Held) → first.old.items ≡ take limit points → OnOk result (first.new.items ≡ take limit (points ++ points_up_to (option_copied last.entry) (points_at ns id.now pairs.now))) }
 {
-    for (t, v) in pairs {
+    let within = pairs_up_to(ns, id, pairs, last);
+    for (t, v) in within {
         if first.len() >= limit {
             return Ok(());
         }
@@ -69,29 +76,32 @@ fn push_pairs(
     Ok(())
 }
 
-// Pushes the points of the rows, up to the limit.
+// Pushes the points of the rows up to the last one, and up to the limit.
 fn push_rows(
     alloc: Global,
     first: &mut Vec<Point>,
     ns: u8,
     rows: &[Series],
+    last: Option<&Point>,
     limit: usize,
 ) -> Result<(), Memory>
-    ensures { (points : List Held) → first.old.items ≡ take limit points → OnOk result (first.new.items ≡ take limit (points ++ points_in ns rows.now)) }
+    requires { (s : Row) → IsIn rows.now s → Ascends (λ a b. a.0 < b.0) s.points }
+    ensures { (points : List Held) → first.old.items ≡ take limit points → OnOk result (first.new.items ≡ take limit (points ++ points_up_to (option_copied last.entry) (points_in ns rows.now))) }
 {
     for row in rows {
         if first.len() >= limit {
             return Ok(());
         }
-        push_pairs(alloc, first, ns, &row.id, row.points.as_slice(), limit)?;
+        let pairs = row.points.as_slice();
+        push_pairs(alloc, first, ns, &row.id, pairs, last, limit)?;
     }
     Ok(())
 }
 
-/// The first points above the key of these rows, which are of the namespace: so many, or all. Identifiers ascend strictly by bytes, and
-/// times in each row.
+/// The first points above the key of these rows, which are of the namespace, up to the last point, where there is one: so many, or all.
+/// Identifiers ascend strictly by bytes, and times in each row.
 ///
-/// Costs the logarithm of the rows and of the points of one, beside those that it gives and the rows without points among them.
+/// Costs the logarithm of the rows and of the points of two, beside those that it gives and the rows without points among them.
 ///
 /// # Errors
 ///
@@ -101,21 +111,23 @@ pub fn first_of_rows(
     ns: u8,
     rows: &[Series],
     after: Option<&Key>,
+    last: Option<&Point>,
     limit: usize,
 ) -> Result<Seq<Point>, Memory>
     requires ids { Ascends (λ a b. IsBelow a.id b.id) rows.now }
     requires times { (s : Row) → IsIn rows.now s → Ascends (λ a b. a.0 < b.0) s.points }
-    ensures { IfOk result (AreFirst (content_of (points_in ns rows.now)) (option_copied after.entry) limit) }
+    ensures { IfOk result (AreFirst (content_of (points_up_to (option_copied last.entry) (points_in ns rows.now))) (option_copied after.entry) limit) }
 {
+    let within = rows_up_to(ns, rows, last);
     let mut first = Vec::new(alloc);
     match after {
         Some(key) if ns < key.ns => {}
         Some(key) if ns == key.ns => {
-            let (pairs, later) = past_key(rows, key);
-            push_pairs(alloc, &mut first, ns, &key.id, pairs, limit)?;
-            push_rows(alloc, &mut first, ns, later, limit)?;
+            let (pairs, later) = past_key(within, key);
+            push_pairs(alloc, &mut first, ns, &key.id, pairs, last, limit)?;
+            push_rows(alloc, &mut first, ns, later, last, limit)?;
         }
-        _ => push_rows(alloc, &mut first, ns, rows, limit)?,
+        _ => push_rows(alloc, &mut first, ns, within, last, limit)?,
     }
     Ok(Seq::from_vec(first))
 }

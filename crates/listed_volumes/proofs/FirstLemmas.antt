@@ -17,6 +17,7 @@ use Rattle.volume_points.specs.fileset_read.declared.file_err.FileErr.{FileErr}
 use Rattle.volume_points.proofs.JoinedLemmas.{get-joined, higher_of as higher_there}
 use Rattle.volume_points.proofs.KnownLemmas.{points_of_both}
 use Rattle.volume_points.proofs.VolumeLemmas.{rows_ascend}
+use Rattle.first_points.specs.Bounds.{points_up_to}
 use Rattle.first_points.specs.Firsts.{AreFirst}
 use Rattle.first_points.specs.Merges.{IsJoinOf, higher_of}
 use Rattle.first_points.proofs.RowLemmas.{first_below}
@@ -24,10 +25,10 @@ use Rattle.listed_volumes.specs.declared.volume.ListedVolume.{ListedVolume}
 use Rattle.listed_volumes.specs.FirstListed.{IsSpaceBelow}
 use Rattle.listed_volumes.specs.Listed.{known_as, known_in}
 
-module _ (after : Option Key) (limit : ℕ) where
-  -- what they have first above the key
+module _ (after : Option Key) (last : Option Point) (limit : ℕ) where
+  -- what they have first above the key, up to the last point
   abbrev First : List KnownVolume → List Point → Type 0
-  First known points = AreFirst (content_of (volume_points known)) after limit points
+  First known points = AreFirst (content_of (points_up_to last (volume_points known))) after limit points
 
   pub first_none : (vs : List ListedVolume) → length vs < 1 → First (known_in vs) []
   first_none (v ∷ vs) few = absurd (omega (arith, few))
@@ -35,21 +36,21 @@ module _ (after : Option Key) (limit : ℕ) where
 
   -- the first of one
   pub first_alone : (vs : List ListedVolume) (v : ListedVolume) (r : Result (List Point) FileErr) → 1 ≤ length vs → length vs < 2 → v ≡ get_or vs 0 v
-      → IfOk r (AreFirst (content_of (points_of_rows v.head.ns v.rows.value)) after limit) → IfOk r (First (known_in vs))
+      → IfOk r (AreFirst (content_of (points_up_to last (points_of_rows v.head.ns v.rows.value))) after limit) → IfOk r (First (known_in vs))
   first_alone [] v r some few is h = absurd (omega (arith, some))
   first_alone (w ∷ []) v r some few is h =
-      subst (λ (u : ListedVolume). IfOk r (First (known_as u ∷ []))) is (subst (λ (ps : List Point). IfOk r (AreFirst (content_of ps) after limit)) (sym (append-nil (points_of_rows v.head.ns v.rows.value))) h)
+      subst (λ (u : ListedVolume). IfOk r (First (known_as u ∷ []))) is (subst (λ (ps : List Point). IfOk r (AreFirst (content_of (points_up_to last ps)) after limit)) (sym (append-nil (points_of_rows v.head.ns v.rows.value))) h)
   first_alone (w ∷ x ∷ vs) v r some few is h = absurd (omega (arith, few))
 
   -- of volumes before the key's namespace nothing
-  pub first_lower : (v : VolumeHead) (rows : List Series) → IsVolume v rows → IsSpaceBelow v.ns after → AreFirst (content_of (points_of_rows v.ns rows)) after limit []
+  pub first_lower : (v : VolumeHead) (rows : List Series) → IsVolume v rows → IsSpaceBelow v.ns after → AreFirst (content_of (points_up_to last (points_of_rows v.ns rows))) after limit []
   first_lower v rows is low = by after low
     where
-      by : (o : Option Key) → IsSpaceBelow v.ns o → AreFirst (content_of (points_of_rows v.ns rows)) o limit []
+      by : (o : Option Key) → IsSpaceBelow v.ns o → AreFirst (content_of (points_up_to last (points_of_rows v.ns rows))) o limit []
       by None low = absurd low
       by (Some key) low =
           let asc = rows_ascend v rows is in
-          subst (AreFirst (content_of (points_of_rows v.ns rows)) (Some key) limit) (take_all limit [] (omega arith)) (first_below v.ns rows asc.ids asc.times limit key low)
+          subst (AreFirst (content_of (points_up_to last (points_of_rows v.ns rows))) (Some key) limit) (take_all limit [] (omega arith)) (first_below v.ns rows asc.ids asc.times last limit key low)
 
 higher_same : (o p : Option ℤ) → higher_there o p ≡ higher_of o p
 higher_same o None = refl
@@ -59,11 +60,8 @@ higher_same o (Some v) = refl
 pub join_of_points : (c : Contents) (points : List Point) → IsJoinOf c (content_of points) (fold raised c points)
 join_of_points c points k = get-joined c points k ∙ higher_same (get c k) (get (content_of points) k)
 
--- what both parts have is joined
-pub join_of_parts : (n : ℕ) (vs : List ListedVolume) → IsJoinOf (content_of (volume_points (known_in (take n vs)))) (content_of (volume_points (known_in (drop n vs)))) (content_of (volume_points (known_in vs)))
-join_of_parts n vs =
-    let front = volume_points (known_in (take n vs)) in
-    let back = volume_points (known_in (drop n vs)) in
-    let parts : volume_points (known_in vs) ≡ front ++ back =
-    points_of_both n (known_in vs) ∙ ap (λ (l : List KnownVolume). volume_points l ++ volume_points (drop n (known_in vs))) (take-map known_as n vs) ∙ ap (λ (l : List KnownVolume). front ++ volume_points l) (drop-map known_as n vs) in
-    subst (IsJoinOf (content_of front) (content_of back)) (sym (fold-append raised empty front back) ∙ ap content_of (sym parts)) (join_of_points (content_of front) back)
+-- the volumes' points are those of both parts
+pub points_of_parts : (n : ℕ) (vs : List ListedVolume) → volume_points (known_in vs) ≡ volume_points (known_in (take n vs)) ++ volume_points (known_in (drop n vs))
+points_of_parts n vs =
+    points_of_both n (known_in vs) ∙ ap (λ (l : List KnownVolume). volume_points l ++ volume_points (drop n (known_in vs))) (take-map known_as n vs)
+    ∙ ap (λ (l : List KnownVolume). volume_points (known_in (take n vs)) ++ volume_points l) (drop-map known_as n vs)

@@ -2,6 +2,7 @@ pub mod CachedLemmas
 mod KeptLemmas
 mod FetchLemmas
 pub mod FirstLemmas
+pub mod NeededLemmas
 pub use Rattle.volume_points.proofs.AnswerLemmas
 pub use Rattle.volume_points.proofs.KnownLemmas
 pub use Rattle.volume_points.proofs.ReadLemmas

@@ -107,20 +107,21 @@ fn find_in(
     }
 }
 
-// The first points above the key of the rows of the block, where the cache has it.
+// The first points above the key, up to the last one, of the rows of the block, where the cache has it.
 fn first_of_block(
     alloc: Global,
     cache: &mut Cache,
     key: (u8, u64, u64),
     after: Option<&Key>,
+    last: Option<&Point>,
     limit: usize,
 ) -> Result<Option<Seq<Point>>, Memory>
     requires { IfSome (rows_of key cache.old) AreAscending }
     ensures used { cache.new ≡ after_get key cache.old }
-    ensures first { IfOk result (λ found. IfSome found (AreFirstInRows key cache.old (option_copied after.entry) limit)) }
+    ensures first { IfOk result (λ found. IfSome found (AreFirstInRows key cache.old (option_copied after.entry) (option_copied last.entry) limit)) }
 {
     match cache.get(key) {
-        Some(rows) => Ok(Some(first_of_rows(alloc, key.0, rows.as_slice(), after, limit)?)),
+        Some(rows) => Ok(Some(first_of_rows(alloc, key.0, rows.as_slice(), after, last, limit)?)),
         None => Ok(None),
     }
 }
@@ -131,14 +132,15 @@ fn first_in(
     blocks: &mut Option<Cache>,
     key: (u8, u64, u64),
     after: Option<&Key>,
+    last: Option<&Point>,
     limit: usize,
 ) -> Result<Option<Seq<Point>>, Memory>
     requires { IfSome (rows_of key (blocks_in blocks.old)) AreAscending }
     ensures used { blocks_in blocks.new ≡ after_get key (blocks_in blocks.old) }
-    ensures first { IfOk result (λ found. IfSome found (AreFirstInRows key (blocks_in blocks.old) (option_copied after.entry) limit)) }
+    ensures first { IfOk result (λ found. IfSome found (AreFirstInRows key (blocks_in blocks.old) (option_copied after.entry) (option_copied last.entry) limit)) }
 {
     match blocks {
-        Some(cache) => first_of_block(alloc, cache, key, after, limit),
+        Some(cache) => first_of_block(alloc, cache, key, after, last, limit),
         None => Ok(None),
     }
 }
@@ -206,18 +208,19 @@ impl RowCache {
         find_in(alloc, &mut self.blocks, cache_key(head), pick, from, to)
     }
 
-    // The first points above the key of the rows of this volume, so many or all; `None` where they aren't kept.
+    // The first points above the key, up to the last one, of the rows of this volume, so many or all; `None` where they aren't kept.
     pub(crate) fn first(
         &mut self,
         alloc: Global,
         head: &Head,
         after: Option<&Key>,
+        last: Option<&Point>,
         limit: usize,
     ) -> Result<Option<Seq<Point>>, Memory>
         ensures used { self.new ≡ after_get (cache_key (head_of head.now)) self.old }
-        ensures first { IfOk result (λ found. IfSome found (AreFirstInRows (cache_key (head_of head.now)) self.old (option_copied after.entry) limit)) }
+        ensures first { IfOk result (λ found. IfSome found (AreFirstInRows (cache_key (head_of head.now)) self.old (option_copied after.entry) (option_copied last.entry) limit)) }
     {
-        first_in(alloc, &mut self.blocks, cache_key(head), after, limit)
+        first_in(alloc, &mut self.blocks, cache_key(head), after, last, limit)
     }
 
     // Keeps these rows of this volume, which ascend, where there is memory for them. Else they are dropped.

@@ -5,6 +5,7 @@ use Rattle.m3_model.specs.Contents.{content_of}
 use Rattle.m3_model.specs.declared.point.Point.{Point}
 use Rattle.m3_model.specs.declared.point.Series.{Series}
 use Rattle.volume_points.specs.wire_bytes.Volumes.{points_of_rows}
+use Rattle.first_points.specs.Bounds.{points_up_to}
 use Rattle.first_points.specs.Firsts.{AreFirst}
 use Rattle.volume_points.proofs.commit_log_proofs.Leaves.{leaves_none}
 use Rattle.volume_points.specs.volume_bytes.Heads.{head_of}
@@ -22,8 +23,9 @@ pub returns-then-is_below-clause-first : goal.returns-then-is_below-clause-first
 returns-then-is_below-clause-first g c = λ tells.
     let v = head_of c.args.volume.now.head in
     let after = option_copied c.args.after in
-    subst (AreFirst (content_of (points_of_rows v.ns c.args.volume.now.rows.value)) after c.args.limit) (sym c.new.ensures)
-    (first_lower after c.args.limit v c.args.volume.now.rows.value (c.requires.there tells).values (c.is_below.ensures c.if-is_below.true))
+    let last = option_copied c.args.last in
+    subst (AreFirst (content_of (points_up_to last (points_of_rows v.ns c.args.volume.now.rows.value))) after c.args.limit) (sym c.new.ensures)
+    (first_lower after last c.args.limit v c.args.volume.now.rows.value (c.requires.there tells).values (c.is_below.ensures c.if-is_below.true))
 
 -- ---- the rows are kept
 
@@ -35,9 +37,10 @@ returns-in-Ok-Some-clause-first g c = λ tells.
     let v = head_of c.args.volume.now.head in
     let rows = c.args.volume.now.rows.value in
     let after = option_copied c.args.after in
-    let found = subst (λ (o : Option (List Point)). IfSome o (AreFirstInRows (cache_key v) c.args.kept.now after c.args.limit)) c.in-Ok-Some.field-0-is c.in-Ok-Some.ensures.first in
+    let last = option_copied c.args.last in
+    let found = subst (λ (o : Option (List Point)). IfSome o (AreFirstInRows (cache_key v) c.args.kept.now after last c.args.limit)) c.in-Ok-Some.field-0-is c.in-Ok-Some.ensures.first in
     let same = right_rows (known_as c.args.volume.now) c.args.kept.now found.rows (c.requires.right tells) found.kept in
-    subst (λ (l : List Series). AreFirst (content_of (points_of_rows v.ns l)) after c.args.limit c.in-Ok-Some.points) same found.first
+    subst (λ (l : List Series). AreFirst (content_of (points_up_to last (points_of_rows v.ns l))) after c.args.limit c.in-Ok-Some.points) same found.first
 
 pub returns-in-Ok-Some-clause-kept : goal.returns-in-Ok-Some-clause-kept
 returns-in-Ok-Some-clause-kept g c = listed_got (known_as c.args.volume.now ∷ []) (cache_key (head_of c.args.volume.now.head)) c.args.kept.now c.first.new.self c.first.ensures.used
