@@ -27,7 +27,8 @@ module _ (last : Option Point) where
   pub up_to_left : (p : Point) (points : List Point) → is_up_to last (key_of p) ≡ false → points_up_to last (p ∷ points) ≡ points_up_to last points
   up_to_left p points above = filter_leaves (λ q. is_up_to last (key_of q)) p points above
 
-  none_up_to : (points : List Point) → ((p : Point) → IsIn points p → is_up_to last (key_of p) ≡ false) → points_up_to last points ≡ []
+  -- none where all are above it
+  pub none_up_to : (points : List Point) → ((p : Point) → IsIn points p → is_up_to last (key_of p) ≡ false) → points_up_to last points ≡ []
   none_up_to [] above = refl
   none_up_to (p ∷ points) above = up_to_left p points (above p (inl refl)) ∙ none_up_to points (λ q m. above q (inr m))
 

@@ -26,7 +26,7 @@ use Rattle.page_cut.specs.Pages.{IsBefore}
 use Rattle.first_points.specs.Bounds.{is_up_to, points_up_to}
 use Rattle.first_points.specs.Firsts.{IsPast, AreFirst}
 use Rattle.first_points.specs.Rows.{points_at, EndsPast, AreLater, AreFrom}
-use Rattle.first_points.proofs.BoundLemmas.{series_above, time_within, up_to_apart, up_to_front, up_to_whole_front}
+use Rattle.first_points.proofs.BoundLemmas.{none_up_to, series_above, time_within, up_to_apart, up_to_front, up_to_whole_front}
 use Rattle.first_points.proofs.KeyOrder.{by_space, by_id, by_time, not_by_time}
 use Rattle.first_points.proofs.TurnLemmas.{not_both}
 use Rattle.first_points.proofs.ListedLemmas.{first_ends}
@@ -191,6 +191,10 @@ module _ (ns : ℕ) (rows : List Series) (ids : Ascends (λ (a b : Series). IsBe
   first_below key high =
       ends_up_to (points_in ns rows) [] (Some key) (sym (append-nil (points_in ns rows)))
       (λ p m past. not_both key (key_of p) past (by_space (key_of p) key (subst (λ n. n < key.ns) (sym (row_of ns rows p m).space) high))) (λ p m. absurd m)
+
+-- of a namespace above the last point's none
+pub none_of_space : (last : Point) (ns : ℕ) (rows : List Series) → last.ns < ns → points_up_to (Some last) (points_in ns rows) ≡ []
+none_of_space last ns rows low = none_up_to (Some last) (points_in ns rows) (λ p m. ap (λ o. not (is_lt o)) (by_space (key_of last) (key_of p) (subst (λ n. last.ns < n) (sym (row_of ns rows p m).space) low)))
 
 -- ---- what a search for the last point finds
 

@@ -1,6 +1,6 @@
 -- The first points of several listed volumes, from those of fewer.
-use Rattle.std.proofs.Common.{◌≡◌, ◌∙◌, ℕ, ◌<◌, ◌≤◌, ℤ, List, [], ◌∷◌, ◌++◌, length, take, drop, refl, sym, ap, subst, arith, append-nil, get_or, Result, fold}
-use Rattle.std.specs.Prelude.{IfOk, Option, Some, None}
+use Rattle.std.proofs.Common.{◌≡◌, ◌∙◌, ℕ, ◌<◌, ◌≤◌, ℤ, List, [], ◌∷◌, ◌++◌, length, take, drop, refl, sym, ap, subst, inl, inr, arith, append-nil, get_or, Result, fold}
+use Rattle.std.specs.Prelude.{◌⊎◌, IfOk, Option, Some, None}
 use Rattle.std.specs.List.{take-map, drop-map}
 use Rattle.std.specs.FinMap.{empty, get, get-empty}
 use Rattle.std.proofs.lemmas.List.{take_all}
@@ -20,9 +20,9 @@ use Rattle.volume_points.proofs.VolumeLemmas.{rows_ascend}
 use Rattle.first_points.specs.Bounds.{points_up_to}
 use Rattle.first_points.specs.Firsts.{AreFirst}
 use Rattle.first_points.specs.Merges.{IsJoinOf, higher_of}
-use Rattle.first_points.proofs.RowLemmas.{first_below}
+use Rattle.first_points.proofs.RowLemmas.{first_below, none_of_space}
 use Rattle.listed_volumes.specs.declared.volume.ListedVolume.{ListedVolume}
-use Rattle.listed_volumes.specs.FirstListed.{IsSpaceBelow}
+use Rattle.listed_volumes.specs.FirstListed.{IsSpaceAbove, IsSpaceBelow}
 use Rattle.listed_volumes.specs.Listed.{known_as, known_in}
 
 module _ (after : Option Key) (last : Option Point) (limit : ℕ) where
@@ -51,6 +51,18 @@ module _ (after : Option Key) (last : Option Point) (limit : ℕ) where
       by (Some key) low =
           let asc = rows_ascend v rows is in
           subst (AreFirst (content_of (points_up_to last (points_of_rows v.ns rows))) (Some key) limit) (take_all limit [] (omega arith)) (first_below v.ns rows asc.ids asc.times last limit key low)
+
+  -- of volumes of a namespace above the last point's nothing either
+  pub first_upper : (ns : ℕ) (rows : List Series) → IsSpaceAbove ns last → AreFirst (content_of (points_up_to last (points_of_rows ns rows))) after limit []
+  first_upper ns rows above = by last above
+    where
+      by : (o : Option Point) → IsSpaceAbove ns o → AreFirst (content_of (points_up_to o (points_of_rows ns rows))) after limit []
+      by None above = absurd above
+      by (Some p) above = subst (λ (points : List Point). AreFirst (content_of points) after limit []) (sym (none_of_space p ns rows above)) (first_none [] (omega arith))
+
+  pub first_apart : (v : VolumeHead) (rows : List Series) → IsVolume v rows → IsSpaceBelow v.ns after ⊎ IsSpaceAbove v.ns last → AreFirst (content_of (points_up_to last (points_of_rows v.ns rows))) after limit []
+  first_apart v rows is (inl low) = first_lower v rows is low
+  first_apart v rows is (inr above) = first_upper v.ns rows above
 
 higher_same : (o p : Option ℤ) → higher_there o p ≡ higher_of o p
 higher_same o None = refl

@@ -20,6 +20,11 @@ abbrev pub IsSpaceBelow : ℕ → Option Key → Type 0
 IsSpaceBelow ns None = ⊥
 IsSpaceBelow ns (Some k) = ns < k.ns
 
+-- it is above that of the last point
+abbrev pub IsSpaceAbove : ℕ → Option Point → Type 0
+IsSpaceAbove ns None = ⊥
+IsSpaceAbove ns (Some last) = last.ns < ns
+
 -- the point is the last of these, which are so many or more
 abbrev pub IsLastOfMany : List Point → ℕ → Option Point → Type 0
 IsLastOfMany points limit last = (limit ≤ length points) × (IsSome last × (slice_get points (length points - 1) ≡ last))

@@ -1,5 +1,5 @@
 //! The first points above a key that volumes have.
-ghost use Rattle.std.specs.Prelude.{◌≡◌, [], ◌∷◌, true, Option, IfOk, IfErr, IsErrOf};
+ghost use Rattle.std.specs.Prelude.{◌≡◌, ◌⊎◌, [], ◌∷◌, true, Option, IfOk, IfErr, IsErrOf};
 ghost use Rattle.std.specs.Option.{option_copied};
 ghost use Rattle.m3_model.specs.Contents.{Contents, content_of};
 ghost use Rattle.m3_model.specs.declared.point.Key.{Key as Last};
@@ -17,7 +17,7 @@ ghost use Rattle.first_points.specs.Firsts.{AreFirst};
 ghost use Rattle.first_points.specs.Merges.{IsJoinOf};
 ghost use Rattle.listed_volumes.specs.Listed.{AreHeld, known_as, known_in};
 ghost use Rattle.listed_volumes.specs.Cached.{AreRight, StayOfVolumes, StayRight};
-ghost use Rattle.listed_volumes.specs.FirstListed.{IsLastNeeded, IsSpaceBelow};
+ghost use Rattle.listed_volumes.specs.FirstListed.{IsLastNeeded, IsSpaceAbove, IsSpaceBelow};
 
 use crate::row_cache::RowCache;
 use crate::volume::ListedVolume;
@@ -72,7 +72,7 @@ fn first_of_one<D: Disk>(
     ensures kept { StayOfVolumes (known_as volume.now ∷ []) kept.old kept.new }
     ensures right { (D.state disk.old).tells ≡ true → StayRight (D.state disk.old).files kept.old kept.new }
 {
-    if is_below(volume.head.ns, after) {
+    if is_apart(volume.head.ns, after, last) {
         return Ok(Seq::new(alloc));
     }
     match kept.first(alloc, &volume.head, after, last, limit) {
@@ -82,13 +82,14 @@ fn first_of_one<D: Disk>(
     }
 }
 
-// Whether the namespace is below that of the key, where there is one.
-fn is_below(ns: u8, after: Option<&Key>) -> bool
-    ensures { result ≡ true → IsSpaceBelow ns (option_copied after.entry) }
+// Whether the namespace is below that of the key or above that of the last point, where there are these.
+fn is_apart(ns: u8, after: Option<&Key>, last: Option<&Point>) -> bool
+    ensures { result ≡ true → IsSpaceBelow ns (option_copied after.entry) ⊎ IsSpaceAbove ns (option_copied last.entry) }
 {
-    match after {
-        Some(key) => ns < key.ns,
-        None => false,
+    match (after, last) {
+        (Some(key), _) if ns < key.ns => true,
+        (_, Some(point)) => point.ns < ns,
+        _ => false,
     }
 }
 
@@ -154,8 +155,8 @@ fn first_up_to<D: Disk>(
 /// The first points above the key that these volumes have, each of them there whole: so many, or all; without a key the first of
 /// all. Of several at one key the highest.
 ///
-/// Nothing is read of a volume of a namespace before the key's, nor of one whose rows are kept; each other volume's data is read in one
-/// piece, and its rows are kept then, if there is memory for them. So in a stream of pages each volume is read once, where not more of
+/// Nothing is read of a volume of a namespace before the key's, of one whose rows are kept, nor of one of a namespace above that of the last point needed
+/// of it; each other volume's data is read in one piece, and its rows are kept then, if there is memory for them. So in a stream of pages each volume is read once, where not more of
 /// them than are kept are met; where more are met, each page reads those again that were dropped. Beside that each volume costs the logarithm of
 /// its points, and those of its first ones are copied that aren't above as many of the volumes before it: the more volumes, the fewer of each.
 ///

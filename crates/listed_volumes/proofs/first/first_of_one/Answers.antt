@@ -13,19 +13,19 @@ use Rattle.listed_volumes.specs.Cached.{cache_key}
 use Rattle.listed_volumes.specs.FirstListed.{AreFirstInRows}
 use Rattle.listed_volumes.specs.Listed.{known_as}
 use Rattle.listed_volumes.proofs.CachedLemmas.{listed_got, right_got, right_rows}
-use Rattle.listed_volumes.proofs.FirstLemmas.{first_lower}
+use Rattle.listed_volumes.proofs.FirstLemmas.{first_apart}
 use Rattle.listed_volumes.proofs.first.first_of_one.Goals as goal
 
-pub returns-then-is_below-clause-leaves : goal.returns-then-is_below-clause-leaves
-returns-then-is_below-clause-leaves g c = leaves_none _ (g.D.Disk.state c.args.disk.now) (λ f. absurd (cc))
+pub returns-then-is_apart-clause-leaves : goal.returns-then-is_apart-clause-leaves
+returns-then-is_apart-clause-leaves g c = leaves_none _ (g.D.Disk.state c.args.disk.now) (λ f. absurd (cc))
 
-pub returns-then-is_below-clause-first : goal.returns-then-is_below-clause-first
-returns-then-is_below-clause-first g c = λ tells.
+pub returns-then-is_apart-clause-first : goal.returns-then-is_apart-clause-first
+returns-then-is_apart-clause-first g c = λ tells.
     let v = head_of c.args.volume.now.head in
     let after = option_copied c.args.after in
     let last = option_copied c.args.last in
     subst (AreFirst (content_of (points_up_to last (points_of_rows v.ns c.args.volume.now.rows.value))) after c.args.limit) (sym c.new.ensures)
-    (first_lower after last c.args.limit v c.args.volume.now.rows.value (c.requires.there tells).values (c.is_below.ensures c.if-is_below.true))
+    (first_apart after last c.args.limit v c.args.volume.now.rows.value (c.requires.there tells).values (c.is_apart.ensures c.if-is_apart.true))
 
 -- ---- the rows are kept
 
