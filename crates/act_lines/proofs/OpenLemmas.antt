@@ -53,11 +53,10 @@ use Rattle.call_lines.proofs.told_moves_proofs.SlotLemmas.{Tries, tries_by}
 use Rattle.call_lines.specs.told_runs.Lines.{OpensNext}
 use Rattle.transcripts.specs.Moves.{IsLeftFence}
 use Rattle.node_calls.specs.cluster_members.declared.members.Members.{Members}
-use Rattle.node_calls.specs.Begins.{IsTenureUnowned}
 use Rattle.act_lines.specs.Stays.{HaveNoPlace}
 use Rattle.act_lines.proofs.GrowLemmas.{last_still, take_behind}
 use Rattle.act_lines.specs.Keeps.{BeginsGiven, BeginsStill}
-use Rattle.act_lines.specs.Opens.{IsGivenNow, IsLow, MayOpenSlots}
+use Rattle.act_lines.specs.Opens.{IsGivenNow, IsLow, IsTenureUnowned, MayOpenSlots}
 
 -- ---- steps of a slot among events
 

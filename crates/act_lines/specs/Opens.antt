@@ -1,4 +1,4 @@
--- With what slots first begin: what is so of the disks of slots that never began, so that no first begin is refused as not owned, nor leaves a higher fence.
+-- With what slots first begin: what is so of the disks of slots that never began, so that no first begin is refused as not owned, nor leaves a higher fence. And whose machine doesn't own a tenure.
 use Rattle.std.specs.Prelude.{◌≡◌, ◌⊎◌, ◌≤◌, ℕ, List, [], Option, Some, Bool, true}
 use Rattle.std.specs.FinMap as finite
 use Rattle.m3_model.specs.Members.{IsIn}
@@ -12,9 +12,12 @@ use Rattle.node_calls.specs.shard_files.FilesHold.{FilesHold}
 use Rattle.cluster_core.specs.Earlier.{last_place}
 use Rattle.cluster_core.specs.Replicas.{replica}
 use Rattle.cluster_core.specs.declared.event.Event.{Event}
+use Rattle.node_calls.specs.replica_machine.Boots.{MayBeUnowned}
+use Rattle.node_calls.specs.replica_exchange.MachineCalls.{IsMemberOf}
 use Rattle.node_calls.specs.replica_exchange.declared.member.Member.{Member}
 use Rattle.node_calls.specs.replica_exchange.declared.slot.Slot.{Slot}
 use Rattle.node_calls.specs.replica_calls.Calls.{AreMembersOf, Tracked}
+use Rattle.node_calls.specs.replica_calls.Slots.{MemberMap}
 use Rattle.call_lines.specs.told_by.Makes.{IsAssigned}
 use Rattle.transcripts.specs.Moves.{IsLeftFence}
 
@@ -44,3 +47,12 @@ pub record MayOpenSlots {D : Type 0} (state : D → DiskState) (tells : Bool) (s
   pub tell : tells ≡ true → TellAll state
   pub members : AreMembersOf state replicas
   pub low : tells ≡ true → OpensLow state start replicas
+
+-- the machine that is the slot's replica after these events, made over its first disk, doesn't own the tenure: it began a higher one, or its files hold one
+pub record IsTenureUnowned {D : Type 0} (state : D → DiskState) (members : MemberMap D) (slot : Slot) (past : List Event) (tenure : ℕ) : Type 0 where
+  pub was : Member D
+  pub there : finite.get members slot ≡ Some was
+  pub now : Member D
+  pub is : IsMemberOf state slot past now
+  pub first : now.first ≡ was.first
+  pub unowned : MayBeUnowned state tenure now.machine

@@ -40,7 +40,7 @@ use Rattle.node_calls.specs.session_net.Ready.{IsReady}
 use Rattle.node_calls.specs.session_net.Runs.{Ran, slot_at}
 use Rattle.node_calls.specs.session_net.declared.net.Net.{Net}
 use Rattle.node_calls.specs.Nodes.{KeepsButBoots, MayBoot}
-use Rattle.node_calls.proofs.session_net_proofs.ReadyLemmas.{AreQuiet}
+use Rattle.node_calls.proofs.session_net_proofs.ReadyLemmas.{AreQuiet, ready_after}
 use Rattle.node_calls.proofs.session_net_proofs.RunLemmas.{ran_then}
 use Rattle.cluster_placements.specs.Steps.{MayChange, end_at, kept_in, place_ending}
 use Rattle.node_joins.specs.Joined.{JoinedOf}
@@ -298,6 +298,18 @@ module _ {D : Type 0} {G : Ghosts D} (state : D → DiskState) (old : Members D 
       pub ok_state : (result : Booting) → MayMark mid node joined result new → new.net.state ≡ old.net.state
       ok_state result m = ((kept state old mid new name only runs.0 joined own came keeps (same_by result m)).keeps).state
 
+      pub ok_past : (result : Booting) → MayMark mid node joined result new → new.past.items ≡ old.past.items
+      ok_past result m = ((kept state old mid new name only runs.0 joined own came keeps (same_by result m)).keeps).past
+
+      -- calls may be made
+      pub ok_ready : (result : Booting) → MayMark mid node joined result new → IsReady new.net.state new.net.replicas new.net.bag
+      ok_ready result m =
+          let same = same_by result m in
+          let keeps_new = kept state old mid new name only runs.0 joined own came keeps same in
+          let came_to = ran state old mid new name only runs.0 joined own came keeps same in
+          let quiet_all = quiet state old mid new name only runs.0 joined own came keeps same in
+          ready_still state old new (added_by (own).opened) came_to quiet_all keeps_new ready
+
       pub ok_still : (result : Booting) → MayMark mid node joined result new → (held : DiskSlot → Held D) → MayChange old held → MayChange new held
       ok_still result m held may =
           let same = same_by result m in
@@ -307,6 +319,9 @@ module _ {D : Type 0} {G : Ghosts D} (state : D → DiskState) (old : Members D 
           still_on state old new (added_by (own).opened) came_to quiet_all keeps_new held may
 
   -- where not all were opened
+  pub err_ready : (new : Tracked D) (why : OpenErr) → AreTried state node only old.net.state.place old.net.replicas new (Err why) → IsReady old.net.state new old.net.bag
+  err_ready new why h = let q = err_quiet state node only old.net.state.place old.net.replicas new why h in ready_after state old.net.state old.net.replicas new old.net.bag old.net.bag q.0 ready q.1 q.2 (λ one m. inl m)
+
   module _ (new : Members D G) (keeps : KeepsButBoots old new) (came : CameUnowned state old.net.replicas new.net.replicas) (why : OpenErr) (h : AreTried state node only old.net.state.place old.net.replicas new.net.replicas (Err why)) where
     pub not_all : (b : Answer) → b ≡ ended_answer name why → IsBooted state old name only b new
     not_all b is =

@@ -130,6 +130,8 @@ fn open_running<D: Disk>(
     ensures booting { IsBooting D.state members.old name asked result members.new }
     ensures unmarked { MayBeLeft D.state members.old name asked result members.new }
     ensures state { members.new.net.state ≡ members.old.net.state }
+    ensures past { members.new.past.items ≡ members.old.past.items }
+    ensures ready { IsReady members.new.net.state members.new.net.replicas members.new.net.bag }
     ensures still { (held : DiskSlot → Held D) → MayChange members.old held → MayChange members.new held }
 {
     match open_all(
@@ -159,6 +161,8 @@ pub fn open_node<D: Disk>(
     ensures booting { IsBooting D.state members.old name asked result members.new }
     ensures unmarked { MayBeLeft D.state members.old name asked result members.new }
     ensures state { members.new.net.state ≡ members.old.net.state }
+    ensures past { members.new.past.items ≡ members.old.past.items }
+    ensures ready { IsReady members.new.net.state members.new.net.replicas members.new.net.bag }
     ensures still { (held : DiskSlot → Held D) → MayChange members.old held → MayChange members.new held }
 {
     let instances = members.net.state.place.instances.as_slice();

@@ -40,10 +40,9 @@ use Rattle.act_lines.proofs.call_lines_proofs.DeliverLemmas.{nothing_serves, not
 use Rattle.act_lines.proofs.call_lines_proofs.ServeLemmas.{may_lack}
 use Rattle.act_lines.specs.cluster_members.Names.{node_named}
 use Rattle.act_lines.specs.cluster_members.declared.members.Members.{Members}
-use Rattle.act_lines.specs.node_calls.Begins.{IsTenureUnowned}
 use Rattle.act_lines.specs.node_calls.Nodes.{HasShard, IsNode, IsNoShard, IsNowhere, MayBoot}
 use Rattle.act_lines.specs.Due.{BootstrapDue, IsDueNext}
-use Rattle.act_lines.specs.Opens.{MayOpenSlots}
+use Rattle.act_lines.specs.Opens.{IsTenureUnowned, MayOpenSlots}
 use Rattle.act_lines.specs.Settings.{LeavesNothing}
 use Rattle.act_lines.specs.Stands.{ClusterStands}
 use Rattle.act_lines.proofs.DamageLemmas.{form_shown}

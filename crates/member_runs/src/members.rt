@@ -7,6 +7,7 @@ ghost use Rattle.m3_outside.specs.declared.slot.DiskSlot.{DiskSlot};
 ghost use Rattle.node_calls.specs.Halts.{AreManned};
 ghost use Rattle.member_runs.specs.Ready.{IsReadyCluster};
 
+use cluster_joins::{Booting, open_node};
 use cluster_upkeep::{flush, status, tick};
 use cluster_words::{act_of, spell, three_nodes};
 use first_cluster::first_members;
@@ -15,7 +16,7 @@ use m3_outside::{Disk, Disks};
 use node_calls::of_cluster_members::{Members, Range};
 use node_calls::of_replica_calls::Replicas;
 use node_calls::of_replica_exchange::{CallId, Slot};
-use node_calls::{bootstrap, deliver, restart, set_fates, stop};
+use node_calls::{deliver, restart, set_fates, stop};
 use std::alloc::Global;
 
 // Whether each slot has a replica.
@@ -54,6 +55,25 @@ fn restart_node<D: Disk>(members: &mut Members<D>, node: Text, pick: u64) -> Ans
     }
 }
 
+// `Later` where the node joined shards, which aren't marked then.
+fn bootstrap<D: Disk>(
+    alloc: Global,
+    members: &mut Members<D>,
+    node: Text,
+    shard: Option<u32>,
+) -> Answer
+    requires ready { IsReadyCluster members.old }
+    ensures ready { IsReadyCluster members.new }
+{
+    match open_node(members, alloc, node, shard) {
+        Booting::Answered(answer) => answer,
+        Booting::Joined(marking) => {
+            marking.give_up();
+            Answer::Later
+        }
+    }
+}
+
 // Changes the rules, the fates or the nodes, delivers late messages, or goes over all replicas.
 fn change<D: Disk>(alloc: Global, members: &mut Members<D>, act: Act) -> Answer
     requires limits { MeetsLimits act }
@@ -79,7 +99,7 @@ fn change<D: Disk>(alloc: Global, members: &mut Members<D>, act: Act) -> Answer
         ),
         Act::Now { now } => members.set_moment(alloc, now),
         Act::Fates { list } => set_fates(members, alloc, list),
-        Act::Bootstrap { node, shard } => bootstrap(members, alloc, node, shard),
+        Act::Bootstrap { node, shard } => bootstrap(alloc, members, node, shard),
         Act::Deliver => deliver(members, alloc),
         Act::Stop { node } => stop_node(members, node),
         Act::Restart { node, pick } => restart_node(members, node, pick),

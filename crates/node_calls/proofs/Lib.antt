@@ -1,4 +1,3 @@
-pub mod BeginLemmas
 pub mod ListLemmas
 pub mod NodeActs
 pub mod ResultLemmas

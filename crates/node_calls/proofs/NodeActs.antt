@@ -1,17 +1,16 @@
 -- What befalls a node, as its members answer it.
-use Rattle.std.proofs.Common.{◌≡◌, ◌<◌, ◌≤◌, ℕ, List, length, get_or, refl, sym, ap, subst, ◌∙◌, inl, inr, arith, Bool}
+use Rattle.std.proofs.Common.{◌≡◌, ◌<◌, ℕ, List, length, get_or, refl, sym, ap, subst, ◌∙◌, inl, inr, arith, Bool}
 use Rattle.std.specs.Prelude.{Option, Some, None, IfSome, slice_get}
 use Rattle.m3_model.specs.declared.answer.Answer.{Answer}
 use Rattle.m3_model.specs.declared.answer.Answer.TheVariants as answer
 use Rattle.m3_model.specs.declared.placement.Instance.{Instance}
 use Rattle.m3_model.specs.declared.reason.Reason.{Reason}
-use Rattle.m3_model.specs.declared.reason.Reason.TheVariants as reason
 use Rattle.m3_outside.specs.DiskState.{DiskState}
 use Rattle.m3_outside.specs.declared.disk.Disk.{Ghosts}
 use Rattle.cluster_members.proofs.placement_core_proofs.ListLemmas.{at_index}
 use Rattle.cluster_members.specs.Names.{node_named}
-use Rattle.node_calls.specs.Boots.{refused_answer, IsNumberOf}
-use Rattle.node_calls.specs.Nodes.{IsNode, IsUnstarted, IsRestarted, HasShard, IsNoShard, IsHeldUp, IsBootstrapAnswer}
+use Rattle.node_calls.specs.Boots.{refused_answer}
+use Rattle.node_calls.specs.Nodes.{IsNode, IsUnstarted, IsRestarted, HasShard}
 use Rattle.cluster_members.specs.declared.members.Members.{Members}
 
 -- the node was found
@@ -35,16 +34,6 @@ pub has_shard : {D : Type 0} {G : Ghosts D} (m : Members D G) (asked : Option �
 has_shard m None shards same low = tt
 has_shard m (Some shard) shards same low = subst (λ n. shard < n) same low
 
--- the answer of a bootstrap of a shard that isn't there
-pub unknown_answer : {D : Type 0} {G : Ghosts D} (state : D → DiskState) (old new : Members D G) (name : List ℕ) (asked : Option ℕ) (shard shards node : ℕ) (b : Answer) → node_named name old.net.state.place.instances ≡ Some node → asked ≡ Some shard
-    → shards ≡ length old.net.state.place.shards → shards ≤ shard → new ≡ old → IsNumberOf shard b → IsBootstrapAnswer state old name asked b new
-unknown_answer state old new name asked shard shards node (answer.Unknown unknown) found is same high stays number = (
-  inr (node, found, subst (λ o. IsNoShard old o unknown) (sym is) (subst (λ n. n ≤ shard) same high, number)),
-  stays,
-)
-unknown_answer state old new name asked shard shards node answer.Memory found is same high stays number = inl stays
-unknown_answer state old new name asked shard shards node _ found is same high stays number = absurd number
-
 -- a refused restart's answer
 pub unstarted_answer : {D : Type 0} {G : Ghosts D} (state : D → DiskState) (old new : Members D G) (name : List ℕ) (shard : ℕ) (why : Reason) (b : Answer) → b ≡ refused_answer name shard why → IsUnstarted state old name shard why new
     → IsRestarted state old name b new
@@ -53,11 +42,3 @@ unstarted_answer state old new name shard why b is h =
       | inl memory ↦ subst (λ x. IsRestarted state old name x new) (sym (is ∙ ap (refused_answer name shard) memory)) (shard, subst (λ w. IsUnstarted state old name shard w new) memory h)
       | inr disk ↦ subst (λ x. IsRestarted state old name x new) (sym (is ∙ ap (refused_answer name shard) disk)) (refl, subst (λ w. IsUnstarted state old name shard w new) disk h)
     ]
-
--- the answer of a bootstrap that ended before its end
-pub held_answer : {D : Type 0} {G : Ghosts D} (state : D → DiskState) (old new : Members D G) (name : List ℕ) (asked : Option ℕ) (shard : ℕ) (why : Reason) (b : Answer) → b ≡ refused_answer name shard why → IsHeldUp state old name asked shard why new
-    → IsBootstrapAnswer state old name asked b new
-held_answer state old new name asked shard reason.Disk b is h = subst (λ x. IsBootstrapAnswer state old name asked x new) (sym is) (refl, h)
-held_answer state old new name asked shard (reason.Corrupt damage) b is h = subst (λ x. IsBootstrapAnswer state old name asked x new) (sym is) (refl, h)
-held_answer state old new name asked shard reason.Memory b is h = subst (λ x. IsBootstrapAnswer state old name asked x new) (sym is) (inr (shard, h))
-held_answer state old new name asked shard _ b is h = absurd (h.refused).ends

@@ -1,5 +1,5 @@
 -- What befalls nodes, and messages to them.
-use Rattle.std.specs.Prelude.{◌≡◌, ℕ, ◌*◌, ◌<◌, ◌≤◌, List, [], ◌++◌, length, Option, Some, None, Bool, true, false, Result, Ok, Err, slice_get, slice_set, ◌⊎◌, ⊤, decimal}
+use Rattle.std.specs.Prelude.{◌≡◌, ℕ, ◌*◌, ◌<◌, ◌≤◌, List, ◌++◌, length, Option, Some, None, Bool, true, false, Result, Ok, Err, slice_get, slice_set, ⊤, decimal}
 use Rattle.std.specs.List.{flat_map}
 use Rattle.m3_outside.specs.declared.disk.Disk.{Ghosts}
 use Rattle.m3_model.specs.declared.act.Fate.{Fate}
@@ -17,7 +17,6 @@ use Rattle.cluster_members.specs.session_net.Runs.{Ran}
 use Rattle.cluster_members.specs.session_net.declared.session_err.SessionErr.TheVariants as err
 use Rattle.cluster_members.specs.Names.{AreNumbered, first_missing, node_named}
 use Rattle.cluster_members.specs.declared.members.Members.{Members}
-use Rattle.node_calls.specs.Begins.{AreBegun, IsUnbegun, assigned_all}
 use Rattle.node_calls.specs.Halts.{IsUnrestarted, restart_at, slots_of_node, stop_at}
 
 -- ---- fates
@@ -149,41 +148,7 @@ pub record MayBoot {D : Type 0} {G : Ghosts D} (m : Members D G) (name : List �
   pub runs : IsNode m name false
   pub has_shard : HasShard m asked
 
--- the replicas that the placement gives it are begun: all, or that of the shard that is asked for
-pub record IsStartedUp {D : Type 0} {G : Ghosts D} (state : D → DiskState) (old : Members D G) (name : List ℕ) (asked : Option ℕ) (new : Members D G) : Type 0 where
-  pub may : MayBoot old name asked
-  pub begins : List Event
-  pub begun : AreBegun state may.runs.node (assigned_all may.runs.node asked old.net.state.place) old.net.replicas begins
-  pub ran : Ran state old.net.replicas begins new.net.replicas
-  pub keeps : KeepsButBoots old new
-
--- one of them couldn't be begun
-pub record IsHeldUp {D : Type 0} {G : Ghosts D} (state : D → DiskState) (old : Members D G) (name : List ℕ) (asked : Option ℕ) (shard : ℕ) (why : Reason) (new : Members D G) : Type 0 where
-  pub may : MayBoot old name asked
-  pub begins : List Event
-  pub refused : IsUnbegun state may.runs.node asked old.net.state.place shard why old.net.replicas begins
-  pub ran : Ran state old.net.replicas begins new.net.replicas
-  pub keeps : KeepsButBoots old new
-
--- the list lacks room for two events for each shard, and nothing changed
-pub record LacksBootRoom {D : Type 0} {G : Ghosts D} (old new : Members D G) : Type 0 where
-  pub room : ¬ HasRoom (2 * length old.net.state.place.shards) old.net.replicas.events
-  pub same : new ≡ old
-
 -- the number of a shard that isn't there
 abbrev pub IsNoShard : {D : Type 0} {G : Ghosts D} → Members D G → Option ℕ → List ℕ → Type 0
 IsNoShard m None name = ⊥
 IsNoShard m (Some shard) name = (length m.net.state.place.shards ≤ shard) × (name ≡ decimal shard)
-
--- a node is bootstrapped, unless it or the shard isn't there, it is stopped, the list lacks room, or one of its replicas can't be begun
-abbrev pub IsBootstrapAnswer : {D : Type 0} {G : Ghosts D} → (D → DiskState) → Members D G → List ℕ → Option ℕ → Answer → Members D G → Type 0
-IsBootstrapAnswer state old name asked (answer.Available available place version) new =
-    (available ≡ []) × (place ≡ old.net.state.place) × (version ≡ old.net.state.place.version) × IsStartedUp state old name asked new
-IsBootstrapAnswer state old name asked (answer.Unknown unknown) new =
-    ((IsNowhere old name × (unknown ≡ name)) ⊎ ((node : ℕ) × (node_named name old.net.state.place.instances ≡ Some node) × IsNoShard old asked unknown)) × (new ≡ old)
-IsBootstrapAnswer state old name asked (answer.State node) new = IsNode old name true × HasShard old asked × (node ≡ name) × (new ≡ old)
-IsBootstrapAnswer state old name asked (answer.Disk node shard) new = (node ≡ name) × IsHeldUp state old name asked shard reason.Disk new
-IsBootstrapAnswer state old name asked (answer.Corrupt node shard damage) new = (node ≡ name) × IsHeldUp state old name asked shard (reason.Corrupt damage) new
-IsBootstrapAnswer state old name asked answer.Memory new = (new ≡ old) ⊎ ((shard : ℕ) × IsHeldUp state old name asked shard reason.Memory new)
-IsBootstrapAnswer state old name asked answer.Full new = MayBoot old name asked × LacksBootRoom old new
-IsBootstrapAnswer state old name asked _ new = ⊥

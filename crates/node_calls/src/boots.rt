@@ -1,15 +1,14 @@
-//! Nodes that start again: restarts and bootstraps.
+//! Nodes that start again: restarts, and shards that a bootstrap asks for and that aren't there.
 ghost use Rattle.std.specs.Prelude.{◌≡◌, ◌<◌, ◌≤◌, Some, IfNone, IfSome};
 ghost use Rattle.cluster_members.specs.session_net.Ready.{IsReady};
 ghost use Rattle.node_calls.specs.Boots.{IsNumberOf};
 ghost use Rattle.node_calls.specs.Halts.{AreManned, HaveSameSlots};
-ghost use Rattle.node_calls.specs.Nodes.{IsRestarted, IsBootstrapAnswer};
+ghost use Rattle.node_calls.specs.Nodes.{IsRestarted};
 
-use crate::begins::begin_all;
 use crate::halts::{restart_all, slots_of, stop_all};
 use crate::nodes::node_named;
 use cluster_members::Members;
-use m3_model::{Answer, Duplicate, Seq, Text};
+use m3_model::{Answer, Text};
 use m3_outside::Disk;
 use std::alloc::Global;
 
@@ -68,52 +67,4 @@ pub fn restart<D: Disk>(members: &mut Members<D>, name: Text, pick: u64) -> Answ
     }
     members.stopped[node] = false;
     Answer::Done
-}
-
-/// Has the replicas of a node that runs begin, each with the tenure that the placement gives it: all, or that of one
-/// shard. `Unknown` says that no node has the name or that there is no such shard, `State` that the node is stopped, and
-/// `Full` that the list lacks room for two events for each shard; nothing changes then. A fault, damage or want of memory
-/// ends it at that replica; one that is down, or that doesn't own the tenure, is passed over.
-pub fn bootstrap<D: Disk>(
-    members: &mut Members<D>,
-    alloc: Global,
-    name: Text,
-    asked: Option<u32>,
-) -> Answer
-    requires ready { IsReady members.old.net.state members.old.net.replicas members.old.net.bag }
-    ensures bootstrapped { IsBootstrapAnswer D.state members.old name asked result members.new }
-    ensures ready { IsReady members.new.net.state members.new.net.replicas members.new.net.bag }
-    ensures past { members.new.past.items ≡ members.old.past.items }
-    ensures same_slots { HaveSameSlots members.old.net.replicas members.new.net.replicas }
-{
-    let instances = members.net.state.place.instances.as_slice();
-    let Some(node) = node_named(instances, name.as_str()) else {
-        return Answer::Unknown { name };
-    };
-    let shards = members.net.state.place.shards.len();
-    if let Some(shard) = missing_shard(asked, shards) {
-        return unknown_shard(alloc, shard);
-    }
-    if members.stopped[node] {
-        return Answer::State { node: name };
-    }
-    if !members.net.replicas.has_room(2 * shards as u64) {
-        return Answer::Full;
-    }
-    let Ok(placement) = members.net.state.place.copy(alloc) else {
-        return Answer::Memory;
-    };
-    match begin_all(
-        &mut members.net.replicas,
-        &members.net.state.place,
-        node as u8,
-        asked,
-    ) {
-        Ok(()) => Answer::Available {
-            available: Seq::new(alloc),
-            version: placement.version,
-            placement,
-        },
-        Err(refused) => refused.answer(name),
-    }
 }

@@ -1,13 +1,12 @@
 //! What befalls the nodes of a cluster that stands, and the messages to them: each call adds its events to the list of the run.
 #![tactic(auto)]
 
-mod begins;
 pub mod boots;
 mod halts;
 pub mod nodes;
 mod refused;
 
-pub use boots::{bootstrap, missing_shard, restart, unknown_shard};
+pub use boots::{missing_shard, restart, unknown_shard};
 pub use cluster_members::Members;
 pub use nodes::{deliver, node_named, set_fates, stop};
 

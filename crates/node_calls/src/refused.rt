@@ -1,10 +1,10 @@
-//! Replicas that refuse, and what is answered then.
+//! Replicas that refuse a restart, and what is answered then.
 ghost use Rattle.std.specs.Prelude.{◌≡◌};
 ghost use Rattle.node_calls.specs.Boots.{refused_answer};
 
 use m3_model::{Answer, Reason, Text};
 
-// A shard of a node whose replica refused, and why.
+// A shard of a node whose replica refused its restart, and why.
 #[derive(Drop)]
 pub(crate) struct Refused {
     pub(crate) shard: u32,
@@ -19,11 +19,6 @@ impl Refused {
         let Refused { shard, why } = self;
         match why {
             Reason::Disk => Answer::Disk { node, shard },
-            Reason::Corrupt(damage) => Answer::Corrupt {
-                node,
-                shard,
-                damage,
-            },
             _ => Answer::Memory,
         }
     }

@@ -1,6 +1,6 @@
 use Rattle.std.proofs.Common.{refl}
 use Rattle.node_calls.proofs.session_net_proofs.ReadyLemmas.{may_call}
-use Rattle.cluster_joins.proofs.BootLemmas.{err_still, joined_few, joining_done, not_all, ok_booting, ok_left, ok_state, ok_still}
+use Rattle.cluster_joins.proofs.BootLemmas.{err_ready, err_still, joined_few, joining_done, not_all, ok_booting, ok_left, ok_past, ok_ready, ok_state, ok_still}
 use Rattle.cluster_joins.proofs.boots.open_running.Goals as goal
 
 pub open_all-requires-clause-placed : goal.open_all-requires-clause-placed
@@ -27,6 +27,16 @@ returns-in-Ok-clause-state g c =
     ok_state g.D.Disk.state c.args.members.now c.args.name c.args.asked c.args.node c.requires.runs c.requires.ready _ c.in-Ok.joined c.in-Ok.ensures.tried c.to_mark.new.members c.open_all.ensures.unowned
     (record { keeps = record { state = refl; fates = refl; bag = refl; slots = refl; past = refl }; stopped = refl }) c.requires.serves c.to_mark.result c.to_mark.ensures
 
+pub returns-in-Ok-clause-past : goal.returns-in-Ok-clause-past
+returns-in-Ok-clause-past g c =
+    ok_past g.D.Disk.state c.args.members.now c.args.name c.args.asked c.args.node c.requires.runs c.requires.ready _ c.in-Ok.joined c.in-Ok.ensures.tried c.to_mark.new.members c.open_all.ensures.unowned
+    (record { keeps = record { state = refl; fates = refl; bag = refl; slots = refl; past = refl }; stopped = refl }) c.requires.serves c.to_mark.result c.to_mark.ensures
+
+pub returns-in-Ok-clause-ready : goal.returns-in-Ok-clause-ready
+returns-in-Ok-clause-ready g c =
+    ok_ready g.D.Disk.state c.args.members.now c.args.name c.args.asked c.args.node c.requires.runs c.requires.ready _ c.in-Ok.joined c.in-Ok.ensures.tried c.to_mark.new.members c.open_all.ensures.unowned
+    (record { keeps = record { state = refl; fates = refl; bag = refl; slots = refl; past = refl }; stopped = refl }) c.requires.serves c.to_mark.result c.to_mark.ensures
+
 pub returns-in-Ok-clause-still : goal.returns-in-Ok-clause-still
 returns-in-Ok-clause-still g c =
     ok_still g.D.Disk.state c.args.members.now c.args.name c.args.asked c.args.node c.requires.runs c.requires.ready _ c.in-Ok.joined c.in-Ok.ensures.tried c.to_mark.new.members c.open_all.ensures.unowned
@@ -36,6 +46,9 @@ pub returns-in-Err-clause-booting : goal.returns-in-Err-clause-booting
 returns-in-Err-clause-booting g c =
     not_all g.D.Disk.state c.args.members.now c.args.name c.args.asked c.args.node c.requires.runs c.requires.ready _ (record { keeps = record { state = refl; fates = refl; bag = refl; slots = refl; past = refl }; stopped = refl }) c.open_all.ensures.unowned c.in-Err.why
     c.in-Err.ensures.tried c.ended.result c.ended.ensures
+
+pub returns-in-Err-clause-ready : goal.returns-in-Err-clause-ready
+returns-in-Err-clause-ready g c = err_ready g.D.Disk.state c.args.members.now c.args.name c.args.asked c.args.node c.requires.runs c.requires.ready c.open_all.new.replicas c.in-Err.why c.in-Err.ensures.tried
 
 pub returns-in-Err-clause-still : goal.returns-in-Err-clause-still
 returns-in-Err-clause-still g c held may =

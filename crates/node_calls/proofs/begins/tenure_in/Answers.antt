@@ -1,9 +1,0 @@
-use Rattle.std.proofs.Common.{sym}
-use Rattle.node_calls.proofs.BeginLemmas.{tenure_here, tenure_more}
-use Rattle.node_calls.proofs.begins.tenure_in.Goals as goal
-
-pub returns-then-assignment-node : goal.returns-then-assignment-node
-returns-then-assignment-node c = sym (tenure_here c.args.node c.args.shard.now c.loop-assignment.assignment-index _ c.loop-assignment-test.true c.loop-assignment.invariant c.if-assignment-node.true)
-
-pub loop-assignment-preserved : goal.loop-assignment-preserved
-loop-assignment-preserved c = tenure_more c.args.node c.args.shard.now c.loop-assignment.assignment-index _ c.loop-assignment-test.true c.loop-assignment.invariant c.if-assignment-node.false
