@@ -13,10 +13,10 @@ use Rattle.cluster_core.specs.declared.event.Event.TheVariants as event
 use Rattle.cluster_core.specs.declared.event.StepCall.{StepCall}
 use Rattle.cluster_core.specs.declared.event.StepReply.{StepReply}
 use Rattle.cluster_core.proofs.ExtendLemmas.{any_more}
-use Rattle.cluster_core.proofs.ListLemmas.{any_at, at_any, at_within, in_at}
-use Rattle.call_lines.specs.told_by.Hears.{HasReplica, InStretch, IsNamedBy, Happens}
+use Rattle.cluster_core.proofs.ListLemmas.{any_at, at_any}
+use Rattle.call_lines.specs.told_by.Hears.{HasReplica, IsNamedBy}
 use Rattle.call_lines.proofs.told_by_proofs.LineLemmas.{at_front}
-use Rattle.call_lines.proofs.told_by_proofs.OneLemmas.{among_back, at_back, back_at}
+use Rattle.call_lines.proofs.told_by_proofs.OneLemmas.{among_back, at_back}
 use Rattle.act_lines.specs.Stays.{HaveNoPlace, IsNoPlace}
 
 -- ---- lists
@@ -24,14 +24,6 @@ use Rattle.act_lines.specs.Stays.{HaveNoPlace, IsNoPlace}
 pub take_behind : {X : Type 0} (xs ys : List X) (j : ℕ) → take (length xs + j) (xs ++ ys) ≡ xs ++ take j ys
 take_behind [] ys j = let same : 0 + j ≡ j = omega arith in ap (λ n. take n ys) same
 take_behind (x ∷ xs) ys j = let same : suc (length xs) + j ≡ suc (length xs + j) = omega arith in ap (λ n. take n (x ∷ (xs ++ ys))) same ∙ ap (λ zs. x ∷ zs) (take_behind xs ys j)
-
--- an event that came happens in the stretch of what came
-pub happens_in : (events more : List Event) (e : Event) → IsIn more e → Happens (InStretch (events ++ more) (length events) (length (events ++ more))) e
-happens_in events more e m =
-    let at = in_at more e m in
-    let there = back_at events more at.0 e at.1 in
-    let low : length events ≤ length events + at.0 = omega arith in
-    (length events + at.0, (low, at_within (events ++ more) (length events + at.0) e there, there))
 
 -- ---- the placement
 
@@ -76,17 +68,27 @@ gives_no n s tenure (event.Ack send nodes) none h = h
 gives_no n s tenure (event.FetchStart version shard rules pick from to) none h = h
 gives_no n s tenure (event.FetchDone start nodes series) none h = h
 
--- a slot that has a replica had one, or a step of it came
-pub replica_before : (events more : List Event) → HaveNoPlace more → (n s : ℕ) → HasReplica (events ++ more) n s → HasReplica events n s ⊎ ((c : StepCall) × (a : StepReply) × IsIn more (event.Step n s c a))
-replica_before events more none n s (inl given) =
+-- a slot that has a replica had one, or an event that came gave it to a node, or a step of it came
+pub replica_parts : (events more : List Event) (n s : ℕ) → HasReplica (events ++ more) n s → HasReplica events n s ⊎ (((tenure : ℕ) × (e : Event) × IsIn more e × GivesTenure n s tenure e) ⊎ ((c : StepCall) × (a : StepReply) × IsIn more (event.Step n s c a)))
+replica_parts events more n s (inl given) =
     let at = any_at (GivesTenure n s given.0) (events ++ more) given.1 in
-    elim (cases_lt at.0 (length events)) as (λ _. HasReplica events n s ⊎ ((c : StepCall) × (a : StepReply) × IsIn more (event.Step n s c a))) [
+    elim (cases_lt at.0 (length events)) as (λ _. HasReplica events n s ⊎ (((tenure : ℕ) × (e : Event) × IsIn more e × GivesTenure n s tenure e) ⊎ ((c : StepCall) × (a : StepReply) × IsIn more (event.Step n s c a)))) [
       | inl lt ↦ inl (inl (given.0, at_any (GivesTenure n s given.0) events at.0 at.1 (at_front events more at.0 at.1 at.2 lt) at.3))
-      | inr ge ↦ absurd (gives_no n s given.0 at.1 (none at.1 (among_back events more at.0 at.1 at.2 ge)) at.3)
+      | inr ge ↦ inr (inl (given.0, at.1, among_back events more at.0 at.1 at.2 ge, at.3))
     ]
-replica_before events more none n s (inr stepped) =
+replica_parts events more n s (inr stepped) =
     let e = event.Step n s stepped.1 stepped.2 in
-    elim (cases_lt stepped.0 (length events)) as (λ _. HasReplica events n s ⊎ ((c : StepCall) × (a : StepReply) × IsIn more (event.Step n s c a))) [
+    elim (cases_lt stepped.0 (length events)) as (λ _. HasReplica events n s ⊎ (((tenure : ℕ) × (e : Event) × IsIn more e × GivesTenure n s tenure e) ⊎ ((c : StepCall) × (a : StepReply) × IsIn more (event.Step n s c a)))) [
       | inl lt ↦ inl (inr (stepped.0, stepped.1, stepped.2, at_front events more stepped.0 e stepped.3 lt))
-      | inr ge ↦ inr (stepped.1, stepped.2, among_back events more stepped.0 e stepped.3 ge)
+      | inr ge ↦ inr (inr (stepped.1, stepped.2, among_back events more stepped.0 e stepped.3 ge))
     ]
+
+-- where no Place came, it had one, or a step of it came
+pub replica_before : (events more : List Event) → HaveNoPlace more → (n s : ℕ) → HasReplica (events ++ more) n s → HasReplica events n s ⊎ ((c : StepCall) × (a : StepReply) × IsIn more (event.Step n s c a))
+replica_before events more none n s has = elim (replica_parts events more n s has) as (λ _. HasReplica events n s ⊎ ((c : StepCall) × (a : StepReply) × IsIn more (event.Step n s c a))) [
+  | inl before ↦ inl before
+  | inr came ↦ elim came as (λ _. HasReplica events n s ⊎ ((c : StepCall) × (a : StepReply) × IsIn more (event.Step n s c a))) [
+    | inl given ↦ absurd (gives_no n s given.0 given.1 (none given.1 given.2) given.3)
+    | inr stepped ↦ inr stepped
+  ]
+]

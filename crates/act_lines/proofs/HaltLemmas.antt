@@ -28,7 +28,7 @@ use Rattle.cluster_core.specs.declared.event.StepCall.{StepCall}
 use Rattle.cluster_core.specs.declared.event.StepCall.TheVariants as call
 use Rattle.cluster_core.specs.declared.event.StepReply.{StepReply}
 use Rattle.cluster_core.specs.declared.event.StepReply.TheVariants as reply
-use Rattle.cluster_core.proofs.ListLemmas.{at_in, at_within, in_at}
+use Rattle.cluster_core.proofs.ListLemmas.{at_in, in_at}
 use Rattle.node_calls.specs.replica_exchange.Exchanges.{ask_of}
 use Rattle.node_calls.specs.replica_exchange.declared.slot.Slot.{Slot}
 use Rattle.node_calls.specs.session_net.Messages.{exchange}
@@ -42,15 +42,15 @@ use Rattle.call_lines.specs.told_by.Makes.{EndsRestart, IsNamedLast, MayAsk, May
 use Rattle.call_lines.specs.told_by.Openings.{sets_seed}
 use Rattle.call_lines.specs.told_by.Spans.{From}
 use Rattle.call_lines.specs.told_by.Writes.{IsUnmetWrite}
-use Rattle.call_lines.proofs.told_by_proofs.LeaveLemmas.{place_there}
 use Rattle.call_lines.proofs.told_by_proofs.OneLemmas.{among_back, at_back, back_at}
 use Rattle.call_lines.specs.told_runs.Answers.{HearsOf, IsOfKind}
 use Rattle.transcripts.specs.Deliveries.{delivers_nothing}
 use Rattle.transcripts.specs.Fates.{is_stopped, stopped_by}
 use Rattle.transcripts.specs.Record.{TurnPosition, inner_turns, line_of}
 use Rattle.call_lines.specs.Keeps.{SetsNothing}
-use Rattle.call_lines.specs.Laws.{IsCalm, LeavesLine}
+use Rattle.call_lines.specs.Laws.{IsCalm, IsCalmCall, LeavesLine}
 use Rattle.call_lines.specs.Left.{AreStoppedBy, NetIsLeftBy}
+use Rattle.call_lines.proofs.DeliverLemmas.{in_stretch, some_place}
 use Rattle.call_lines.proofs.KeepLemmas.{left_as_before}
 use Rattle.call_lines.proofs.ServeLemmas.{answered, delivered_so, serves_so}
 use Rattle.node_calls.specs.cluster_members.declared.members.Members.{Members}
@@ -62,7 +62,7 @@ use Rattle.node_calls.proofs.RunLemmas.{quiet_exchange, quiet_flat, ready_still,
 use Rattle.act_lines.specs.Quiet.{KeepsStops}
 use Rattle.act_lines.specs.Stands.{ClusterStands, IsUnnamed, KnowsNodes}
 use Rattle.act_lines.specs.Stays.{HaveNoPlace, IsNoPlace}
-use Rattle.act_lines.proofs.GrowLemmas.{given_before, happens_in, last_before}
+use Rattle.act_lines.proofs.GrowLemmas.{given_before, last_before}
 use Rattle.act_lines.proofs.KnownLemmas.{known_by, restart_stays, stop_stays}
 use Rattle.act_lines.proofs.StandLemmas.{flags_stay, stands_on}
 use Rattle.act_lines.specs.Nodes.{LeavesStanding, RestartFailedTells, RestartWantedTells, RestartedTells, StoppedTells}
@@ -81,6 +81,10 @@ pub record IsHaltOf (Kind : StepCall → Type 0) (slots : List Slot) (e : Event)
 -- a stop or a restart
 abbrev pub IsHaltCall : StepCall → Type 0
 IsHaltCall c = (c ≡ call.Stop) ⊎ (c ≡ call.Restart)
+
+halt_call_calm : (c : StepCall) → IsHaltCall c → IsCalmCall c
+halt_call_calm c (inl stop) = subst IsCalmCall (sym stop) tt
+halt_call_calm c (inr restart) = subst IsCalmCall (sym restart) tt
 
 module _ (Kind : StepCall → Type 0) where
   pub exchange_halts : (slots : List Slot) (s : Slot) → IsIn slots s → (c : StepCall) → Kind c → (r : StepReply) (e : Event) → IsIn (exchange s.node s.shard c r) e → IsHaltOf Kind slots e
@@ -111,16 +115,11 @@ module _ (Kind : StepCall → Type 0) where
   pub halt_no_place : (slots : List Slot) (e : Event) → IsHaltOf Kind slots e → IsNoPlace e
   halt_no_place slots e h = elim h.is as (λ _. IsNoPlace e) [ inl is ↦ subst IsNoPlace (sym is) tt | inr is ↦ subst IsNoPlace (sym is.1) tt ]
 
-  halt_calm : ((c : StepCall) → Kind c → IsHaltCall c) → (slots : List Slot) (e : Event) → IsHaltOf Kind slots e → IsCalm e
-  halt_calm of_kind slots e h =
-      let s = h.slot in
-      elim h.is as (λ _. IsCalm e) [
-        | inl is ↦ subst IsCalm (sym is) tt
-        | inr is ↦ subst IsCalm (sym is.1) (elim (of_kind h.c h.kind) as (λ _. IsCalm (event.Step s.node s.shard h.c is.0)) [
-          | inl stop ↦ subst (λ c. IsCalm (event.Step s.node s.shard c is.0)) (sym stop) tt
-          | inr restart ↦ subst (λ c. IsCalm (event.Step s.node s.shard c is.0)) (sym restart) tt
-        ])
-      ]
+  pub halt_calm : ((c : StepCall) → Kind c → IsCalmCall c) → (slots : List Slot) (e : Event) → IsHaltOf Kind slots e → IsCalm e
+  halt_calm of_kind slots e h = elim h.is as (λ _. IsCalm e) [ inl is ↦ subst IsCalm (sym is) tt | inr is ↦ subst IsCalm (sym is.1) (of_kind h.c h.kind) ]
+
+  pub halt_changes : (slots : List Slot) (p : TurnPosition) (past : List Event) (e : Event) → IsHaltOf Kind slots e → MayChange p past e
+  halt_changes slots p past e h = elim h.is as (λ _. MayChange p past e) [ inl is ↦ subst (MayChange p past) (sym is) tt | inr is ↦ subst (MayChange p past) (sym is.1) tt ]
 
   pub halt_step : (slots : List Slot) (n s : ℕ) (c : StepCall) (r : StepReply) → IsHaltOf Kind slots (event.Step n s c r) → IsIn slots (slot_at n s)
   halt_step slots n s c r h = by h.slot h.among h.c h.is
@@ -185,18 +184,12 @@ module _ {D : Type 0} {G : Ghosts D} (state : D → DiskState) (start : Option M
         | inr is ↦ subst (MayMake start (take i whole) p) (sym is.1) (each.0 is.0 may)
       ]
 
-  asks_or_steps : (past : List Event) (e : Event) → IsHaltOf Kind own_slots e → MayChange p past e
-  asks_or_steps past e h = elim h.is as (λ _. MayChange p past e) [ inl is ↦ subst (MayChange p past) (sym is) tt | inr is ↦ subst (MayChange p past) (sym is.1) tt ]
-
-  some_events : 0 < length events
-  some_events = let there = place_there events old.net.state.place stands.ready.place in let low = at_within events there.0 (event.Place old.net.state.place there.1) there.2 in omega (arith, low)
-
   pub line : HearsBy start events (InStretch whole (length events) (length whole)) p a b → ((i k s : ℕ) (r : StepReply) → length events ≤ i → At whole i (event.Step k s call.Restart r) → EndsRestart (From (length events)) whole (λ _. p) p i k s) → PlainLine start turns events a b more
   line hears restarts = record {
     makes = record { makes = λ i e le two at. makes i e le at; restarts = λ i k s r le two at. restarts i k s r le at; hears = hears };
     plain = answers.plain;
-    opened = inl some_events;
-    adds = λ i e at. asks_or_steps (events ++ take i more) e (halts e (at_in more i e at));
+    opened = inl (some_place events old.net.state.place stands.ready.place);
+    adds = λ i e at. halt_changes Kind own_slots p (events ++ take i more) e (halts e (at_in more i e at));
     prints = record {
       is_place = λ place e. absurd (let bad : None ≡ Some place = sym answers.sets.place ∙ e in cc);
       not_earlier = λ q at was is e f. absurd (let bad : None ≡ Some is = sym answers.sets.place ∙ f in cc);
@@ -205,7 +198,7 @@ module _ {D : Type 0} {G : Ghosts D} (state : D → DiskState) (start : Option M
   }
 
   calm : (e : Event) → IsIn more e → IsCalm e
-  calm e m = halt_calm Kind of_kind own_slots e (halts e m)
+  calm e m = halt_calm Kind (λ c kind. halt_call_calm c (of_kind c kind)) own_slots e (halts e m)
 
   pub leaves : PlainLine start turns events a b more → length more ≤ MOST_REQUEST_EVENTS → HearsOf start (InStretch whole (length events) (length whole)) p [] b → (b ≡ answer.Memory) ⊎ IsOfKind [] start p a b → LeavesLine PlainLine start turns [] old.net a b new.net
   leaves line few heard kind = record {
@@ -282,7 +275,7 @@ stopped_tells {D} {G} state old start turns new name stands h =
     record {
       line = leaves state start turns old new stands name false n a answer.Done (stop_answer name) IsStop (λ c k. inl k) more h.stopped halts asks h.keeps
           (line state start turns old new stands name false n a answer.Done (stop_answer name) IsStop (λ c k. inl k) more h.stopped halts asks h.keeps
-          (λ k s slot. happens_in events more (event.Step k s call.Stop reply.Done) (flat_map-IsIn stop_at slots (slot_at k s) (event.Step k s call.Stop reply.Done) (slot_here start turns old stands name false n k s slot.named slot.has) (inr (inl refl))))
+          (λ k s slot. in_stretch events more (event.Step k s call.Stop reply.Done) (flat_map-IsIn stop_at slots (slot_at k s) (event.Step k s call.Stop reply.Done) (slot_here start turns old stands name false n k s slot.named slot.has) (inr (inl refl))))
           (λ i k s r le at. inl refl))
           (let long = flat_long stop_at (λ s. refl) slots in let few = few_own old n.node in omega (arith, long, few)) tt (inr tt);
       stands = stands_so state start turns old new stands name false n a answer.Done (stop_answer name) IsStop (λ c k. inl k) more h.stopped halts asks h.keeps (stops_quiet slots)
@@ -320,7 +313,7 @@ restarted_tells {D} {G} state old start turns new name pick stands h =
     record {
       line = leaves state start turns old new stands name true n a answer.Done (restart_answer name pick) IsRestart (λ c k. inr k) more h.restarted halts asks h.keeps
           (line state start turns old new stands name true n a answer.Done (restart_answer name pick) IsRestart (λ c k. inr k) more h.restarted halts asks h.keeps
-          (λ k s slot. happens_in events more (event.Step k s call.Restart reply.Done) (flat_map-IsIn restart_at slots (slot_at k s) (event.Step k s call.Restart reply.Done) (slot_here start turns old stands name true n k s slot.named slot.has) (inr (inl refl))))
+          (λ k s slot. in_stretch events more (event.Step k s call.Restart reply.Done) (flat_map-IsIn restart_at slots (slot_at k s) (event.Step k s call.Restart reply.Done) (slot_here start turns old stands name true n k s slot.named slot.has) (inr (inl refl))))
           (λ i k s r le at. inl refl))
           (let long = flat_long restart_at (λ s. refl) slots in let few = few_own old n.node in omega (arith, long, few)) tt (inr tt);
       stands = stands_so state start turns old new stands name true n a answer.Done (restart_answer name pick) IsRestart (λ c k. inr k) more h.restarted halts asks h.keeps (restarts_quiet slots)
@@ -397,7 +390,7 @@ module _ {D : Type 0} {G : Ghosts D} (state : D → DiskState) (start : Option M
       let own : s.node ≡ h.was.node = of_node h.was.node old.slots.items s (subst (λ xs. IsIn xs s) (sym h.refused.parts) (IsIn-append_right h.refused.before (s ∷ h.refused.later) s (inl refl))) in
       let last : List Event = exchange s.node s.shard call.Restart (reply.Refused why) in
       let among : IsIn h.tried step = subst (λ es. IsIn es step) (sym h.refused.are) (IsIn-append_right (flat_map restart_at h.refused.before) last step (inr (inl refl))) in
-      let here = happens_in old.net.replicas.events came step (IsIn-append_left h.tried stops step among) in
+      let here = in_stretch old.net.replicas.events came step (IsIn-append_left h.tried stops step among) in
       record {
         node = s.node;
         of_node = subst (λ k. IsNamedLast old.net.replicas.events k name) (sym own) (named_last start turns old stands name true h.was old.net.replicas.events stands.ready.place);

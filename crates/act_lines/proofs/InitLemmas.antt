@@ -43,22 +43,24 @@ use Rattle.first_cluster.proofs.BareLemmas.{first_begins_bare}
 use Rattle.first_cluster.proofs.BeginLemmas.{begins_long}
 use Rattle.first_cluster.proofs.FirstLemmas.{quiet_begins}
 use Rattle.first_cluster.proofs.PlacedSlots.{few_starts}
-use Rattle.call_lines.specs.told_by.Hears.{HearsOpened, InStretch}
-use Rattle.call_lines.specs.told_by.Lines.{AreSteps, InitLine, IsAskOrStep, position_after}
+use Rattle.call_lines.specs.told_by.Hears.{HearsBy, HearsOpened, InStretch}
+use Rattle.call_lines.specs.told_by.Lines.{AreSteps, InitLine, IsAskOrStep, IsPlain, PlainLine, position_after}
 use Rattle.call_lines.specs.told_by.Makes.{IsAssigned, MayMake}
-use Rattle.call_lines.specs.told_runs.Answers.{IsAnswered, IsDecidedBy, IsOfKind}
+use Rattle.call_lines.specs.told_runs.Answers.{HearsOf, IsAnswered, IsDecidedBy, IsOfKind}
 use Rattle.call_lines.specs.told_runs.Bounds.{writes_taken}
 use Rattle.call_lines.specs.told_runs.Lines.{AddsInOrder, OpensNext, ServesOne}
 use Rattle.transcripts.specs.Caused.{acts_in, refusal_after}
 use Rattle.transcripts.specs.Deliveries.{LateMessage}
-use Rattle.transcripts.specs.Faults.{Fault}
+use Rattle.transcripts.specs.Faults.{AreDifferent, Fault, Taking}
 use Rattle.transcripts.specs.Fates.{OfNode, is_stopped}
-use Rattle.transcripts.specs.Placements.{placements}
+use Rattle.transcripts.specs.Placements.{placements, printed}
 use Rattle.transcripts.specs.Record.{Record, TurnPosition, inner_turns, line_of}
 use Rattle.transcripts.specs.Refusals.{refusal_by}
 use Rattle.transcripts.specs.Rules.{rules_at, start_rules}
 use Rattle.call_lines.specs.Left.{WereDelivered}
+use Rattle.call_lines.proofs.DeliverLemmas.{nothing_line}
 use Rattle.call_lines.proofs.ServeLemmas.{delivered_so}
+use Rattle.call_lines.proofs.told_by_proofs.LineLemmas.{nothing_at}
 use Rattle.act_lines.specs.Stands.{NoneStands}
 use Rattle.act_lines.proofs.StandLemmas.{no_placement, printed_none}
 use Rattle.act_lines.specs.Inits.{FirstTells, LeavesAnew}
@@ -86,6 +88,33 @@ pub decided : (turns : List Turn) (rf shards seed : ℕ) (nodes : List (List ℕ
 decided turns rf shards seed nodes b taking end none kind =
     let p = position_after turns (act.Init rf shards seed nodes) b in
     inr (inr (inner_turns turns, record { others = []; some_of = tt; are = sym (append-nil (inner_turns turns)) }, subst (IsDecidedBy taking None p) (sym (not_refused turns rf shards seed nodes b none)) kind))
+
+-- ---- an `init` that made no cluster
+
+module _ (tells : Bool) (untaken : List Fault) (turns : List Turn) (rf shards seed : ℕ) (nodes : List (List ℕ × List ℕ)) (b : Answer) where
+  abbrev own : TurnPosition
+  own = position_after turns (act.Init rf shards seed nodes) b
+
+  -- no events tell of it and serve it, where there is a cause for its answer, and these disks couldn't be taken
+  pub unmade_leaves : NoneStands turns → IsPlain (act.Init rf shards seed nodes) b → HearsBy None [] (InStretch [] 0 0) own (act.Init rf shards seed nodes) b → HearsOf None (InStretch [] 0 0) own [] b → printed b ≡ None
+      → ((available : List (ℕ × List ℕ)) (place : Placement) (version : ℕ) → b ≡ answer.Available available place version → ⊥) → IsOfKind untaken None own (act.Init rf shards seed nodes) b
+      → ((fault : Fault) → IsIn untaken fault → (fault.kind ≡ Taking) × (fault.line ≡ length turns)) → AreDifferent untaken → LeavesAnew PlainLine tells untaken turns (act.Init rf shards seed nodes) b []
+  unmade_leaves none plain hears delivers prints no_boot kind are different = record {
+    line = nothing_line None turns [] (act.Init rf shards seed nodes) b plain hears prints no_boot;
+    serves = λ was past were. record {
+      adds = record { lawful = λ i place done adds. absurd (nothing_at i _ adds.1); one = λ i place done adds. absurd (nothing_at i _ adds.1); ends = λ i n s r adds. absurd (nothing_at i _ adds.1) };
+      opens = λ is. record { fenced = λ i n s tenure fence points adds. absurd (nothing_at i _ adds.1); owned = λ i n s tenure adds. absurd (nothing_at i _ adds.1) };
+      answered = decided turns rf shards seed nodes b untaken 0 none kind;
+      delivers = delivers;
+      not_again = λ q at x y i j. absurd i;
+      untaken_are = are;
+      different = different;
+      bound = λ is. omega arith;
+    };
+    delivered = λ was were. delivered_so turns (act.Init rf shards seed nodes) b [] (λ x i. absurd i) was were;
+  }
+
+-- ---- an `init` that made one
 
 module _ {D : Type 0} {G : Ghosts D} (state : D → DiskState) (m : Members D G) (rf shards seed : ℕ) (nodes : List (List ℕ × List ℕ)) (old new : Depot D) (first : IsFirst state rf shards seed nodes old new m) (turns : List Turn) (none : NoneStands turns) where
   abbrev place : Placement

@@ -1,37 +1,27 @@
 -- A first cluster stands after the line of the `init` that made it.
-use Rattle.std.proofs.Common.{◌≡◌, ◌≢◌, ◌<◌, ◌+◌, ℕ, zero, suc, List, [], ◌∷◌, ◌++◌, length, replicate, refl, sym, ap, subst, ◌∙◌, inl, inr, arith, Bool, false}
-use Rattle.std.specs.Prelude.{Option, Some, None, slice_get, unwrap_or}
-use Rattle.std.specs.FinMap.{get, get-empty}
-use Rattle.std.proofs.lemmas.Grind.{fold-append}
+use Rattle.std.proofs.Common.{◌≡◌, ◌≢◌, ◌+◌, ℕ, zero, suc, List, [], ◌∷◌, ◌++◌, length, refl, sym, ap, subst, ◌∙◌, inl, inr, arith, Bool}
+use Rattle.std.specs.Prelude.{Option, Some, None, slice_get}
+use Rattle.std.specs.FinMap.{get}
 use Rattle.std.proofs.lemmas.Option.{same_Some, slice_get_within}
 use Rattle.m3_model.specs.Members.{IsIn}
 use Rattle.m3_model.proofs.MemberLemmas.{IsIn-filter_map}
 use Rattle.m3_model.specs.declared.act.Act.{Act}
 use Rattle.m3_model.specs.declared.act.Act.TheVariants as act
-use Rattle.m3_model.specs.declared.act.Fate.TheVariants as fate
 use Rattle.m3_model.specs.declared.answer.Answer.{Answer}
 use Rattle.m3_model.specs.declared.answer.Answer.TheVariants as answer
-use Rattle.m3_model.specs.declared.placement.Assignment.{Assignment}
-use Rattle.m3_model.specs.declared.placement.Instance.{Instance}
 use Rattle.m3_model.specs.declared.placement.Placement.{Placement}
-use Rattle.m3_model.specs.declared.turn.Reply.TheVariants as reply
-use Rattle.m3_model.specs.declared.turn.Request.TheVariants as request
 use Rattle.m3_model.specs.declared.turn.Turn.{Turn}
 use Rattle.m3_outside.specs.Depots.{Depot}
 use Rattle.m3_outside.specs.DiskState.{DiskState}
 use Rattle.m3_outside.specs.declared.disk.Disk.{Ghosts}
-use Rattle.net_plan.specs.FateKeys.{fate_key_cmp}
-use Rattle.net_plan.specs.Fates.{fate_of, fates_of}
-use Rattle.net_plan.specs.declared.fate_key.FateKey.{FateKey}
-use Rattle.placement_core.proofs.ListLemmas.{IsIn-from_Any}
-use Rattle.cluster_core.specs.Earlier.{GivesTenure, HasTenure}
+use Rattle.net_plan.specs.Fates.{fate_of}
 use Rattle.cluster_core.specs.Lists.{At}
 use Rattle.cluster_core.specs.declared.event.Event.{Event}
 use Rattle.cluster_core.specs.declared.event.Event.TheVariants as event
 use Rattle.cluster_core.specs.declared.event.StepCall.{StepCall}
 use Rattle.cluster_core.specs.declared.event.StepReply.{StepReply}
-use Rattle.cluster_core.proofs.ListLemmas.{any_at, at_in, at_same, in_at}
-use Rattle.call_lines.specs.told_by.Hears.{HasReplica, IsNamedBy}
+use Rattle.cluster_core.proofs.ListLemmas.{at_in, in_at}
+use Rattle.call_lines.specs.told_by.Hears.{HasReplica}
 use Rattle.node_calls.specs.replica_exchange.declared.member.Member.{Member}
 use Rattle.node_calls.specs.replica_exchange.declared.slot.Slot.{Slot}
 use Rattle.node_calls.specs.replica_calls.Calls.{first_member}
@@ -41,49 +31,29 @@ use Rattle.node_calls.specs.cluster_members.Kept.{IsKept}
 use Rattle.node_calls.specs.cluster_members.declared.members.Members.{Members}
 use Rattle.first_cluster.specs.Begins.{begins_of}
 use Rattle.first_cluster.specs.First.{IsFirst, opening_of}
-use Rattle.first_cluster.specs.Slots.{slots_of, start_at, starts_of}
+use Rattle.first_cluster.specs.Slots.{slots_of, starts_of}
 use Rattle.first_cluster.proofs.FirstLemmas.{first_ready}
-use Rattle.first_cluster.proofs.PlacedSlots.{from_start, node_low, slot_start, start_slot, tenure_given}
+use Rattle.first_cluster.proofs.PlacedSlots.{node_low, start_slot}
 use Rattle.first_cluster.proofs.SlotLists.{in_or_out}
 use Rattle.call_lines.proofs.told_by_proofs.RuleLemmas.{after_lines}
 use Rattle.call_lines.proofs.told_by_proofs.TurnLemmas.{inner-append}
-use Rattle.transcripts.specs.Fates.{Numbering, calls_in, client_acts, fate_in, fates_set, numbering_after, numbering_by}
-use Rattle.transcripts.specs.Placements.{later_placement, placement_after, placements, printed, seed_after, seed_by, start_placement}
+use Rattle.transcripts.specs.Fates.{fate_in, numbering_after}
+use Rattle.transcripts.specs.Placements.{later_placement, placement_after, placements, printed, seed_after, start_placement}
 use Rattle.transcripts.proofs.PlacementLemmas.{stood_known}
 use Rattle.transcripts.specs.Record.{InnerTurn, inner_turns, line_of}
 use Rattle.transcripts.specs.Rules.{rules_after, start_rules}
 use Rattle.call_lines.specs.Left.{AreStoppedBy, HoldsBack, NetIsLeftBy}
-use Rattle.call_lines.proofs.KeepLemmas.{numbering_next}
+use Rattle.call_lines.proofs.KeepLemmas.{newest_next, seed_next}
 use Rattle.act_lines.specs.Stands.{AreKept, HasSlots, NoneStands, ClusterStands}
 use Rattle.act_lines.proofs.CountLemmas.{count_first}
-use Rattle.act_lines.proofs.KnownLemmas.{known_first}
+use Rattle.act_lines.proofs.KnownLemmas.{fates_kept, known_first}
 use Rattle.act_lines.proofs.QuietLemmas.{stops_next}
 use Rattle.act_lines.proofs.StandLemmas.{known_or_printed, no_placement}
+use Rattle.act_lines.proofs.StartLemmas.{delivers_all, named_at, place_at, runs_at, slot_tenure, tenure_slot}
 use Rattle.act_lines.specs.Inits.{FirstStands}
 use Rattle.act_lines.proofs.BeginEvents.{of_begin, step_among}
 
 -- ---- a first cluster
-
--- the fates that the last turn leaves
-fates_by : (turns : List Turn) (a : Act) (b : Answer) → fates_set (request.One a) (reply.One b) ≡ None → (numbering_after 0 (turns ++ line_of a b ∷ [])).fates ≡ (numbering_after 0 turns).fates
-fates_by turns a b none =
-    ap (λ (n : Numbering). n.fates) (numbering_next None turns a b) ∙ ap (λ o. (numbering_by o (calls_in (client_acts 0 (request.One a))) (numbering_after 0 turns)).fates) none
-
-runs_at : (n node : ℕ) → node < n → slice_get (replicate n false) node ≡ Some false
-runs_at zero node low = absurd (omega (arith, low))
-runs_at (suc n) zero low = refl
-runs_at (suc n) (suc node) low = runs_at n node (omega (arith, low))
-
-delivers_all : (key : FateKey) → fate_of (fates_of []) key ≡ fate.Deliver
-delivers_all key = ap (λ o. unwrap_or o fate.Deliver) (get-empty fate_key_cmp key)
-
-none_stays : {D : Type 0} (state : D → DiskState) (steps : List Step) (old new : Option (Member D)) → old ≡ None → IsStepped state steps old new → new ≡ None
-none_stays state steps old new none h = subst (λ o. IsStepped state steps o new) none h
-
--- what an event positions, if it is a Place
-abbrev placed_in : Event → Option Placement
-placed_in (event.Place place done) = Some place
-placed_in _ = None
 
 module _ {D : Type 0} {G : Ghosts D} (state : D → DiskState) (m : Members D G) (rf shards seed : ℕ) (nodes : List (List ℕ × List ℕ)) (old new : Depot D) (first : IsFirst state rf shards seed nodes old new m) (turns : List Turn) (none : NoneStands turns) where
   abbrev place : Placement
@@ -102,15 +72,13 @@ module _ {D : Type 0} {G : Ghosts D} (state : D → DiskState) (m : Members D G)
   rules_so = after_lines (start_rules None) turns (line_of a b ∷ []) ∙ none.rules ∙ sym first.rules
 
   place_so : placement_after (start_placement None) (inner_turns longer) ≡ Some place
-  place_so =
-      ap (placement_after None) (inner-append turns (line_of a b ∷ [])) ∙ fold-append (λ p (turn : InnerTurn). later_placement (printed turn.answer) p) None (inner_turns turns) (inner_turns (line_of a b ∷ []))
-      ∙ ap (later_placement (Some place)) (no_placement turns none)
+  place_so = newest_next None turns a b ∙ ap (later_placement (Some place)) (no_placement turns none)
 
   seed_so : seed_after None (inner_turns longer) ≡ m.net.state.seed
-  seed_so = ap (seed_after None) (inner-append turns (line_of a b ∷ [])) ∙ fold-append (λ s (turn : InnerTurn). seed_by turn.act turn.answer s) (seed_after None []) (inner_turns turns) (inner_turns (line_of a b ∷ [])) ∙ sym first.seed_is
+  seed_so = seed_next None turns a b ∙ sym first.seed_is
 
   fates_so : (numbering_after 0 longer).fates ≡ []
-  fates_so = fates_by turns a b refl ∙ none.fates
+  fates_so = fates_kept turns a b refl ∙ none.fates
 
   left_so : NetIsLeftBy None longer m.net
   left_so = record {
@@ -135,7 +103,7 @@ module _ {D : Type 0} {G : Ghosts D} (state : D → DiskState) (m : Members D G)
   slots_out_so : (s : Slot) → get m.net.replicas.members s ≢ None → IsIn m.slots.items s
   slots_out_so s there = elim (in_or_out m.slots.items s) as (λ _. IsIn m.slots.items s) [
     | inl i ↦ i
-    | inr out ↦ absurd (there (none_stays state (steps_of s (begins_of first.opened.begun.said (starts_of place))) (get first.opened.made s) (get m.net.replicas.members s) (first.opened.taken.others s out).no_member (first.opened.begun.ran.stepped s)))
+    | inr out ↦ absurd (there (subst (λ (o : Option (Member D)). IsStepped state (steps_of s (begins_of first.opened.begun.said (starts_of place))) o (get m.net.replicas.members s)) (first.opened.taken.others s out).no_member (first.opened.begun.ran.stepped s)))
   ]
 
   slot_in : (s : Slot) → IsIn m.slots.items s → IsIn (slots_of place) s
@@ -158,19 +126,10 @@ module _ {D : Type 0} {G : Ghosts D} (state : D → DiskState) (m : Members D G)
   list_is : events ≡ list
   list_is = first.opened.begun.ran.grew
 
-  -- the only Place is the first event
-  one_place : (i : ℕ) (e : Event) (p : Placement) → At list i e → placed_in e ≡ Some p → p ≡ place
-  one_place zero e p at is = (let same : event.Place place [] ≡ e = same_Some (event.Place place []) e at in same_Some p place (sym is ∙ ap placed_in (sym same)))
-  one_place (suc zero) e p at is = (let same : event.Clock m.net.state.rules ≡ e = same_Some (event.Clock m.net.state.rules) e at in let clash : None ≡ Some p = ap placed_in same ∙ is in cc)
-  one_place (suc (suc i)) e p at is =
-      let h = of_begin first.opened.begun.said (starts_of place) e (at_in begins i e at) in
-      elim h.is as (λ _. p ≡ place) [
-        | inl ask ↦ (let clash : None ≡ Some p = ap placed_in ask ∙ is in cc)
-        | inr step ↦ (let clash : None ≡ Some p = ap placed_in step ∙ is in cc)
-      ]
-
-  place_at : (i : ℕ) (p : Placement) (done : List (ℕ × ℕ)) → At events i (event.Place p done) → p ≡ place
-  place_at i p done at = one_place i (event.Place p done) p (subst (λ es. At es i (event.Place p done)) list_is at) refl
+  no_place : (i : ℕ) (p : Placement) (done : List (ℕ × ℕ)) → At begins i (event.Place p done) → ⊥
+  no_place i p done at =
+      let h = of_begin first.opened.begun.said (starts_of place) (event.Place p done) (at_in begins i (event.Place p done) at) in
+      elim h.is as (λ _. ⊥) [ inl ask ↦ cc | inr step ↦ cc ]
 
   -- each step is of a slot
   one_step : (i n s : ℕ) (c : StepCall) (r : StepReply) → At list i (event.Step n s c r) → IsIn (slots_of place) (slot_at n s)
@@ -181,39 +140,19 @@ module _ {D : Type 0} {G : Ghosts D} (state : D → DiskState) (m : Members D G)
       let same : (h.start).slot ≡ slot_at n s = λ j. record { shard = h.shard_is j; node = h.node_is j } in
       subst (IsIn (slots_of place)) same (start_slot place h.start h.among)
 
-  -- a tenure that a Place gives is that of a slot
-  given_by : (n s tenure : ℕ) (i : ℕ) (e : Event) → At events i e → GivesTenure n s tenure e → IsIn (slots_of place) (slot_at n s)
-  given_by n s tenure i (event.Place p done) at gives =
-      let same = place_at i p done at in
-      let there : At place.shards s gives.0 = subst (λ (q : Placement). At q.shards s gives.0) same gives.1 in
-      let a = IsIn-from_Any (λ (x : Assignment). (x.node ≡ n) × (x.tenure ≡ tenure)) gives.0 gives.2 in
-      let start = from_start 0 place.shards s gives.0 a.0 there a.1 in
-      let zero_s : 0 + s ≡ s = omega arith in
-      subst (λ k. IsIn (slots_of place) (slot_at n k)) zero_s (subst (λ k. IsIn (slots_of place) (slot_at k (0 + s))) a.2.0 (start_slot place (start_at (0 + s) a.0) start))
-  given_by n s tenure i e at gives = absurd gives
-
   -- ---- slots
 
-  given : (s : Slot) → IsIn m.slots.items s → (tenure : ℕ) × HasTenure events s.node s.shard tenure
-  given s i =
-      let start = slot_start place s (slot_in s i) in
-      let has = tenure_given place [] (event.Clock m.net.state.rules ∷ begins) start.0 start.1 in
-      ((start.0).tenure, subst (λ es. HasTenure es s.node s.shard (start.0).tenure) (sym list_is) (subst (λ (q : Slot). HasTenure list q.node q.shard (start.0).tenure) start.2 has))
-
   all : (n s : ℕ) → HasReplica events n s → IsIn m.slots.items (slot_at n s)
-  all n s (inl has) = let e = any_at (GivesTenure n s has.0) events has.1 in in_slots (slot_at n s) (given_by n s has.0 e.0 e.1 e.2 e.3)
+  all n s (inl has) = in_slots (slot_at n s) (tenure_slot place m.net.state.rules begins events list_is no_place n s has.0 has.1)
   all n s (inr took) = in_slots (slot_at n s) (one_step took.0 n s took.1 took.2 (subst (λ es. At es took.0 (event.Step n s took.1 took.2)) list_is took.3))
 
   has_slots : HasSlots m
   has_slots = record {
     are = record { there = slots_in_so; all = slots_out_so };
-    given = given;
+    given = λ s i. slot_tenure place m.net.state.rules begins events list_is no_place s (slot_in s i);
     all = all;
     placed = λ s i. node_low place rf shards nodes first.place s (slot_in s i);
   }
-
-  named : (n : ℕ) (own : Instance) → slice_get place.instances n ≡ Some own → IsNamedBy events n own.name
-  named n own at i p done other there is = ap (λ (x : Instance). x.name) (at_same place.instances n other own (subst (λ (q : Placement). At q.instances n other) (place_at i p done there) is) at)
 
   -- the first placement alone is kept
   kept_so : AreKept None longer place m.past.items
@@ -244,10 +183,10 @@ module _ {D : Type 0} {G : Ghosts D} (state : D → DiskState) (m : Members D G)
     ready = first_ready state m.net.state m.slots.items old new m.net.replicas m.net.bag first.lawful first.slots first.bag first.opened;
     kept = kept_so;
     serves = λ q i. absurd (subst (λ xs. IsIn xs q) first.past i);
-    placed = λ p done i. let at = in_at m.net.replicas.events (event.Place p done) i in inl (place_at at.0 p done at.1);
+    placed = λ p done i. let at = in_at m.net.replicas.events (event.Place p done) i in inl (place_at place m.net.state.rules begins events list_is no_place at.0 p done at.1);
     known = known_first longer place m.net.fates first.fates fates_so (λ name. stops_next turns a b name ∙ none.runs name);
     slots = has_slots;
-    named = named;
+    named = named_at place m.net.state.rules begins events list_is no_place;
     stopped = stops_so;
   }
 

@@ -9,9 +9,10 @@ pub mod NothingLemmas
 pub mod SettingLemmas
 pub mod NodeStands
 pub mod HaltLemmas
-pub mod DamageLemmas
 pub mod OpenLemmas
 pub mod LeftLemmas
+pub mod NextLemmas
+pub mod StartLemmas
 pub mod BeginEvents
 pub mod InitLemmas
 pub mod InitStands

@@ -18,8 +18,6 @@ use Rattle.m3_model.specs.declared.turn.Turn.{Turn}
 use Rattle.m3_outside.specs.DiskState.{DiskState}
 use Rattle.m3_outside.specs.declared.disk.Disk.{Ghosts}
 use Rattle.cluster_core.specs.declared.event.Event.{Event}
-use Rattle.cluster_core.specs.declared.event.Event.TheVariants as event
-use Rattle.cluster_core.specs.declared.event.StepCall.TheVariants as call
 use Rattle.node_calls.specs.session_net.Writes.{most_added, shard_of_point}
 use Rattle.node_calls.specs.session_net.declared.net.Net.{Net}
 use Rattle.call_lines.specs.told_by.Hears.{HearsBy, InStretch}
@@ -36,7 +34,7 @@ use Rattle.transcripts.specs.Record.{TurnPosition, inner_turns}
 use Rattle.transcripts.specs.Rules.{rules_after, start_rules}
 use Rattle.call_lines.specs.placement_acts.Acts.{answer_if, is_known, is_step_act, versions_due}
 use Rattle.transcripts.specs.Refusals.{is_out_of_order, kept_versions, limit_reached, lowered_moment, missing_name, names_reached, refusal_by, wrong_state}
-use Rattle.call_lines.proofs.DeliverLemmas.{none_behind, nothing_at, nothing_tells, prints_none}
+use Rattle.call_lines.proofs.DeliverLemmas.{nothing_line, nothing_tells}
 use Rattle.call_lines.proofs.ServeLemmas.{delivered_so, few_members, may_lack, serves_so}
 use Rattle.call_lines.specs.Laws.{LeavesServed}
 use Rattle.act_lines.specs.Due.{IsDueNext}
@@ -237,18 +235,9 @@ hears_nothing start events Here p a _ h = absurd h
 -- ---- the line
 
 refused_line : (start : Option MetaState) (turns : List Turn) (events : List Event) (a : Act) (b : Answer) → IsRefusal b → PlainLine start turns events a b []
-refused_line start turns events a b h = record {
-  makes = record {
-    makes = λ i e le two at. absurd (none_behind events i e le at);
-    restarts = λ i n s r le two at. absurd (none_behind events i (event.Step n s call.Restart r) le at);
-    hears = hears_nothing start events (InStretch (events ++ []) (length events) (length (events ++ []))) (position_after turns a b) a b h;
-  };
-  plain = record { no_acks = gives_no_acks b h; not_unmet = not_unmet_so a b h; no_found = finds_nothing b h; no_rules = sets_none a b h; no_seed = seeds_none a b h };
-  opened = inr refl;
-  adds = λ i e at. absurd (nothing_at i e at);
-  prints = prints_none turns (events ++ []) b (prints_nothing b h);
-  ends = λ available boot x m. absurd (gives_no_boot b h available boot.place boot.version boot.answered);
-}
+refused_line start turns events a b h =
+    nothing_line start turns events a b (record { no_acks = gives_no_acks b h; not_unmet = not_unmet_so a b h; no_found = finds_nothing b h; no_rules = sets_none a b h; no_seed = seeds_none a b h })
+    (hears_nothing start events (InStretch (events ++ []) (length events) (length (events ++ []))) (position_after turns a b) a b h) (prints_nothing b h) (gives_no_boot b h)
 
 -- nothing came, the line is told, and its answer stands for itself
 served_nothing : (start : Option MetaState) (turns : List Turn) (events : List Event) (a : Act) (b : Answer) → PlainLine start turns events a b [] → ((Here : ℕ → Event → Type 0) → HearsOf start Here (position_after turns a b) [] b)

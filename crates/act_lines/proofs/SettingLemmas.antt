@@ -16,7 +16,6 @@ use Rattle.m3_model.specs.declared.turn.Request.TheVariants as request
 use Rattle.m3_model.specs.declared.turn.Turn.{Turn}
 use Rattle.m3_outside.specs.DiskState.{DiskState}
 use Rattle.m3_outside.specs.declared.disk.Disk.{Ghosts}
-use Rattle.cluster_core.specs.Earlier.{last_clock, last_place}
 use Rattle.cluster_core.specs.declared.event.Asked.TheVariants as asked
 use Rattle.cluster_core.specs.declared.event.Event.{Event}
 use Rattle.cluster_core.specs.declared.event.Event.TheVariants as event
@@ -40,7 +39,7 @@ use Rattle.transcripts.specs.Record.{inner_turns, line_of}
 use Rattle.transcripts.specs.Rules.{rules_after, rules_by, start_rules}
 use Rattle.call_lines.specs.Laws.{IsCalm, LeavesServed}
 use Rattle.call_lines.specs.Left.{AreSlots, FareAsSet, HoldsBack, NetIsLeftBy}
-use Rattle.call_lines.proofs.DeliverLemmas.{none_behind, nothing_at, prints_none}
+use Rattle.call_lines.proofs.DeliverLemmas.{long_list, nothing_line}
 use Rattle.call_lines.proofs.KeepLemmas.{holds_on, numbering_next, place_next, rules_next, seed_next}
 use Rattle.call_lines.proofs.ServeLemmas.{answered, delivered_so, serves_so}
 use Rattle.node_calls.specs.cluster_members.Steps.{SetsRules, clock_events}
@@ -55,13 +54,6 @@ use Rattle.act_lines.proofs.DueLemmas.{fates_are_due, moments_are_due, namespace
 use Rattle.act_lines.proofs.KnownLemmas.{known_kept, known_set}
 use Rattle.act_lines.proofs.NameLemmas.{numbered_fate}
 use Rattle.act_lines.proofs.StandLemmas.{flags_stay, stands_grown, stands_still}
-
--- a list that has a placement and a moment has two events
-two_events : (events : List Event) (place : Placement) (rules : Rules) → last_place events ≡ Some place → last_clock events ≡ Some rules → 2 ≤ length events
-two_events [] place rules p c = cc
-two_events (x ∷ y ∷ events) place rules p c = omega arith
-two_events (event.Place q done ∷ []) place rules p c = absurd (let bad : None ≡ Some rules = c in cc)
-two_events (_ ∷ []) place rules p c = absurd (let bad : None ≡ Some place = p in cc)
 
 -- ---- the rules
 
@@ -153,7 +145,7 @@ module _ {D : Type 0} {G : Ghosts D} (state : D → DiskState) (start : Option M
   ruled a rules set sets by asks hears free kind seed fates keeps =
       let leaves : rules_by a answer.Done (rules_after (start_rules start) (inner_turns turns)) ≡ rules = ap (rules_by a answer.Done) (stands.left).rules ∙ by in
       record {
-        line = clock_served start turns old.net.replicas.events a rules sets leaves (λ past. asks past rules leaves) hears (two_events old.net.replicas.events old.net.state.place old.net.state.rules stands.ready.place stands.ready.clock) new.net.replicas.events (set.ran).grew free kind;
+        line = clock_served start turns old.net.replicas.events a rules sets leaves (λ past. asks past rules leaves) hears (long_list old.net.replicas.events old.net.state.place old.net.state.rules stands.ready.place stands.ready.clock) new.net.replicas.events (set.ran).grew free kind;
         stands = stands_still state old start turns new a answer.Done stands (record {
           left = ruled_left state start turns old new a rules stands.left set by seed fates;
           ready = ready_ruled state old.net.state new.net.state old.net.replicas new.net.replicas new.net.bag rules (subst (IsReady old.net.state old.net.replicas) (sym set.bag) stands.ready) set.ran set.state_is;
@@ -184,18 +176,8 @@ moved_tells state old start turns now new stands moved =
 -- ---- the fates
 
 fates_line : (start : Option MetaState) (turns : List Turn) (events : List Event) (list : List (ℕ × ℕ × List ℕ × Fate)) → PlainLine start turns events (act.Fates list) answer.Done []
-fates_line start turns events list = record {
-  makes = record {
-    makes = λ i e le two at. absurd (none_behind events i e le at);
-    restarts = λ i n s r le two at. absurd (none_behind events i (event.Step n s call.Restart r) le at);
-    hears = tt;
-  };
-  plain = record { no_acks = λ nodes e. cc; not_unmet = λ u. u; no_found = refl; no_rules = refl; no_seed = refl };
-  opened = inr refl;
-  adds = λ i e at. absurd (nothing_at i e at);
-  prints = prints_none turns (events ++ []) answer.Done refl;
-  ends = λ available boot x m. let bad : answer.Done ≡ answer.Available available boot.place boot.version = boot.answered in cc;
-}
+fates_line start turns events list =
+    nothing_line start turns events (act.Fates list) answer.Done (record { no_acks = λ nodes e. cc; not_unmet = λ u. u; no_found = refl; no_rules = refl; no_seed = refl }) tt refl (λ available place version e. cc)
 
 pub fates_tell : {D : Type 0} {G : Ghosts D} (old : Members D G) → FatesTell old
 fates_tell {D} {G} old start turns list new stands set =

@@ -1,7 +1,8 @@
 -- A cluster that stands, one line on; and turns after which none stands.
-use Rattle.std.proofs.Common.{◌≡◌, ◌<◌, ℕ, List, [], ◌∷◌, ◌++◌, length, refl, sym, ap, ◌∙◌, subst, inl, inr}
-use Rattle.std.specs.Prelude.{◌⊎◌, Option, Some, None, slice_get}
+use Rattle.std.proofs.Common.{◌≡◌, ◌<◌, ℕ, suc, List, [], ◌∷◌, ◌++◌, length, refl, sym, ap, ◌∙◌, subst, inl, inr, arith, Bool, true, false}
+use Rattle.std.specs.Prelude.{◌⊎◌, Option, Some, None, slice_get, nat_lt, if◌then◌else◌}
 use Rattle.std.specs.List.{Any}
+use Rattle.std.proofs.lemmas.Bool.{leb-true}
 use Rattle.m3_model.specs.Members.{IsIn}
 use Rattle.m3_model.proofs.MemberLemmas.{IsIn-append_cases, IsIn-filter_map}
 use Rattle.m3_model.specs.declared.act.Act.{Act}
@@ -24,7 +25,7 @@ use Rattle.call_lines.specs.told_by.Hears.{HasReplica, IsNamedBy}
 use Rattle.call_lines.proofs.told_by_proofs.BrokenLemmas.{turn_among}
 use Rattle.call_lines.proofs.told_by_proofs.TurnLemmas.{inner-append}
 use Rattle.transcripts.specs.Fates.{stopped_by}
-use Rattle.transcripts.specs.Placements.{later_placement, placement_after, placements, printed}
+use Rattle.transcripts.specs.Placements.{later_placement, newer, placement_after, placements, printed}
 use Rattle.transcripts.proofs.PlacementLemmas.{known_more, known_printed}
 use Rattle.transcripts.specs.Record.{InnerTurn, IsTurnPosition, TurnPosition, inner_turns, line_of}
 use Rattle.call_lines.specs.Left.{AreSlots, AreStoppedBy, NetIsLeftBy}
@@ -68,7 +69,23 @@ stays_unmade turns a b none sets stays = record {
   runs = λ name. stops_next turns a b name ∙ ap (stopped_by name a b) (none.runs name) ∙ stays name;
 }
 
--- ---- placements that are kept
+-- ---- placements
+
+-- of a placement and the same one the newer is it
+pub newer_same : (place : Placement) → newer place (Some place) ≡ place
+newer_same place = by (nat_lt place.version place.version)
+  where
+    by : (t : Bool) → (if t then place else place) ≡ place
+    by true = refl
+    by false = refl
+
+-- of a placement and one of the next version the latter stands
+pub newer_next : (next place : Placement) → next.version ≡ suc place.version → newer next (Some place) ≡ next
+newer_next next place later = by (nat_lt next.version place.version) refl
+  where
+    by : (t : Bool) → nat_lt next.version place.version ≡ t → (if t then place else next) ≡ next
+    by false is = refl
+    by true is = absurd (let low = leb-true (suc next.version) place.version is in omega (arith, low, later))
 
 -- what is known after more turns was known before, or one of these printed it
 printed_or : (xs ys : List InnerTurn) (place : Placement) → IsIn (placements None (xs ++ ys)) place → IsIn (placements None xs) place ⊎ ((t : InnerTurn) × IsIn ys t × (printed t.answer ≡ Some place))

@@ -181,7 +181,7 @@ pub start_to : (x y : ℕ) {v v' s s' : ℕ} {rules rules' : Rules} {p q : Pick}
 start_to x y e = cc
 
 -- digests that are told differ
-damage_shown : (damage : Damage) → IsFileDamage damage → IsShown damage
+pub damage_shown : (damage : Damage) → IsFileDamage damage → IsShown damage
 damage_shown (wrong.Digest file kept found) is = is.1
 damage_shown (wrong.Form file at) is = tt
 

@@ -38,7 +38,7 @@ use Rattle.session_net.specs.Deliveries.{AreDelivered, known, late_put, outcome_
 use Rattle.session_net.specs.declared.net.Net.{Net}
 use Rattle.told_runs.specs.told_by.Clocks.{sets_rules}
 use Rattle.told_runs.specs.told_by.Hears.{Happens, HasStep, HearsBy, HearsLate, HearsOutcome, HearsOutcomes, InStretch, IsLatePut}
-use Rattle.told_runs.specs.told_by.Lines.{IsPlain, MayChange, PrintsPlace, position_after}
+use Rattle.told_runs.specs.told_by.Lines.{IsPlain, MayChange, PlainLine, PrintsPlace, position_after}
 use Rattle.told_runs.specs.told_by.Makes.{MayMake}
 use Rattle.told_runs.specs.told_by.Openings.{sets_seed}
 use Rattle.told_runs.specs.told_by.Writes.{IsUnmetWrite}
@@ -192,12 +192,13 @@ few_puts rules (one ∷ bag) (d ∷ deliveries) puts h =
 
 -- ---- positions in the list
 
-some_place : (events : List Event) (place : Placement) → last_place events ≡ Some place → 0 < length events
+-- a list with a placement has an event
+pub some_place : (events : List Event) (place : Placement) → last_place events ≡ Some place → 0 < length events
 some_place [] place e = cc
 some_place (x ∷ events) place e = omega arith
 
 -- a list with a placement and a moment has two events
-long_list : (events : List Event) (place : Placement) (rules : Rules) → last_place events ≡ Some place → last_clock events ≡ Some rules → 2 ≤ length events
+pub long_list : (events : List Event) (place : Placement) (rules : Rules) → last_place events ≡ Some place → last_clock events ≡ Some rules → 2 ≤ length events
 long_list [] place rules e f = cc
 long_list (x ∷ []) place rules e f = absurd (one x e f)
   where
@@ -207,7 +208,8 @@ long_list (x ∷ []) place rules e f = absurd (one x e f)
     one _ e f = cc
 long_list (x ∷ y ∷ events) place rules e f = omega arith
 
-in_stretch : (events more : List Event) (e : Event) → IsIn more e → Happens (InStretch (events ++ more) (length events) (length (events ++ more))) e
+-- an event that came happens in the stretch of what came
+pub in_stretch : (events more : List Event) (e : Event) → IsIn more e → Happens (InStretch (events ++ more) (length events) (length (events ++ more))) e
 in_stretch events more e m =
     let at = in_at more e m in
     let there = back_at events more at.0 e at.1 in
@@ -338,19 +340,26 @@ gives_no_boot answer.Memory h available place version e = cc
 gives_no_boot answer.Full h available place version e = cc
 gives_no_boot _ h available place version e = absurd h
 
-pub nothing_tells : NothingTells
-nothing_tells start turns events a b h = record {
+-- no events tell of a line whose answer hears of none, and prints nothing
+pub nothing_line : (start : Option MetaState) (turns : List Turn) (events : List Event) (a : Act) (b : Answer) → IsPlain a b → HearsBy start events (InStretch (events ++ []) (length events) (length (events ++ []))) (position_after turns a b) a b → printed b ≡ None
+    → ((available : List (ℕ × List ℕ)) (place : Placement) (version : ℕ) → b ≡ answer.Available available place version → ⊥) → PlainLine start turns events a b []
+nothing_line start turns events a b plain hears prints no_boot = record {
   makes = record {
     makes = λ i e le two at. absurd (none_behind events i e le at);
     restarts = λ i n s r le two at. absurd (none_behind events i (event.Step n s call.Restart r) le at);
-    hears = hears_nothing start events (InStretch (events ++ []) (length events) (length (events ++ []))) (position_after turns a b) a b h;
+    hears = hears;
   };
-  plain = record { no_acks = gives_no_acks b h; not_unmet = not_unmet_so a b h; no_found = finds_nothing b h; no_rules = sets_none a b h; no_seed = seeds_none a b h };
+  plain = plain;
   opened = inr refl;
   adds = λ i e at. absurd (nothing_at i e at);
-  prints = prints_none turns (events ++ []) b (prints_nothing b h);
-  ends = λ available boot x m. absurd (gives_no_boot b h available boot.place boot.version boot.answered);
+  prints = prints_none turns (events ++ []) b prints;
+  ends = λ available boot x m. absurd (no_boot available boot.place boot.version boot.answered);
 }
+
+pub nothing_tells : NothingTells
+nothing_tells start turns events a b h =
+    nothing_line start turns events a b (record { no_acks = gives_no_acks b h; not_unmet = not_unmet_so a b h; no_found = finds_nothing b h; no_rules = sets_none a b h; no_seed = seeds_none a b h })
+    (hears_nothing start events (InStretch (events ++ []) (length events) (length (events ++ []))) (position_after turns a b) a b h) (prints_nothing b h) (gives_no_boot b h)
 
 pub nothing_serves : NothingServes
 nothing_serves tells was past start turns events a were =

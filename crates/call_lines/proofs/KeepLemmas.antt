@@ -20,6 +20,8 @@ use Rattle.m3_model.specs.declared.rules.Rules.{Rules}
 use Rattle.m3_model.specs.declared.turn.Reply.TheVariants as reply
 use Rattle.m3_model.specs.declared.turn.Request.TheVariants as request
 use Rattle.m3_model.specs.declared.turn.Turn.{Turn}
+use Rattle.m3_model.proofs.Ascending.{Ascends-append, Ascends-weaken}
+use Rattle.m3_model.proofs.Lists.{IsIn-take}
 use Rattle.m3_model.proofs.MemberLemmas.{IsIn-append_cases, IsIn-map, map-IsIn}
 use Rattle.m3_outside.specs.declared.disk.Disk.{Ghosts}
 use Rattle.net_plan.specs.declared.late_write.LateWrite.{LateWrite}
@@ -36,6 +38,7 @@ use Rattle.told_runs.proofs.told_by_proofs.LineLemmas.{line_below, position_last
 use Rattle.told_runs.proofs.told_by_proofs.OneLemmas.{is_last}
 use Rattle.told_runs.proofs.told_by_proofs.RuleLemmas.{Grows, after_grows, after_lines, point_grows}
 use Rattle.told_runs.proofs.told_by_proofs.TurnLemmas.{inner-append}
+use Rattle.told_runs.proofs.MemberLemmas.{listed_member}
 use Rattle.told_runs.specs.transcripts.Calls.{call_of}
 use Rattle.told_runs.specs.transcripts.Deliveries.{IsLateBefore, LateMessage, delivers_nothing, shard_of_message}
 use Rattle.told_runs.specs.transcripts.Fates.{calls_in, client_acts, fates_set, fate_in, numbering_after, numbering_by}
@@ -46,7 +49,7 @@ use Rattle.told_runs.specs.transcripts.Rules.{rules_after, rules_by, start_rules
 use Rattle.call_lines.specs.Keeps.{FieldsStay, LeftAsBefore, LeftByDelivery, LeftByWrite, SetsNothing}
 use Rattle.call_lines.specs.Laws.{IsWrite}
 use Rattle.call_lines.specs.Left.{AreHeldBack, FareAsSet, HoldsBack, IsHeldBack, NetIsLeftBy}
-use Rattle.call_lines.proofs.MemberLemmas.{node_replica, node_within}
+use Rattle.call_lines.proofs.MemberLemmas.{node_within}
 use Rattle.call_lines.proofs.ServeLemmas.{held_one}
 use Rattle.call_lines.proofs.ShardLemmas.{node_there}
 use Rattle.call_lines.proofs.WriteLemmas.{fate_here, may_use, number_here}
@@ -70,10 +73,11 @@ module _ (start : Option MetaState) (turns : List Turn) (a : Act) (b : Answer) w
   pub rules_next : rules_after (start_rules start) (inner_turns longer) ≡ rules_by a b (rules_after (start_rules start) (inner_turns turns))
   rules_next = after_lines (start_rules start) turns (line_of a b ∷ [])
 
+  pub newest_next : placement_after (start_placement start) (inner_turns longer) ≡ later_placement (printed b) (placement_after (start_placement start) (inner_turns turns))
+  newest_next = ap (placement_after (start_placement start)) (inner-append turns (line_of a b ∷ [])) ∙ fold-append (λ p turn. later_placement (printed turn.answer) p) (start_placement start) (inner_turns turns) (inner_turns (line_of a b ∷ []))
+
   pub place_next : printed b ≡ None → placement_after (start_placement start) (inner_turns longer) ≡ placement_after (start_placement start) (inner_turns turns)
-  place_next none =
-      ap (placement_after (start_placement start)) (inner-append turns (line_of a b ∷ [])) ∙ fold-append (λ p turn. later_placement (printed turn.answer) p) (start_placement start) (inner_turns turns) (inner_turns (line_of a b ∷ []))
-      ∙ ap (λ o. later_placement o (placement_after (start_placement start) (inner_turns turns))) none
+  place_next none = newest_next ∙ ap (λ o. later_placement o (placement_after (start_placement start) (inner_turns turns))) none
 
   pub seed_next : seed_after start (inner_turns longer) ≡ seed_by a b (seed_after start (inner_turns turns))
   seed_next = ap (seed_after start) (inner-append turns (line_of a b ∷ [])) ∙ fold-append (λ seed turn. seed_by turn.act turn.answer seed) (seed_after start []) (inner_turns turns) (inner_turns (line_of a b ∷ []))
@@ -162,26 +166,10 @@ filled_with bag (late ∷ more) = by_room (nat_eq (length bag) 4096) refl (fille
     by_room true full rest = (0, full_stays bag (late ∷ more) full ∙ sym (append-nil bag))
     by_room false room rest = (suc rest.0, ap (λ t. filled (cond t bag (bag ++ late ∷ [])) more) room ∙ rest.1 ∙ append_assoc bag (late ∷ []) (take rest.0 more))
 
-take-IsIn : {X : Type 0} (k : ℕ) (xs : List X) (x : X) → IsIn (take k xs) x → IsIn xs x
-take-IsIn zero xs x i = absurd i
-take-IsIn (suc k) [] x i = absurd i
-take-IsIn (suc k) (y ∷ xs) x i = elim i as (λ _. (y ≡ x) ⊎ IsIn xs x) [ inl e ↦ inl e | inr r ↦ inr (take-IsIn k xs x r) ]
-
 ascends_take : {X : Type 0} (R : X → X → Type 0) (k : ℕ) (xs : List X) → Ascends R xs → Ascends R (take k xs)
 ascends_take R zero xs h = tt
 ascends_take R (suc k) [] h = tt
-ascends_take R (suc k) (x ∷ xs) h = (λ y i. h.0 y (take-IsIn k xs y i), ascends_take R k xs h.1)
-
-ascends_both : {X : Type 0} (R : X → X → Type 0) (xs ys : List X) → Ascends R xs → Ascends R ys → ((x y : X) → IsIn xs x → IsIn ys y → R x y) → Ascends R (xs ++ ys)
-ascends_both R [] ys up high across = high
-ascends_both R (x ∷ xs) ys up high across = (
-  λ y m. elim (IsIn-append_cases xs ys y m) as (λ _. R x y) [ inl l ↦ up.0 y l | inr r ↦ across x y (inl refl) r ],
-  ascends_both R xs ys up.1 high (λ z y i j. across z y (inr i) j),
-)
-
-ascends_on : {X : Type 0} (R S : X → X → Type 0) (xs : List X) → ((x y : X) → R x y → S x y) → Ascends R xs → Ascends S xs
-ascends_on R S [] f h = tt
-ascends_on R S (x ∷ xs) f h = (λ y m. f x y (h.0 y m), ascends_on R S xs f h.1)
+ascends_take R (suc k) (x ∷ xs) h = (λ y i. h.0 y (IsIn-take k xs y i), ascends_take R k xs h.1)
 
 held_append : (start : Option MetaState) (turns : List Turn) (messages more : List LateMessage) (bag lates : List LateWrite) → AreHeldBack start turns messages bag → AreHeldBack start turns more lates → AreHeldBack start turns (messages ++ more) (bag ++ lates)
 held_append start turns [] more [] lates h new = new
@@ -241,7 +229,7 @@ module _ {D : Type 0} {G : Ghosts D} (start : Option MetaState) (turns : List Tu
           call = record { id = Some w.name; version = w.version; needed = needed_write level };
           of_call = ap call_of w.act_is;
           may_use = may_use start turns old id w.left w.next a b;
-          member = subst (λ s. IsTrue (has_replica (Some place) s n)) to_shard (node_replica place shard n m);
+          member = subst (λ s. IsTrue (has_replica (Some place) s n)) to_shard (listed_member place shard n m);
           late = record { instance_ = own.0; stands = own.1; holds = sym (fate_here start turns old id w.left w.next a b n own.0 own.1) ∙ late_by (fate_to old.fates id n) late };
           not_yet = λ line i. elim (drop_on (suc (length turns)) turns (line_of a b) line i) as (λ _. IsTrue (delivers_nothing line)) [
             | inl none ↦ absurd (none_behind (suc (length turns)) turns (omega arith) line none)
@@ -270,15 +258,15 @@ module _ {D : Type 0} {G : Ghosts D} (start : Option MetaState) (turns : List Tu
       let ordered : Ascends (IsNamedBelow place) nodes = ascends-map (IsNamedBelow place) (λ (x : Assignment). x.node) (take k members) (ascends_take (λ (x y : Assignment). IsNamedBelow place x.node y.node) k members (are.by_name (w.ready).lawful)) in
       let members_in : (n : ℕ) → IsIn nodes n → IsIn (nodes_of (shard_at place shard)) n = λ n m.
       let x = IsIn-map (λ (y : Assignment). y.node) (take k members) n m in
-      node_within (shard_at place shard) members are.same n (subst (IsIn (nodes_of members)) x.2 (map-IsIn (λ (y : Assignment). y.node) members x.0 (take-IsIn k members x.0 x.1))) in
+      node_within (shard_at place shard) members are.same n (subst (IsIn (nodes_of members)) x.2 (map-IsIn (λ (y : Assignment). y.node) members x.0 (IsIn-take k members x.0 x.1))) in
       let new = all_held start on message_to late_one first (λ n i.
-      let j = take-IsIn some.0 late_nodes n i in
+      let j = IsIn-take some.0 late_nodes n i in
       new_held n (members_in n (IsIn-filter is_late_to nodes n j)) (chosen is_late_to nodes n j)) in
       let bag_is : bag_after old id point nodes ≡ old.bag ++ map late_one first = some.1 ∙ ap (λ xs. old.bag ++ xs) (take-map late_one some.0 late_nodes) in
       subst (HoldsBack start on) (sym bag_is) (record {
         messages = messages ++ map message_to first;
-        in_order = ascends_both IsLateBefore messages (map message_to first) (w.left.late).in_order
-            (ascends-map IsLateBefore message_to first (ascends_on (IsNamedBelow place) (λ x y. IsLateBefore (message_to x) (message_to y)) first (λ x y below. inr (refl, inr (inr (refl, below))))
+        in_order = Ascends-append IsLateBefore messages (map message_to first) (w.left.late).in_order
+            (ascends-map IsLateBefore message_to first (Ascends-weaken (IsNamedBelow place) (λ x y. IsLateBefore (message_to x) (message_to y)) first (λ x y below. inr (refl, inr (inr (refl, below))))
             (ascends_take (IsNamedBelow place) some.0 late_nodes (ascends-filter (IsNamedBelow place) is_late_to nodes ordered))))
             (λ x y i j. inl (let held = held_one start turns messages old.bag (w.left.late).held x i in let before = line_below turns x.position (held.1).made in
             let from = IsIn-map message_to first y j in let here : length turns ≡ length y.position.lines = ap (λ (z : LateMessage). length z.position.lines) from.2 in omega (arith, before, here)));

@@ -1,19 +1,14 @@
 -- The members of a shard in another order: who counts among them.
-use Rattle.std.proofs.Common.{◌≡◌, ℕ, length, refl, sym, subst, ◌∙◌, true, cond, IsPermutation}
-use Rattle.std.specs.Prelude.{Some, nat_eq, filter, count_by}
+use Rattle.std.proofs.Common.{◌≡◌, ℕ, length, sym, subst, ◌∙◌, cond, IsPermutation}
+use Rattle.std.specs.Prelude.{filter, count_by}
 use Rattle.std.proofs.lemmas.List.{length-map}
 use Rattle.std.proofs.lemmas.List.Sorted.{sum_by-IsPermutation}
 use Rattle.std.proofs.lemmas.List.Sums.{length-filter}
-use Rattle.std.proofs.lemmas.List.Folds.{list_any-from_Any}
-use Rattle.std.proofs.lemmas.Bool.{eq-eqb}
 use Rattle.m3_model.specs.Members.{IsIn}
 use Rattle.m3_model.specs.declared.placement.Assignment.{Assignment}
-use Rattle.m3_model.specs.declared.placement.Placement.{Placement}
 use Rattle.m3_model.proofs.MemberLemmas.{IsIn-map, map-IsIn}
-use Rattle.placement_core.specs.Shards.{Shard, counted, is_available, nodes_of, shard_at}
+use Rattle.placement_core.specs.Shards.{Shard, counted, is_available, nodes_of}
 use Rattle.placement_core.proofs.HolderLemmas.{chosen_node, node_chosen}
-use Rattle.placement_core.proofs.ListLemmas.{Any-from_IsIn}
-use Rattle.told_runs.specs.transcripts.Placements.{has_replica}
 use Rattle.call_lines.proofs.ToldLemmas.{IsIn-permuted, permuted-IsIn}
 
 module _ (shard members : Shard) (same : IsPermutation shard members) where
@@ -33,7 +28,3 @@ module _ (shard members : Shard) (same : IsPermutation shard members) where
 
   pub node_within : (n : ℕ) → IsIn (nodes_of members) n → IsIn (nodes_of shard) n
   node_within n m = let a = IsIn-map (λ (x : Assignment). x.node) members n m in subst (IsIn (nodes_of shard)) a.2 (map-IsIn (λ (x : Assignment). x.node) shard a.0 (permuted-IsIn shard members same a.0 a.1))
-
--- a node of a shard has a replica of it
-pub node_replica : (place : Placement) (s n : ℕ) → IsIn (nodes_of (shard_at place s)) n → has_replica (Some place) s n ≡ true
-node_replica place s n m = list_any-from_Any (nat_eq n) (nodes_of (shard_at place s)) (Any-from_IsIn (λ x. nat_eq n x ≡ true) (nodes_of (shard_at place s)) n m (eq-eqb n n refl))

@@ -59,6 +59,7 @@ use Rattle.told_runs.specs.told_by.Spans.{From}
 use Rattle.told_runs.specs.told_by.Writes.{IsSendOf}
 use Rattle.told_runs.proofs.told_by_proofs.LineLemmas.{at_front}
 use Rattle.told_runs.proofs.told_by_proofs.OneLemmas.{at_back, back_at}
+use Rattle.told_runs.proofs.MemberLemmas.{listed_member}
 use Rattle.told_runs.specs.Answers.{HearsOf, IsOfKind}
 use Rattle.told_runs.specs.transcripts.Calls.{AsksShard}
 use Rattle.told_runs.specs.transcripts.Fates.{call_number, fate_at, fate_in, numbering_after}
@@ -71,7 +72,7 @@ use Rattle.call_lines.specs.Laws.{IsCalm, IsWrite, LeavesLine, AcknowledgedTells
 use Rattle.call_lines.specs.Left.{NetIsLeftBy, NetIsUsable, IsNextCall, MayUseAfter}
 use Rattle.call_lines.proofs.HeardLemmas.{IsExchangedBy, counted_nodes, each_came, events_are, few_events, heard_nodes, in_counted}
 use Rattle.call_lines.proofs.ToldLemmas.{heard_ok}
-use Rattle.call_lines.proofs.MemberLemmas.{counted_all, counted_many, counted_within, node_replica, node_within}
+use Rattle.call_lines.proofs.MemberLemmas.{counted_all, counted_many, counted_within, node_within}
 use Rattle.call_lines.proofs.ServeLemmas.{answered, delivered_so, few_members, serves_so}
 use Rattle.call_lines.proofs.ShardLemmas.{AreHeardOf, IsCallBy, MaySay, answering_by_name, answering_counted, answering_served, delivered_to, hears_shard}
 
@@ -230,7 +231,7 @@ module _ {D : Type 0} {G : Ghosts D} (start : Option MetaState) (turns : List Tu
         sent = past_send i lt;
         place = place;
         is_place = past_place i lt;
-        member = node_replica place shard x.node (node_within (shard_at place shard) members same x.node x.among);
+        member = listed_member place shard x.node (node_within (shard_at place shard) members same x.node x.among);
         delivered = delivered_to start (λ i e. ⊥) here place net.fates id known shard x.node (node_within (shard_at place shard) members same x.node x.among) x.delivered;
       })
       | inr is ↦ subst (MayMake start (take i all) here) (sym is.1) tt

@@ -1,10 +1,8 @@
 -- A cluster that stands stands after a bootstrap that ended moves.
-use Rattle.std.proofs.Common.{◌≡◌, ◌<◌, ◌≤◌, ◌+◌, ◌∙◌, ℕ, zero, suc, List, [], ◌∷◌, ◌++◌, length, refl, sym, ap, subst, inl, inr, arith, Bool, true, false, length-append}
-use Rattle.std.specs.Prelude.{◌⊎◌, Option, Some, None, MatchOption, slice_get, slice_index_or, if◌then◌else◌, nat_eq, not}
+use Rattle.std.proofs.Common.{◌≡◌, ◌<◌, ◌≤◌, ◌+◌, ◌∙◌, ℕ, List, [], ◌∷◌, ◌++◌, length, refl, sym, ap, subst, inl, inr, arith, Bool, true, false}
+use Rattle.std.specs.Prelude.{◌⊎◌, Option, Some, None, MatchOption, slice_get, if◌then◌else◌, nat_eq, not}
 use Rattle.std.specs.List.{Any}
-use Rattle.std.proofs.lemmas.Bool.{cases_lt, le-ltb}
-use Rattle.std.proofs.lemmas.Grind.{fold-append}
-use Rattle.std.proofs.lemmas.Option.{same_Some}
+use Rattle.std.proofs.lemmas.Bool.{cases_lt}
 use Rattle.m3_model.specs.Members.{IsIn}
 use Rattle.m3_model.specs.declared.act.Act.{Act}
 use Rattle.m3_model.specs.declared.act.Act.TheVariants as act
@@ -18,7 +16,7 @@ use Rattle.m3_model.specs.declared.placement.ShardState.TheVariants.{Available}
 use Rattle.m3_model.specs.declared.rules.MetaState.{MetaState}
 use Rattle.m3_model.specs.declared.turn.Turn.{Turn}
 use Rattle.m3_model.proofs.Lists.{IsIn-filter}
-use Rattle.m3_model.proofs.MemberLemmas.{IsIn-append_cases, IsIn-append_left, IsIn-append_right, IsIn-map, map-IsIn}
+use Rattle.m3_model.proofs.MemberLemmas.{IsIn-append_cases, IsIn-map, map-IsIn}
 use Rattle.m3_outside.specs.DiskState.{DiskState}
 use Rattle.m3_outside.specs.declared.disk.Disk.{Ghosts}
 use Rattle.placement_core.specs.Shards.{Shard, nodes_of, shard_at}
@@ -30,7 +28,7 @@ use Rattle.cluster_core.specs.Lists.{At}
 use Rattle.cluster_core.specs.declared.event.Event.{Event}
 use Rattle.cluster_core.specs.declared.event.Event.TheVariants as event
 use Rattle.cluster_core.proofs.ExtendLemmas.{any_more}
-use Rattle.cluster_core.proofs.ListLemmas.{any_at, at_any, at_some, at_within}
+use Rattle.cluster_core.proofs.ListLemmas.{at_any, at_some, at_within}
 use Rattle.act_lines.specs.replica_exchange.declared.slot.Slot.{Slot}
 use Rattle.act_lines.specs.session_net.Ready.{IsCallable, IsReady, Places}
 use Rattle.act_lines.specs.session_net.Runs.{Ran, slot_at}
@@ -38,29 +36,21 @@ use Rattle.act_lines.specs.told_by.Hears.{HasReplica, IsNamedBy}
 use Rattle.act_lines.proofs.told_by_proofs.LeaveLemmas.{place_there}
 use Rattle.act_lines.proofs.told_by_proofs.LineLemmas.{at_front}
 use Rattle.act_lines.proofs.told_by_proofs.OneLemmas.{among_back}
-use Rattle.act_lines.proofs.told_by_proofs.TurnLemmas.{inner-append}
+use Rattle.act_lines.proofs.told_causes_proofs.WaitLemmas.{shard_is}
 use Rattle.act_lines.specs.transcripts.Fates.{fate_in}
-use Rattle.act_lines.specs.transcripts.Placements.{later_placement, placement_after, placements, printed, start_placement}
-use Rattle.act_lines.specs.transcripts.Record.{InnerTurn, inner_turns, line_of}
-use Rattle.act_lines.proofs.transcripts_proofs.PlacementLemmas.{known_more, known_printed}
+use Rattle.act_lines.specs.transcripts.Record.{line_of}
 use Rattle.act_lines.specs.call_lines.Left.{AreSlots, AreStoppedBy, FareAsSet, HoldsBack, NetIsLeftBy}
 use Rattle.act_lines.proofs.call_lines_proofs.KeepLemmas.{holds_on, rules_next, seed_next}
 use Rattle.act_lines.specs.cluster_members.Kept.{IsKept, PastServes}
 use Rattle.act_lines.specs.cluster_members.declared.members.Members.{Members}
 use Rattle.act_lines.specs.Stands.{AreKept, ClusterStands, HasSlots, KnowsNodes, PlacesAreKept}
-use Rattle.act_lines.proofs.CountLemmas.{count_next}
+use Rattle.act_lines.proofs.GrowLemmas.{replica_parts}
 use Rattle.act_lines.proofs.KnownLemmas.{fates_kept, known_next, known_on}
 use Rattle.act_lines.proofs.QuietLemmas.{slots_on, stops_next}
-use Rattle.act_lines.proofs.StandLemmas.{known_or_printed}
+use Rattle.act_lines.proofs.NextLemmas.{in_past, kept_then, past_has, place_then}
 use Rattle.join_tracks.proofs.CameLemmas.{came_there}
 
 -- ---- who has a shard
-
--- a shard as it is looked up
-there_at : (shards : List Shard) (s : ℕ) (shard : Shard) → At shards s shard → slice_index_or shards s [] ≡ shard
-there_at [] s shard at = cc
-there_at (x ∷ shards) zero shard at = same_Some x shard at
-there_at (x ∷ shards) (suc s) shard at = there_at shards s shard at
 
 -- the node is unchanged where an assignment turns
 turned_node : (gone : ℕ) (a : Assignment) (state : ShardState) → (turned gone state a).node ≡ a.node
@@ -85,7 +75,7 @@ had_before place next done available n s shard at m =
     let low = at_within next.shards s shard at in
     let before = at_some place.shards s (let count = shards.count in omega (arith, low, count)) in
     let made : EndsAsNamed done s before.0 shard = shards.each s before.0 shard before.1 at in
-    subst (λ x. IsIn (nodes_of x) n) (sym (there_at place.shards s before.0 before.1)) (by (done_at s done) before.0 made)
+    subst (λ x. IsIn (nodes_of x) n) (sym (shard_is place.shards s before.0 before.1)) (by (done_at s done) before.0 made)
   where
     by : (o : Option ℕ) (a : Shard) → MatchOption o (shard ≡ a) (λ to. Ends a shard to) → IsIn (nodes_of a) n
     by None a same = subst (λ x. IsIn (nodes_of x) n) same m
@@ -145,19 +135,13 @@ module _ {D : Type 0} {G : Ghosts D} (state : D → DiskState) (old new : Member
   given_here n s tenure e i gives = absurd gives
 
   all_slots : (n s : ℕ) → HasReplica whole n s → IsIn new.slots.items (slot_at n s)
-  all_slots n s (inl has) =
-      let e = any_at (GivesTenure n s has.0) (events ++ more) (subst (λ es. HasTenure es n s has.0) ran.grew has.1) in
-      elim (cases_lt e.0 (length events)) as (λ _. IsIn new.slots.items (slot_at n s)) [
-        | inl lt ↦ now_in (slot_at n s) (stands.slots.all n s (inl (has.0, at_any (GivesTenure n s has.0) events e.0 e.1 (at_front events more e.0 e.1 e.2 lt) e.3)))
-        | inr ge ↦ now_in (slot_at n s) (given_here n s has.0 e.1 (among_back events more e.0 e.1 e.2 ge) e.3)
-      ]
-  all_slots n s (inr took) =
-      let e = event.Step n s took.1 took.2 in
-      let at = subst (λ es. At es took.0 e) ran.grew took.3 in
-      elim (cases_lt took.0 (length events)) as (λ _. IsIn new.slots.items (slot_at n s)) [
-        | inl lt ↦ now_in (slot_at n s) (stands.slots.all n s (inr (took.0, took.1, took.2, at_front events more took.0 e at lt)))
-        | inr ge ↦ now_in (slot_at n s) (stands.slots.are.all (slot_at n s) (λ none. came_there state old.net.replicas new.net.replicas more ran n s took.1 took.2 (among_back events more took.0 e at ge) none))
-      ]
+  all_slots n s has = elim (replica_parts events more n s (subst (λ es. HasReplica es n s) ran.grew has)) as (λ _. IsIn new.slots.items (slot_at n s)) [
+    | inl before ↦ now_in (slot_at n s) (stands.slots.all n s before)
+    | inr here ↦ elim here as (λ _. IsIn new.slots.items (slot_at n s)) [
+      | inl given ↦ now_in (slot_at n s) (given_here n s given.0 given.1 given.2 given.3)
+      | inr stepped ↦ now_in (slot_at n s) (stands.slots.are.all (slot_at n s) (λ none. came_there state old.net.replicas new.net.replicas more ran n s stepped.0 stepped.1 stepped.2 none))
+    ]
+  ]
 
   slots_then : HasSlots new
   slots_then = record {
@@ -169,46 +153,11 @@ module _ {D : Type 0} {G : Ghosts D} (state : D → DiskState) (old new : Member
 
   -- ---- placements
 
-  in_past : (q : Placement) → IsIn new.past.items q → IsKept place old.past.items q
-  in_past q i = elim (IsIn-append_cases old.past.items (place ∷ []) q (subst (λ xs. IsIn xs q) past_is i)) as (λ _. IsKept place old.past.items q) [
-    | inl before ↦ inr before
-    | inr last ↦ elim last as (λ _. IsKept place old.past.items q) [ inl is ↦ inl (sym is) | inr none ↦ absurd none ]
-  ]
+  no_fewer : length place.instances ≤ length next.instances
+  no_fewer = subst (λ xs. length place.instances ≤ length xs) (sym ends.instances) (omega arith)
 
-  past_has : (q : Placement) → IsKept place old.past.items q → IsIn new.past.items q
-  past_has q (inl is) = subst (λ xs. IsIn xs q) (sym past_is) (IsIn-append_right old.past.items (place ∷ []) q (inl (sym is)))
-  past_has q (inr i) = subst (λ xs. IsIn xs q) (sym past_is) (IsIn-append_left old.past.items (place ∷ []) q i)
-
-  few_before : (q : Placement) → IsKept place old.past.items q → length q.instances ≤ length place.instances
-  few_before q (inl is) = subst (λ (p : Placement). length p.instances ≤ length place.instances) (sym is) (omega arith)
-  few_before q (inr i) = stands.kept.fewer q i
-
-  known_is : (q : Placement) → IsIn (placements start (inner_turns longer)) q → IsKept next new.past.items q
-  known_is q i =
-      elim (known_or_printed start (inner_turns turns) (inner_turns (line_of a b ∷ [])) q (subst (λ (ts : List InnerTurn). IsIn (placements start ts) q) (inner-append turns (line_of a b ∷ [])) i)) as (λ _. IsKept next new.past.items q) [
-        | inl before ↦ inr (past_has q ((stands.kept.are q).0 before))
-        | inr last ↦ elim last.1 as (λ _. IsKept next new.past.items q) [
-          | inl same ↦ inl (sym (same_Some next q (ap (λ (x : InnerTurn). printed x.answer) same ∙ last.2)))
-          | inr nothing ↦ absurd nothing
-        ]
-      ]
-
-  is_known : (q : Placement) → IsKept next new.past.items q → IsIn (placements start (inner_turns longer)) q
-  is_known q (inl is) =
-      subst (λ (ts : List InnerTurn). IsIn (placements start ts) q) (sym (inner-append turns (line_of a b ∷ [])))
-      (known_printed start (inner_turns turns ++ inner_turns (line_of a b ∷ [])) (record { act = a; answer = b }) q (IsIn-append_right (inner_turns turns) (inner_turns (line_of a b ∷ [])) (record { act = a; answer = b }) (inl refl)) (ap (λ (p : Placement). Some p) (sym is)))
-  is_known q (inr i) =
-      subst (λ (ts : List InnerTurn). IsIn (placements start ts) q) (sym (inner-append turns (line_of a b ∷ []))) (known_more start (inner_turns turns) (inner_turns (line_of a b ∷ [])) q ((stands.kept.are q).1 (in_past q i)))
-
-  kept_then : AreKept start longer next new.past.items
-  kept_then = record {
-    are = λ q. (known_is q, is_known q);
-    count = count_next start turns a b place next (length old.past.items) (ends.follows).version stands.kept.count ∙ ap suc (sym (ap length past_is ∙ length-append old.past.items (place ∷ []) ∙ one_more (length old.past.items)));
-    fewer = λ q i. let few = few_before q (in_past q i) in subst (λ xs. length q.instances ≤ length xs) (sym ends.instances) few;
-  }
-    where
-      one_more : (n : ℕ) → n + 1 ≡ suc n
-      one_more n = omega arith
+  kept_next : AreKept start longer next new.past.items
+  kept_next = kept_then start turns old new stands a b next refl (ends.follows).version past_is no_fewer
 
   -- calls may go by the one that stood, as by those before it
   callable_before : (q : Placement) → IsKept place old.past.items q → IsCallable (record old.net.state { place = q }) old.net.replicas old.net.bag
@@ -224,7 +173,7 @@ module _ {D : Type 0} {G : Ghosts D} (state : D → DiskState) (old new : Member
 
   serves_then : PastServes new
   serves_then q i =
-      let was = callable_before q (in_past q i) in
+      let was = callable_before q (in_past start turns old new stands a b next refl (ends.follows).version past_is q i) in
       record {
         clock = ready.clock;
         place = subst (λ es. Any (Places q) es) (sym ran.grew) (any_more (Places q) events more was.place);
@@ -234,15 +183,12 @@ module _ {D : Type 0} {G : Ghosts D} (state : D → DiskState) (old new : Member
       }
 
   placed_then : PlacesAreKept new
-  placed_then p of i = subst (λ (q : Placement). IsKept q new.past.items p) (sym same_place) (elim (of_place p of i) as (λ _. IsKept next new.past.items p) [ inl before ↦ inr (past_has p before) | inr is ↦ inl is ])
+  placed_then p of i = subst (λ (q : Placement). IsKept q new.past.items p) (sym same_place) (elim (of_place p of i) as (λ _. IsKept next new.past.items p) [ inl before ↦ inr (past_has start turns old new stands a b next refl (ends.follows).version past_is p before) | inr is ↦ inl is ])
 
   -- ---- nodes
 
   names_stay : KeepsNames place.instances next.instances
   names_stay position own at = (own, ap (λ xs. slice_get xs position) ends.instances ∙ at, refl)
-
-  no_fewer : length place.instances ≤ length next.instances
-  no_fewer = subst (λ xs. length place.instances ≤ length xs) (sym ends.instances) (omega arith)
 
   named_then : (n : ℕ) (own : Instance) → slice_get next.instances n ≡ Some own → IsNamedBy whole n own.name
   named_then n own at i p of other there is =
@@ -265,15 +211,10 @@ module _ {D : Type 0} {G : Ghosts D} (state : D → DiskState) (old new : Member
   fare_then : FareAsSet longer next old.net.fates
   fare_then client call n own at = stands.left.fates client call n own (own_at n own at) ∙ ap (λ list. fate_in list client call own.name) (sym (fates_kept turns a b refl))
 
-  place_then : placement_after (start_placement start) (inner_turns longer) ≡ Some next
-  place_then =
-      ap (placement_after (start_placement start)) (inner-append turns (line_of a b ∷ [])) ∙ fold-append (λ p (turn : InnerTurn). later_placement (printed turn.answer) p) (start_placement start) (inner_turns turns) (inner_turns (line_of a b ∷ []))
-      ∙ ap (later_placement (Some next)) stands.left.place ∙ ap (λ t. Some (if t then place else next)) (le-ltb next.version place.version (let later = (ends.follows).version in omega (arith, later)))
-
   left_then : NetIsLeftBy start longer new.net
   left_then = record {
     rules = rules_next start turns a b ∙ stands.left.rules ∙ sym (ap (λ (s : MetaState). s.rules) state_is);
-    place = place_then ∙ ap Some (sym same_place);
+    place = place_then start turns old new stands a b next refl (ends.follows).version past_is ∙ ap Some (sym same_place);
     seed = seed_next start turns a b ∙ stands.left.seed ∙ sym (ap (λ (s : MetaState). s.seed) state_is);
     fates = subst (λ (p : Placement). FareAsSet longer p new.net.fates) (sym same_place) (subst (FareAsSet longer next) (sym fates_are) fare_then);
     late = subst (HoldsBack start longer) (sym bag_is) (holds_on start turns a b refl old.net.bag stands.left.late);
@@ -283,7 +224,7 @@ module _ {D : Type 0} {G : Ghosts D} (state : D → DiskState) (old new : Member
   moved_stands = record {
     left = left_then;
     ready = ready;
-    kept = subst (λ (p : Placement). AreKept start longer p new.past.items) (sym same_place) kept_then;
+    kept = subst (λ (p : Placement). AreKept start longer p new.past.items) (sym same_place) kept_next;
     serves = serves_then;
     placed = placed_then;
     known = subst (λ (p : Placement). KnowsNodes longer p new.net.fates) (sym same_place) (subst (KnowsNodes longer next) (sym fates_are) known_then);

@@ -45,7 +45,7 @@ use Rattle.act_lines.specs.Due.{BootstrapDue, IsDueNext}
 use Rattle.act_lines.specs.Opens.{IsTenureUnowned, MayOpenSlots}
 use Rattle.act_lines.specs.Settings.{LeavesNothing}
 use Rattle.act_lines.specs.Stands.{ClusterStands}
-use Rattle.act_lines.proofs.DamageLemmas.{form_shown}
+use Rattle.act_lines.proofs.call_lines_proofs.ActLemmas.{damage_shown}
 use Rattle.act_lines.proofs.DueLemmas.{bootstraps_are_due}
 use Rattle.act_lines.proofs.NameLemmas.{listed_where}
 use Rattle.act_lines.proofs.NodeStands.{of_name, stopped_so}
@@ -188,7 +188,7 @@ module _ {D : Type 0} {G : Ghosts D} (state : D → DiskState) (old : Members D 
         served_by h.may new.net.replicas h.more h.ran h.unowned (begins_by place h.may.runs.node asked h.more (missed_each place h.may.runs.node asked shard peers h.more h.adds)) legal left IsMissedLine (answer.Peers got needed reasons shard) missed_joins_serve missed_few
         (record { shard = shard; peers = peers; adds = h.adds; answers = is })
     booted_served (answer.Disk node shard) (same, h) = held_served shard reason.Disk (answer.Disk node shard) (ap (λ n. answer.Disk n shard) same) h
-    booted_served (answer.Corrupt node shard damage) (same, damaged, h) = held_served shard (reason.Corrupt damage) (answer.Corrupt node shard damage) (ap (λ n. answer.Corrupt n shard damage) same, form_shown damage damaged) h
+    booted_served (answer.Corrupt node shard damage) (same, damaged, h) = held_served shard (reason.Corrupt damage) (answer.Corrupt node shard damage) (ap (λ n. answer.Corrupt n shard damage) same, damage_shown damage damaged) h
     booted_served answer.Memory (inl same) = subst (λ (m : Members D G). Served answer.Memory m.net.replicas.events) (sym same) wanted_served
     booted_served answer.Memory (inr (inl (shard, h))) = held_served shard reason.Memory answer.Memory refl h
     booted_served answer.Memory (inr (inr h)) = part_served answer.Memory (λ es is. inl refl) h

@@ -24,8 +24,8 @@ use Rattle.act_lines.specs.Quiet.{KeepsStops}
 use Rattle.act_lines.specs.Stands.{ClusterStands}
 use Rattle.act_lines.specs.Stays.{HaveNoPlace, PrintsNoOther}
 use Rattle.act_lines.proofs.KnownLemmas.{known_kept}
-use Rattle.act_lines.proofs.LeftLemmas.{SetsNoMore, left_still, newer_same}
-use Rattle.act_lines.proofs.StandLemmas.{flags_stay, stands_on, stands_unchanged}
+use Rattle.act_lines.proofs.LeftLemmas.{SetsNoMore, left_still}
+use Rattle.act_lines.proofs.StandLemmas.{flags_stay, newer_same, stands_on, stands_unchanged}
 use Rattle.told_joins.specs.Lines.{Leaves, done_by, joined_of}
 use Rattle.told_joins.proofs.AskLemmas.{held_each, missed_each, part_each, unmarked_each}
 use Rattle.cluster_placements.specs.Steps.{kept_in}

@@ -1,9 +1,8 @@
 -- A cluster that stands stands after a line that made a placement.
-use Rattle.std.proofs.Common.{◌≡◌, ◌≢◌, ◌<◌, ◌≤◌, ◌+◌, ◌-◌, ℕ, zero, suc, List, [], ◌∷◌, ◌++◌, length, replicate, refl, sym, ap, subst, ◌∙◌, inl, inr, arith, Bool, true, false, length-append}
-use Rattle.std.specs.Prelude.{◌⊎◌, Option, Some, None, slice_get, if◌then◌else◌}
+use Rattle.std.proofs.Common.{◌≡◌, ◌≢◌, ◌<◌, ◌≤◌, ◌+◌, ◌-◌, ℕ, zero, suc, List, [], ◌∷◌, ◌++◌, length, replicate, refl, sym, ap, subst, ◌∙◌, inl, inr, arith, Bool, true, false}
+use Rattle.std.specs.Prelude.{◌⊎◌, Option, Some, None, slice_get}
 use Rattle.std.specs.FinMap.{get}
-use Rattle.std.proofs.lemmas.Bool.{cases_lt, le-ltb}
-use Rattle.std.proofs.lemmas.Grind.{fold-append}
+use Rattle.std.proofs.lemmas.Bool.{cases_lt}
 use Rattle.m3_model.specs.Members.{IsIn}
 use Rattle.m3_model.specs.declared.act.Act.{Act}
 use Rattle.m3_model.specs.declared.act.Act.TheVariants as act
@@ -23,7 +22,7 @@ use Rattle.m3_outside.specs.Depots.{Depot}
 use Rattle.m3_outside.specs.DiskState.{DiskState}
 use Rattle.m3_outside.specs.declared.disk.Disk.{Ghosts}
 use Rattle.net_plan.specs.Fates.{fate_of}
-use Rattle.placement_core.proofs.ListLemmas.{Any-from_IsIn, IsIn-from_Any, same_at}
+use Rattle.placement_core.proofs.ListLemmas.{Any-from_IsIn, same_at}
 use Rattle.placement_acts.specs.Acts.{is_step_act}
 use Rattle.cluster_core.specs.Earlier.{GivesTenure, HasTenure}
 use Rattle.cluster_core.specs.Lists.{At}
@@ -32,23 +31,18 @@ use Rattle.cluster_core.specs.declared.event.Event.TheVariants as event
 use Rattle.cluster_core.specs.declared.event.StepCall.{StepCall}
 use Rattle.cluster_core.specs.declared.event.StepReply.{StepReply}
 use Rattle.cluster_core.proofs.ExtendLemmas.{any_more}
-use Rattle.cluster_core.proofs.ListLemmas.{any_at, at_any, at_in, at_same, at_some, at_within, in_at}
+use Rattle.cluster_core.proofs.ListLemmas.{at_any, at_in, at_some, at_within, in_at}
 use Rattle.act_lines.specs.replica_exchange.declared.member.Member.{Member}
 use Rattle.act_lines.specs.replica_exchange.declared.slot.Slot.{Slot}
 use Rattle.act_lines.specs.session_net.Runs.{IsStepped, slot_at, steps_of}
-use Rattle.act_lines.specs.first_cluster.Slots.{slots_of, start_at}
-use Rattle.act_lines.proofs.first_cluster_proofs.PlacedSlots.{from_start, start_slot}
+use Rattle.act_lines.specs.first_cluster.Slots.{slots_of}
 use Rattle.act_lines.proofs.first_cluster_proofs.SlotLists.{in_or_out, slot_replica}
 use Rattle.act_lines.specs.told_by.Hears.{HasReplica, IsNamedBy}
-use Rattle.act_lines.proofs.told_by_proofs.LineLemmas.{at_front}
-use Rattle.act_lines.proofs.told_by_proofs.OneLemmas.{among_back}
-use Rattle.act_lines.proofs.told_by_proofs.TurnLemmas.{inner-append}
 use Rattle.act_lines.proofs.told_causes_proofs.WaitLemmas.{member_at}
 use Rattle.act_lines.specs.transcripts.Fates.{fate_in, fates_set, is_stopped, numbering_after}
-use Rattle.act_lines.specs.transcripts.Placements.{has_replica, later_placement, placement_after, placements, printed, seed_after, seed_by, start_placement}
-use Rattle.act_lines.specs.transcripts.Record.{InnerTurn, inner_turns, line_of}
+use Rattle.act_lines.specs.transcripts.Placements.{has_replica, seed_after, seed_by}
+use Rattle.act_lines.specs.transcripts.Record.{inner_turns, line_of}
 use Rattle.act_lines.specs.transcripts.Rules.{rules_after, rules_by, start_rules}
-use Rattle.act_lines.proofs.transcripts_proofs.PlacementLemmas.{known_more, known_printed}
 use Rattle.act_lines.specs.call_lines.Left.{AreStoppedBy, FareAsSet, HoldsBack, NetIsLeftBy}
 use Rattle.act_lines.proofs.call_lines_proofs.KeepLemmas.{holds_on, rules_next, seed_next}
 use Rattle.act_lines.specs.cluster_members.Kept.{IsKept}
@@ -56,10 +50,11 @@ use Rattle.act_lines.specs.cluster_members.declared.members.Members.{Members}
 use Rattle.act_lines.proofs.cluster_members_proofs.NameLemmas.{same_node}
 use Rattle.act_lines.specs.Quiet.{KeepsStops}
 use Rattle.act_lines.specs.Stands.{AreKept, ClusterStands, HasSlots, IsUnnamed, KnowsNodes, PlacesAreKept}
-use Rattle.act_lines.proofs.CountLemmas.{count_next}
+use Rattle.act_lines.proofs.GrowLemmas.{replica_parts}
 use Rattle.act_lines.proofs.KnownLemmas.{fates_kept, known_next, known_on}
 use Rattle.act_lines.proofs.QuietLemmas.{stops_next}
-use Rattle.act_lines.proofs.StandLemmas.{known_or_printed}
+use Rattle.act_lines.proofs.NextLemmas.{few_before, kept_then, past_has, place_then}
+use Rattle.act_lines.proofs.StartLemmas.{given_slot, runs_at}
 use Rattle.cluster_placements.specs.Slots.{left_slots, new_slots}
 use Rattle.cluster_placements.specs.Steps.{IsPlaced, LeadsOn, MayChange, end_at, step_events}
 use Rattle.cluster_placements.proofs.ChangeLemmas.{left_there}
@@ -74,14 +69,6 @@ given_by events place i done n s there member =
     let a = member_at place s n member in
     let tenure = (a.assigned).tenure in
     (tenure, at_any (GivesTenure n s tenure) events i (event.Place place done) there (a.shard, a.there, Any-from_IsIn (λ (x : Assignment). (x.node ≡ n) × (x.tenure ≡ tenure)) a.shard a.assigned a.among (a.of_node, refl)))
-
--- and to no other
-given_slot : (place : Placement) (done : List (ℕ × ℕ)) (n s tenure : ℕ) → GivesTenure n s tenure (event.Place place done) → IsIn (slots_of place) (slot_at n s)
-given_slot place done n s tenure gives =
-    let a = IsIn-from_Any (λ (x : Assignment). (x.node ≡ n) × (x.tenure ≡ tenure)) gives.0 gives.2 in
-    let start = from_start 0 place.shards s gives.0 a.0 gives.1 a.1 in
-    let zero_s : 0 + s ≡ s = omega arith in
-    subst (λ k. IsIn (slots_of place) (slot_at n k)) zero_s (subst (λ k. IsIn (slots_of place) (slot_at k (0 + s))) a.2.0 (start_slot place (start_at (0 + s) a.0) start))
 
 -- ---- what the answer sets
 
@@ -109,11 +96,6 @@ flag_front : (xs ys : List Bool) (i : ℕ) (v : Bool) → slice_get xs i ≡ Som
 flag_front [] ys i v e = cc
 flag_front (x ∷ xs) ys zero v e = e
 flag_front (x ∷ xs) ys (suc i) v e = flag_front xs ys i v e
-
-runs_at : (n i : ℕ) → i < n → slice_get (replicate n false) i ≡ Some false
-runs_at zero i low = absurd (omega (arith, low))
-runs_at (suc n) zero low = refl
-runs_at (suc n) (suc i) low = runs_at n i (omega (arith, low))
 
 flag_back : (xs : List Bool) (n i : ℕ) → length xs ≤ i → i < length xs + n → slice_get (xs ++ replicate n false) i ≡ Some false
 flag_back [] n i high low = runs_at n i (omega (arith, low))
@@ -211,19 +193,13 @@ module _ {D : Type 0} {G : Ghosts D} (state : D → DiskState) (old new : Member
   gives_came n s tenure e i gives = absurd gives
 
   all_slots : (n s : ℕ) → HasReplica whole n s → IsIn new.slots.items (slot_at n s)
-  all_slots n s (inl has) =
-      let e = any_at (GivesTenure n s has.0) (events ++ more) (subst (λ es. HasTenure es n s has.0) grew has.1) in
-      elim (cases_lt e.0 (length events)) as (λ _. IsIn new.slots.items (slot_at n s)) [
-        | inl lt ↦ from_old (slot_at n s) (stands.slots.all n s (inl (has.0, at_any (GivesTenure n s has.0) events e.0 e.1 (at_front events more e.0 e.1 e.2 lt) e.3)))
-        | inr ge ↦ gives_came n s has.0 e.1 (among_back events more e.0 e.1 e.2 ge) e.3
-      ]
-  all_slots n s (inr took) =
-      let e = event.Step n s took.1 took.2 in
-      let at = subst (λ es. At es took.0 e) grew took.3 in
-      elim (cases_lt took.0 (length events)) as (λ _. IsIn new.slots.items (slot_at n s)) [
-        | inl lt ↦ from_old (slot_at n s) (stands.slots.all n s (inr (took.0, took.1, took.2, at_front events more took.0 e at lt)))
-        | inr ge ↦ from_left (slot_at n s) (step_came n s took.1 took.2 (among_back events more took.0 e at ge))
-      ]
+  all_slots n s has = elim (replica_parts events more n s (subst (λ es. HasReplica es n s) grew has)) as (λ _. IsIn new.slots.items (slot_at n s)) [
+    | inl before ↦ from_old (slot_at n s) (stands.slots.all n s before)
+    | inr came ↦ elim came as (λ _. IsIn new.slots.items (slot_at n s)) [
+      | inl given ↦ gives_came n s given.0 given.1 given.2 given.3
+      | inr stepped ↦ from_left (slot_at n s) (step_came n s stepped.0 stepped.1 stepped.2)
+    ]
+  ]
 
   given_one : (s : Slot) → IsIn new.slots.items s → (tenure : ℕ) × HasTenure whole s.node s.shard tenure
   given_one s i =
@@ -248,49 +224,8 @@ module _ {D : Type 0} {G : Ghosts D} (state : D → DiskState) (old new : Member
 
   -- ---- placements
 
-  in_past : (q : Placement) → IsIn new.past.items q → IsKept place old.past.items q
-  in_past q i = elim (IsIn-append_cases old.past.items (place ∷ []) q (subst (λ xs. IsIn xs q) placed.past i)) as (λ _. IsKept place old.past.items q) [
-    | inl before ↦ inr before
-    | inr last ↦ elim last as (λ _. IsKept place old.past.items q) [ inl is ↦ inl (sym is) | inr none ↦ absurd none ]
-  ]
-
-  past_has : (q : Placement) → IsKept place old.past.items q → IsIn new.past.items q
-  past_has q (inl is) = subst (λ xs. IsIn xs q) (sym placed.past) (IsIn-append_right old.past.items (place ∷ []) q (inl (sym is)))
-  past_has q (inr i) = subst (λ xs. IsIn xs q) (sym placed.past) (IsIn-append_left old.past.items (place ∷ []) q i)
-
-  few_before : (q : Placement) → IsKept place old.past.items q → length q.instances ≤ length place.instances
-  few_before q (inl is) = subst (λ (p : Placement). length p.instances ≤ length place.instances) (sym is) (omega arith)
-  few_before q (inr i) = stands.kept.fewer q i
-
-  printed_is : (q : Placement) → Some next ≡ Some q → q ≡ next
-  printed_is q is = cc
-
-  known_is : (q : Placement) → IsIn (placements start (inner_turns longer)) q → IsKept next new.past.items q
-  known_is q i =
-      elim (known_or_printed start (inner_turns turns) (inner_turns (line_of a b ∷ [])) q (subst (λ (ts : List InnerTurn). IsIn (placements start ts) q) (inner-append turns (line_of a b ∷ [])) i)) as (λ _. IsKept next new.past.items q) [
-        | inl before ↦ inr (past_has q ((stands.kept.are q).0 before))
-        | inr last ↦ elim last.1 as (λ _. IsKept next new.past.items q) [
-          | inl same ↦ inl (printed_is q (ap (λ (x : InnerTurn). printed x.answer) same ∙ last.2))
-          | inr nothing ↦ absurd nothing
-        ]
-      ]
-
-  is_known : (q : Placement) → IsKept next new.past.items q → IsIn (placements start (inner_turns longer)) q
-  is_known q (inl is) =
-      subst (λ (ts : List InnerTurn). IsIn (placements start ts) q) (sym (inner-append turns (line_of a b ∷ [])))
-      (known_printed start (inner_turns turns ++ inner_turns (line_of a b ∷ [])) (record { act = a; answer = b }) q (IsIn-append_right (inner_turns turns) (inner_turns (line_of a b ∷ [])) (record { act = a; answer = b }) (inl refl)) (ap (λ (p : Placement). Some p) (sym is)))
-  is_known q (inr i) =
-      subst (λ (ts : List InnerTurn). IsIn (placements start ts) q) (sym (inner-append turns (line_of a b ∷ []))) (known_more start (inner_turns turns) (inner_turns (line_of a b ∷ [])) q ((stands.kept.are q).1 (in_past q i)))
-
-  kept_then : AreKept start longer next new.past.items
-  kept_then = record {
-    are = λ q. (known_is q, is_known q);
-    count = count_next start turns a b place next (length old.past.items) leads.step.version stands.kept.count ∙ ap suc (sym (ap length placed.past ∙ length-append old.past.items (place ∷ []) ∙ one_more (length old.past.items)));
-    fewer = λ q i. let few = few_before q (in_past q i) in let most = more_nodes in omega (arith, few, most);
-  }
-    where
-      one_more : (n : ℕ) → n + 1 ≡ suc n
-      one_more n = omega arith
+  kept_next : AreKept start longer next new.past.items
+  kept_next = kept_then start turns old new stands a b next refl leads.step.version placed.past more_nodes
 
   -- ---- nodes
 
@@ -313,7 +248,7 @@ module _ {D : Type 0} {G : Ghosts D} (state : D → DiskState) (old new : Member
   named_then n own at i p done other there is = elim (of_place p done (at_in whole i (event.Place p done) there)) as (λ _. other.name ≡ own.name) [
     | inr next_is ↦ ap (λ (x : Instance). x.name) (same_at next.instances n other own (subst (λ (q : Placement). slice_get q.instances n ≡ Some other) next_is is) at)
     | inl before ↦
-        (let few = few_before p before in
+        (let few = few_before start turns old new stands a b next refl leads.step.version placed.past p before in
         let here = at_within p.instances n other is in
         let was = node_before n own at (omega (arith, few, here)) in
         elim (IsIn-append_cases events more (event.Place p done) (subst (λ es. IsIn es (event.Place p done)) grew (at_in whole i (event.Place p done) there))) as (λ _. other.name ≡ own.name) [
@@ -354,28 +289,23 @@ module _ {D : Type 0} {G : Ghosts D} (state : D → DiskState) (old new : Member
     | inr high ↦ stands.known.delivers client call n high ∙ sym (ap (λ list. fate_in list client call own.name) fates_same ∙ stands.known.unset client call own.name (new_name n own at high))
   ]
 
-  place_then : placement_after (start_placement start) (inner_turns longer) ≡ Some next
-  place_then =
-      ap (placement_after (start_placement start)) (inner-append turns (line_of a b ∷ [])) ∙ fold-append (λ p (turn : InnerTurn). later_placement (printed turn.answer) p) (start_placement start) (inner_turns turns) (inner_turns (line_of a b ∷ []))
-      ∙ ap (later_placement (Some next)) stands.left.place ∙ ap (λ t. Some (if t then place else next)) (le-ltb next.version place.version (let later = leads.step.version in omega (arith, later)))
-
   left_then : NetIsLeftBy start longer new.net
   left_then = record {
     rules = rules_next start turns a b ∙ no_rules a next (rules_after (start_rules start) (inner_turns turns)) ∙ stands.left.rules ∙ sym (ap (λ (s : MetaState). s.rules) placed.state_is);
-    place = place_then ∙ ap Some (sym same_place);
+    place = place_then start turns old new stands a b next refl leads.step.version placed.past ∙ ap Some (sym same_place);
     seed = seed_next start turns a b ∙ no_seed a next (seed_after start (inner_turns turns)) step ∙ stands.left.seed ∙ sym (ap (λ (s : MetaState). s.seed) placed.state_is);
     fates = subst (λ (p : Placement). FareAsSet longer p new.net.fates) (sym same_place) (subst (FareAsSet longer next) (sym placed.fates) fare_then);
     late = subst (HoldsBack start longer) (sym placed.bag) (holds_on start turns a b refl old.net.bag stands.left.late);
   }
 
   placed_then : PlacesAreKept new
-  placed_then p done i = subst (λ (q : Placement). IsKept q new.past.items p) (sym same_place) (elim (of_place p done i) as (λ _. IsKept next new.past.items p) [ inl before ↦ inr (past_has p before) | inr is ↦ inl is ])
+  placed_then p done i = subst (λ (q : Placement). IsKept q new.past.items p) (sym same_place) (elim (of_place p done i) as (λ _. IsKept next new.past.items p) [ inl before ↦ inr (past_has start turns old new stands a b next refl leads.step.version placed.past p before) | inr is ↦ inl is ])
 
   pub next_stands : ClusterStands start longer new
   next_stands = record {
     left = left_then;
     ready = may.ready;
-    kept = subst (λ (p : Placement). AreKept start longer p new.past.items) (sym same_place) kept_then;
+    kept = subst (λ (p : Placement). AreKept start longer p new.past.items) (sym same_place) kept_next;
     serves = may.serves;
     placed = placed_then;
     known = subst (λ (p : Placement). KnowsNodes longer p new.net.fates) (sym same_place) (subst (KnowsNodes longer next) (sym placed.fates) known_now);

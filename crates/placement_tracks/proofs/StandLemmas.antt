@@ -1,26 +1,20 @@
 -- A cluster that stands is one from which a line may make a placement, and it stands after it.
-use Rattle.std.proofs.Common.{◌≡◌, ◌<◌, ◌∙◌, ℕ, List, [], ◌∷◌, ◌++◌, length, refl, sym, ap, subst, inl, inr, arith, true}
-use Rattle.std.specs.Prelude.{◌⊎◌, Option, Some, None, slice_get}
+use Rattle.std.proofs.Common.{◌≡◌, ◌<◌, ◌∙◌, ℕ, List, [], ◌∷◌, ◌++◌, length, sym, ap, subst, inl, inr, arith, true}
+use Rattle.std.specs.Prelude.{Option, Some, None, slice_get}
 use Rattle.std.specs.FinMap.{get}
 use Rattle.m3_model.specs.Members.{IsIn}
 use Rattle.m3_model.specs.declared.act.Act.{Act}
 use Rattle.m3_model.specs.declared.answer.Answer.{Answer}
 use Rattle.m3_model.specs.declared.answer.Answer.TheVariants as answer
-use Rattle.m3_model.specs.declared.placement.Assignment.{Assignment}
 use Rattle.m3_model.specs.declared.placement.Instance.{Instance}
-use Rattle.m3_model.specs.declared.placement.Placement.{Placement}
 use Rattle.m3_model.specs.declared.rules.MetaState.{MetaState}
 use Rattle.m3_model.specs.declared.turn.Turn.{Turn}
 use Rattle.m3_outside.specs.Depots.{Depot}
 use Rattle.m3_outside.specs.DiskState.{DiskState}
 use Rattle.m3_outside.specs.declared.disk.Disk.{Ghosts}
-use Rattle.placement_core.proofs.ListLemmas.{Any-from_IsIn}
 use Rattle.placement_acts.specs.Acts.{is_step_act}
-use Rattle.cluster_core.specs.Earlier.{GivesTenure, HasTenure, last_place}
-use Rattle.cluster_core.specs.Lists.{At}
-use Rattle.cluster_core.specs.declared.event.Event.{Event}
+use Rattle.cluster_core.specs.Earlier.{HasTenure}
 use Rattle.cluster_core.specs.declared.event.Event.TheVariants as event
-use Rattle.cluster_core.proofs.ListLemmas.{at_any}
 use Rattle.act_lines.specs.replica_exchange.declared.slot.Slot.{Slot}
 use Rattle.act_lines.specs.replica_calls.Calls.{Tracked}
 use Rattle.act_lines.specs.session_net.Ready.{IsCallable, IsReady}
@@ -29,13 +23,11 @@ use Rattle.act_lines.specs.told_by.Hears.{HasReplica, IsNamedBy}
 use Rattle.act_lines.specs.told_by.Steps.{IsUnmoved}
 use Rattle.act_lines.specs.told_by.Told.{ToldBy}
 use Rattle.act_lines.proofs.told_by_proofs.JoinedLemmas.{placed}
-use Rattle.act_lines.proofs.told_causes_proofs.WaitLemmas.{member_at}
 use Rattle.act_lines.proofs.told_runs_proofs.StepLemmas.{nowhere_unmoved}
-use Rattle.act_lines.specs.transcripts.Caused.{kept_after, versions_after}
-use Rattle.act_lines.specs.transcripts.Placements.{HadReplica, has_replica}
+use Rattle.act_lines.specs.transcripts.Placements.{HadReplica}
 use Rattle.act_lines.specs.transcripts.Record.{inner_turns, line_of}
-use Rattle.act_lines.specs.transcripts.Refusals.{kept_versions}
 use Rattle.act_lines.specs.call_lines.Left.{AreSlots, AreStoppedBy, FareAsSet, HoldsBack}
+use Rattle.act_lines.proofs.call_lines_proofs.DeliverLemmas.{some_place}
 use Rattle.act_lines.specs.cluster_members.Kept.{IsKept}
 use Rattle.act_lines.specs.cluster_members.declared.members.Members.{Members}
 use Rattle.act_lines.specs.Quiet.{DeliversNone, SetsNone}
@@ -47,10 +39,6 @@ use Rattle.placement_tracks.proofs.MadeLemmas.{given_by, next_stands}
 
 -- ---- what a line needs
 
-opened : (events : List Event) (place : Placement) → last_place events ≡ Some place → 0 < length events
-opened [] place e = let bad : None ≡ Some place = e in cc
-opened (x ∷ events) place e = omega arith
-
 module _ {D : Type 0} {G : Ghosts D} (start : Option MetaState) (turns : List Turn) (m : Members D G) (told : ToldBy start turns m.net.replicas.events) (stands : ClusterStands start turns m) where
   pub had_none : (s : Slot) → get m.net.replicas.members s ≡ None → ¬ HadReplica start (inner_turns turns) s.shard s.node
   had_none s none had =
@@ -60,7 +48,7 @@ module _ {D : Type 0} {G : Ghosts D} (start : Option MetaState) (turns : List Tu
 
 pub comes_next : {D : Type 0} {G : Ghosts D} (m : Members D G) → ComesNext m
 comes_next m start turns told stands = record {
-  opened = opened m.net.replicas.events m.net.state.place stands.ready.place;
+  opened = some_place m.net.replicas.events m.net.state.place stands.ready.place;
   left = stands.left.place;
   lawful = stands.ready.lawful;
   kept_is = sym stands.kept.count;

@@ -1,6 +1,6 @@
 -- A `status`: each replica reported.
-use Rattle.std.proofs.Common.{◌≡◌, ◌<◌, ◌≤◌, ℕ, List, [], ◌∷◌, ◌++◌, length, map, refl, sym, ap, ◌∙◌, subst, inl, inr, arith}
-use Rattle.std.specs.Prelude.{◌⊎◌, Option, Some, None}
+use Rattle.std.proofs.Common.{◌≡◌, ◌≤◌, ℕ, List, [], ◌++◌, length, refl, sym, ap, ◌∙◌, subst, inl, inr, arith}
+use Rattle.std.specs.Prelude.{Option}
 use Rattle.std.specs.List.{flat_map}
 use Rattle.m3_model.specs.Members.{IsIn}
 use Rattle.m3_model.specs.declared.act.Act.TheVariants as act
@@ -23,7 +23,7 @@ use Rattle.cluster_core.specs.declared.event.StepCall.{StepCall}
 use Rattle.cluster_core.specs.declared.event.StepCall.TheVariants as call
 use Rattle.cluster_core.specs.declared.event.StepReply.TheVariants as reply
 use Rattle.act_lines.specs.session_net.Runs.{slot_at}
-use Rattle.act_lines.specs.told_by.Hears.{Happens, HearsStatus, InStretch}
+use Rattle.act_lines.specs.told_by.Hears.{HearsStatus, InStretch}
 use Rattle.act_lines.specs.told_by.Lines.{position_after}
 use Rattle.act_lines.specs.told_by.Makes.{MayAsk, MayMake}
 use Rattle.act_lines.proofs.told_runs_proofs.MemberLemmas.{listed_member}
@@ -35,10 +35,10 @@ use Rattle.cluster_upkeep.specs.Upkeep.{HasTold}
 use Rattle.cluster_upkeep.proofs.SweepLemmas.{told_long, told_quiet}
 use Rattle.act_lines.specs.Nodes.{LeavesStanding}
 use Rattle.act_lines.specs.Stands.{ClusterStands}
-use Rattle.act_lines.proofs.GrowLemmas.{happens_in}
+use Rattle.act_lines.proofs.call_lines_proofs.DeliverLemmas.{in_stretch}
 use Rattle.act_lines.proofs.HaltLemmas.{IsHaltOf, plain_so}
 use Rattle.upkeep_lines.specs.Upkeep.{StatusTells}
-use Rattle.upkeep_lines.proofs.UpkeepLemmas.{MayBeAsked, leaves_standing, rules_here, slot_there, stands_here}
+use Rattle.upkeep_lines.proofs.UpkeepLemmas.{leaves_standing, rules_here, slot_there, stands_here}
 
 module _ {D : Type 0} {G : Ghosts D} (state : D → DiskState) (start : Option MetaState) (turns : List Turn) (old new : Members D G) (stands : ClusterStands start turns old) (now : ℕ) (lines : List StatusLine) (version : ℕ) (h : HasTold state old now lines version new) where
   abbrev b : Answer
@@ -79,7 +79,7 @@ module _ {D : Type 0} {G : Ghosts D} (state : D → DiskState) (start : Option M
     place = old.net.state.place;
     last = stands.ready.place;
     version_is = h.version_is;
-    each = λ line m. (listed_member old.net.state.place line.shard line.node (member line m), (report_of line, refl, refl, happens_in events more (step_of line) (flat_map-IsIn told_at lines line (step_of line) m (inl refl))));
+    each = λ line m. (listed_member old.net.state.place line.shard line.node (member line m), (report_of line, refl, refl, in_stretch events more (step_of line) (flat_map-IsIn told_at lines line (step_of line) m (inl refl))));
   }
 
   status_is : IsStatus start (position_after turns act.Status b) now lines version

@@ -1,6 +1,6 @@
 -- Sweeps: each replica was asked and heard.
-use Rattle.std.proofs.Common.{◌≡◌, ◌<◌, ◌≤◌, ◌*◌, ℕ, List, [], ◌∷◌, ◌++◌, length, map, refl, sym, ap, ◌∙◌, subst, inl, inr, arith}
-use Rattle.std.specs.Prelude.{◌⊎◌, Option, Some, None, Result, Ok, Err, IsErrOf}
+use Rattle.std.proofs.Common.{◌≡◌, ◌≤◌, ℕ, List, [], ◌++◌, length, refl, sym, ap, ◌∙◌, subst, inl, inr, arith}
+use Rattle.std.specs.Prelude.{Option, Some, Result, Err, IsErrOf}
 use Rattle.std.specs.List.{flat_map}
 use Rattle.std.proofs.lemmas.Option.{same_Some}
 use Rattle.m3_model.specs.Members.{IsIn}
@@ -13,7 +13,6 @@ use Rattle.m3_model.specs.declared.reason.Damage.{Damage}
 use Rattle.m3_model.specs.declared.reason.Reason.{Reason}
 use Rattle.m3_model.specs.declared.reason.Reason.TheVariants as reason
 use Rattle.m3_model.specs.declared.rules.MetaState.{MetaState}
-use Rattle.m3_model.specs.declared.rules.Rules.{Rules}
 use Rattle.m3_model.specs.declared.turn.Turn.{Turn}
 use Rattle.m3_model.proofs.Lists.{IsIn-flat_map, flat_map-IsIn}
 use Rattle.m3_outside.specs.DiskState.{DiskState}
@@ -23,19 +22,15 @@ use Rattle.cluster_core.specs.declared.event.Event.{Event}
 use Rattle.cluster_core.specs.declared.event.Event.TheVariants as event
 use Rattle.cluster_core.specs.declared.event.StepCall.{StepCall}
 use Rattle.cluster_core.specs.declared.event.StepCall.TheVariants as call
-use Rattle.cluster_core.specs.declared.event.StepReply.{StepReply}
 use Rattle.cluster_core.specs.declared.event.StepReply.TheVariants as reply
 use Rattle.act_lines.specs.replica_machine.Steps.{reply_by}
-use Rattle.act_lines.specs.replica_exchange.declared.slot.Slot.{Slot}
-use Rattle.act_lines.specs.session_net.Messages.{exchange}
 use Rattle.act_lines.specs.session_net.Runs.{slot_at}
 use Rattle.act_lines.specs.told_by.Hears.{Happens, HasStep, HearsReason, HearsSwept, InStretch, IsSweepCall}
 use Rattle.act_lines.specs.told_by.Lines.{IsPlain, position_after}
 use Rattle.act_lines.specs.told_by.Makes.{MayAsk, MayMake}
 use Rattle.act_lines.specs.told_runs.Answers.{IsOfKind}
 use Rattle.act_lines.specs.transcripts.Reasons.{IsShown}
-use Rattle.act_lines.specs.transcripts.Rules.{rules_at}
-use Rattle.act_lines.specs.transcripts.Sweeps.{Entry, IsSweptOver, done_in, failed_in, slot_of}
+use Rattle.act_lines.specs.transcripts.Sweeps.{Entry, IsSweptOver}
 use Rattle.act_lines.proofs.transcripts_proofs.SweepLemmas.{done_entry, entry_slot, failed_entry}
 use Rattle.act_lines.specs.call_lines.Laws.{IsCalmCall}
 use Rattle.act_lines.specs.cluster_members.declared.members.Members.{Members}
@@ -45,8 +40,8 @@ use Rattle.cluster_upkeep.specs.Upkeep.{HasSwept}
 use Rattle.cluster_upkeep.proofs.SweepLemmas.{asked_quiet}
 use Rattle.act_lines.specs.Nodes.{LeavesStanding}
 use Rattle.act_lines.specs.Stands.{ClusterStands}
-use Rattle.act_lines.proofs.DamageLemmas.{form_shown}
-use Rattle.act_lines.proofs.GrowLemmas.{happens_in}
+use Rattle.act_lines.proofs.call_lines_proofs.ActLemmas.{damage_shown}
+use Rattle.act_lines.proofs.call_lines_proofs.DeliverLemmas.{in_stretch}
 use Rattle.act_lines.proofs.HaltLemmas.{IsHaltOf, exchange_halts, plain_so}
 use Rattle.upkeep_lines.specs.Upkeep.{SweptTells, sweep_call}
 use Rattle.upkeep_lines.proofs.UpkeepLemmas.{MayBeAsked, leaves_standing, rules_here, slot_there, stands_here}
@@ -85,7 +80,7 @@ module _ {D : Type 0} {G : Ghosts D} (state : D → DiskState) (start : Option M
   step_here : (x : Entry) → IsIn h.entries x → Happens Here (event.Step x.node x.shard c (reply_by (λ n. reply.Count n) x.said))
   step_here x among =
       let step : Event = event.Step x.node x.shard c (reply_by (λ n. reply.Count n) x.said) in
-      happens_in events more step (flat_map-IsIn (asked_at c) h.entries x step among (inr (inl refl)))
+      in_stretch events more step (flat_map-IsIn (asked_at c) h.entries x step among (inr (inl refl)))
 
   heard : HearsSwept Here (IsSweepCall a) done failed
   heard = record {
@@ -94,7 +89,7 @@ module _ {D : Type 0} {G : Ghosts D} (state : D → DiskState) (start : Option M
         (c, kind, subst (Happens Here) (λ i. event.Step (found.node_is i) (found.shard_is i) c (reply_by (λ n. reply.Count n) (found.said_is i))) (step_here found.entry found.among));
     refused = λ x m.
         let found = failed_entry h.entries x (subst (λ xs. IsIn xs x) h.failed_are m) in
-        reason_heard Here (IsSweepCall a) x.0 x.1 x.2 (λ damage is. form_shown damage (h.files found.entry found.among damage (of_damage found.entry.said x.2 damage found.said_is is)))
+        reason_heard Here (IsSweepCall a) x.0 x.1 x.2 (λ damage is. damage_shown damage (h.files found.entry found.among damage (of_damage found.entry.said x.2 damage found.said_is is)))
         (c, kind, subst (Happens Here) (λ i. event.Step (found.node_is i) (found.shard_is i) c (reply_by (λ n. reply.Count n) (found.said_is i))) (step_here found.entry found.among));
   }
     where

@@ -1,5 +1,5 @@
 -- Lines that ask each replica of the placement for the same, or have it report.
-use Rattle.std.proofs.Common.{◌≡◌, ◌<◌, ◌≤◌, ℕ, List, [], ◌∷◌, ◌++◌, length, take, refl, sym, ap, ◌∙◌, subst, inl, inr, arith}
+use Rattle.std.proofs.Common.{◌≡◌, ◌≤◌, ℕ, List, [], ◌∷◌, ◌++◌, length, take, refl, sym, ap, ◌∙◌, subst, inl, inr, arith}
 use Rattle.std.specs.Prelude.{◌⊎◌, Option, Some, None}
 use Rattle.std.proofs.lemmas.List.{append-nil}
 use Rattle.m3_model.specs.Members.{IsIn}
@@ -10,7 +10,6 @@ use Rattle.m3_model.specs.declared.answer.Answer.TheVariants as answer
 use Rattle.m3_model.specs.declared.limits.TheConstants.{MOST_REQUEST_EVENTS}
 use Rattle.m3_model.specs.declared.placement.Placement.{Placement}
 use Rattle.m3_model.specs.declared.rules.MetaState.{MetaState}
-use Rattle.m3_model.specs.declared.rules.Rules.{Rules}
 use Rattle.m3_model.specs.declared.turn.Turn.{Turn}
 use Rattle.m3_outside.specs.DiskState.{DiskState}
 use Rattle.m3_outside.specs.declared.disk.Disk.{Ghosts}
@@ -22,21 +21,20 @@ use Rattle.cluster_core.specs.declared.event.Event.TheVariants as event
 use Rattle.cluster_core.specs.declared.event.StepCall.{StepCall}
 use Rattle.cluster_core.specs.declared.event.StepCall.TheVariants as call
 use Rattle.cluster_core.specs.declared.event.StepReply.{StepReply}
-use Rattle.cluster_core.proofs.ListLemmas.{at_in, at_within}
-use Rattle.act_lines.specs.replica_exchange.declared.slot.Slot.{Slot}
+use Rattle.cluster_core.proofs.ListLemmas.{at_in}
 use Rattle.act_lines.specs.session_net.Ready.{IsReady}
 use Rattle.act_lines.specs.session_net.Runs.{Ran, slot_at}
 use Rattle.act_lines.proofs.session_net_proofs.ReadyLemmas.{AreQuiet}
 use Rattle.act_lines.specs.told_by.Hears.{HearsBy, InStretch}
-use Rattle.act_lines.specs.told_by.Lines.{IsPlain, MayChange, PlainLine, position_after}
+use Rattle.act_lines.specs.told_by.Lines.{IsPlain, PlainLine, position_after}
 use Rattle.act_lines.specs.told_by.Makes.{MayAsk, MayMake}
-use Rattle.act_lines.proofs.told_by_proofs.LeaveLemmas.{place_there}
 use Rattle.act_lines.proofs.told_by_proofs.OneLemmas.{among_back}
 use Rattle.act_lines.specs.told_runs.Answers.{HearsOf, IsOfKind}
 use Rattle.act_lines.specs.transcripts.Placements.{MayStand}
 use Rattle.act_lines.specs.transcripts.Record.{TurnPosition, inner_turns, line_of}
 use Rattle.act_lines.specs.transcripts.Rules.{rules_at}
 use Rattle.act_lines.specs.call_lines.Laws.{IsCalm, IsCalmCall, LeavesLine}
+use Rattle.act_lines.proofs.call_lines_proofs.DeliverLemmas.{some_place}
 use Rattle.act_lines.proofs.call_lines_proofs.KeepLemmas.{left_as_before}
 use Rattle.act_lines.proofs.call_lines_proofs.ServeLemmas.{answered, delivered_so, serves_so}
 use Rattle.act_lines.specs.cluster_members.declared.members.Members.{Members}
@@ -48,7 +46,7 @@ use Rattle.act_lines.specs.Quiet.{DeliversNone, SetsNone}
 use Rattle.act_lines.specs.Stands.{ClusterStands}
 use Rattle.act_lines.specs.Stays.{HaveNoPlace}
 use Rattle.act_lines.proofs.DueLemmas.{refused_by}
-use Rattle.act_lines.proofs.HaltLemmas.{IsHaltOf, halt_no_place, halt_step}
+use Rattle.act_lines.proofs.HaltLemmas.{IsHaltOf, halt_calm, halt_changes, halt_no_place, halt_step}
 use Rattle.act_lines.proofs.KnownLemmas.{known_kept}
 use Rattle.act_lines.proofs.QuietLemmas.{delivers_nothing_so, keeps_stops_so, sets_nothing_so}
 use Rattle.act_lines.proofs.StandLemmas.{flags_stay, stands_on}
@@ -114,12 +112,6 @@ module _ {D : Type 0} {G : Ghosts D} (state : D → DiskState) (start : Option M
         | inr is ↦ subst (MayMake start (take i whole) p) (sym is.1) (may.steps (take i whole) s.node s.shard h.c is.0 h.kind)
       ]
 
-  asks_or_steps : (past : List Event) (e : Event) → IsHaltOf Kind old.slots.items e → MayChange p past e
-  asks_or_steps past e h = elim h.is as (λ _. MayChange p past e) [ inl is ↦ subst (MayChange p past) (sym is) tt | inr is ↦ subst (MayChange p past) (sym is.1) tt ]
-
-  some_events : 0 < length events
-  some_events = let there = place_there events old.net.state.place stands.ready.place in let low = at_within events there.0 (event.Place old.net.state.place there.1) there.2 in omega (arith, low)
-
   -- no such event restarts a replica
   restarts_none : (n s : ℕ) (r : StepReply) → IsHaltOf Kind old.slots.items (event.Step n s call.Restart r) → ⊥
   restarts_none n s r h = by h.slot.node h.slot.shard h.c h.kind h.is
@@ -136,8 +128,8 @@ module _ {D : Type 0} {G : Ghosts D} (state : D → DiskState) (start : Option M
       hears = hears;
     };
     plain = plain;
-    opened = inl some_events;
-    adds = λ i e at. asks_or_steps (events ++ take i more) e (each e (at_in more i e at));
+    opened = inl (some_place events old.net.state.place stands.ready.place);
+    adds = λ i e at. halt_changes Kind old.slots.items p (events ++ take i more) e (each e (at_in more i e at));
     prints = record {
       is_place = λ place e. absurd (let bad : None ≡ Some place = sym (sets_nothing_so a b sets).place ∙ e in cc);
       not_earlier = λ q at was is e f. absurd (let bad : None ≡ Some is = sym (sets_nothing_so a b sets).place ∙ f in cc);
@@ -146,10 +138,7 @@ module _ {D : Type 0} {G : Ghosts D} (state : D → DiskState) (start : Option M
   }
 
   calm : (e : Event) → IsIn more e → IsCalm e
-  calm e m =
-      let h = each e m in
-      let s = h.slot in
-      elim h.is as (λ _. IsCalm e) [ inl is ↦ subst IsCalm (sym is) tt | inr is ↦ subst IsCalm (sym is.1) (may.calm h.c h.kind) ]
+  calm e m = halt_calm Kind may.calm old.slots.items e (each e m)
 
   leaves : PlainLine start turns events a b more → length more ≤ MOST_REQUEST_EVENTS → HearsOf start (InStretch whole (length events) (length whole)) p [] b → IsOfKind [] start p a b → LeavesLine PlainLine start turns [] old.net a b new.net
   leaves line few heard kind = record {
