@@ -1,7 +1,6 @@
 -- After an act the placement stands that stood before it, or the one that its answer prints.
-use Rattle.std.proofs.Common.{◌≡◌, ◌<◌, ◌≤◌, ◌+◌, ℕ, suc, List, [], ◌∷◌, refl, sym, ap, subst, ◌∙◌, inl, inr, arith, Bool, true, false, cond}
-use Rattle.std.specs.Prelude.{Option, Some, None, nat_lt, option_map, if◌then◌else◌}
-use Rattle.std.proofs.lemmas.Bool.{leb-true}
+use Rattle.std.proofs.Common.{◌≡◌, ℕ, List, [], ◌∷◌, refl, sym, ap, ◌∙◌, inl, inr, arith, true}
+use Rattle.std.specs.Prelude.{Option, Some, None, option_map}
 use Rattle.m3_model.specs.declared.act.Act.{Act}
 use Rattle.m3_model.specs.declared.act.Act.TheVariants as act
 use Rattle.m3_model.specs.declared.act.Fate.{Fate}
@@ -39,27 +38,13 @@ use Rattle.cluster_tracks.specs.first_cluster.First.{IsRefusedInit}
 use Rattle.cluster_tracks.specs.cluster_joins.Boots.{IsBooted, IsEndedBy}
 use Rattle.cluster_tracks.specs.cluster_placements.Steps.{IsChanged, kept_in}
 use Rattle.cluster_tracks.specs.told_joins.Lines as lines
+use Rattle.cluster_tracks.proofs.StandLemmas.{newer_next, newer_same}
 use Rattle.cluster_tracks.specs.Acts.{Does, IsInitAnswer, IsServedBy, IsStepAnswer, MayCall, OnMembers, next_call}
 use Rattle.served_cluster.specs.Acts.{Serves}
 use Rattle.served_cluster.specs.Owned.{place_of}
 use Rattle.served_cluster.specs.declared.cluster.Cluster.{Cluster}
 
 -- ---- answers
-
-newer_same : (place : Placement) → newer place (Some place) ≡ place
-newer_same place = by (nat_lt place.version place.version)
-  where
-    by : (t : Bool) → (if t then place else place) ≡ place
-    by true = refl
-    by false = refl
-
--- of a placement and one of the next version the latter stands
-newer_next : (next place : Placement) → next.version ≡ suc place.version → newer next (Some place) ≡ next
-newer_next next place later = by (nat_lt next.version place.version) refl
-  where
-    by : (t : Bool) → nat_lt next.version place.version ≡ t → (if t then place else next) ≡ next
-    by false is = refl
-    by true is = absurd (let low = leb-true (suc next.version) place.version is in omega (arith, low, later))
 
 unmoved_prints_none : (b : Answer) → IsUnmoved b → printed b ≡ None
 unmoved_prints_none (answer.Placed place version) h = absurd h
