@@ -1,28 +1,7 @@
 // Stories of bootstraps that end moves, each line followed by its reply. The replies come from the rules, not from the program.
 
 // A replica joins from two of three where the third is stopped, and the one that lost the message of a write has it from no one but
-// its peer.
-pub const STOPPED_PEER: &str =
-    r#"{"op":"init","rf":3,"shards":1,"seed":0,"nodes":[["a","g1"],["c","g2"],["d","g3"]]}
-{"ok":true,"placement":{"instances":[["a","g1",false],["c","g2",false],["d","g3",false]],"rf":3,"shards":[[["a","available",1],["c","available",1],["d","available",1]]]},"version":1}
-{"op":"namespace","name":"m","block":200,"past":100,"future":50,"retention":500}
-{"ok":true}
-{"op":"now","now":100}
-{"ok":true}
-{"op":"fates","list":[[0,0,"d","lose"]]}
-{"ok":true}
-{"op":"write","ns":"m","id":"hello","t":100,"v":5}
-{"acks":["a","c"],"ok":true}
-{"op":"stop","node":"c"}
-{"ok":true}
-{"op":"replace","node":"a","by":"b","group":"g1"}
-{"ok":true,"placement":{"instances":[["a","g1",true],["b","g1",false],["c","g2",false],["d","g3",false]],"rf":3,"shards":[[["a","leaving",1],["b","initializing",2,"a"],["c","available",1],["d","available",1]]]},"version":2}
-{"op":"bootstrap","node":"b"}
-{"available":[[0,["a","d"]]],"ok":true,"placement":{"instances":[["a","g1",true],["b","g1",false],["c","g2",false],["d","g3",false]],"rf":3,"shards":[[["b","available",2],["c","available",1],["d","available",1]]]},"version":3}
-{"op":"fetch","ns":"m","id":"hello","from":0,"to":200}
-{"ok":true,"series":[{"id":"hello","points":[[100,5]]}],"short":false}"#;
-
-// A node that gave its shard away takes it back: it joins over its old files, and under a tenure of its own.
+// its peer. Then the node that gave its shard away takes it back: it joins over its old files, and under a tenure of its own.
 pub const RETURNED: &str =
     r#"{"op":"init","rf":3,"shards":1,"seed":0,"nodes":[["a","g1"],["c","g2"],["d","g3"]]}
 {"ok":true,"placement":{"instances":[["a","g1",false],["c","g2",false],["d","g3",false]],"rf":3,"shards":[[["a","available",1],["c","available",1],["d","available",1]]]},"version":1}
