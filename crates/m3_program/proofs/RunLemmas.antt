@@ -16,7 +16,7 @@ use Rattle.m3_program.specs.declared.status.Status.TheVariants as status
 use Rattle.m3_program.specs.Causes.{EndsStep}
 use Rattle.m3_program.specs.Exchanges.{Exchange, replies_text, turns_of}
 use Rattle.m3_program.specs.Openings.{IsUnopened, Opened, Unopened}
-use Rattle.m3_program.specs.Runs.{AreWholeLines, Course, IsCutOff, Runs, lines_of}
+use Rattle.m3_program.specs.Runs.{GotTo, AreWholeLines, Course, IsCutOff, Runs, lines_of}
 use Rattle.m3_program.specs.Streams.{Opening, Stage, IsFresh, opening_at, StreamState, TakesOn, Cuts, Finishes, Halted, HaltsLast, HasServed}
 use Rattle.m3_program.specs.Writing.{WritesUntil}
 use Rattle.m3_program.proofs.CloseLemmas.{causes_of_first, kept_of_first}
@@ -238,71 +238,43 @@ abbrev stopped_course : {D : Type 0} {G : Ghosts D} (state : D → DiskState) (f
 stopped_course state first now input before left written text h =
     record { exchanges = h.exchanges ++ h.more; unanswered = h.halted.unanswered; each = h.halted.each; of_input = h.halted.of_input; of_taken = h.halted.of_taken }
 
+-- it wrote this much behind what was written before
+stopped_told : {D : Type 0} {G : Ghosts D} (state : D → DiskState) (first : Opening D) (now : Stage D G) (s : Status) (input before : List ℕ) (left written last : Option (List ℕ)) (text out : List ℕ) → (h : Stopped state first now input before left written text) → Appends written last out
+    → GotTo s (h.earlier ++ h.piece) h.rest (h.told ++ out) (h.exchanges ++ h.more) h.halted.of_input.later → Told state first now s input before left last
+stopped_told state first now s input before left written last text out h wrote got = (
+  h.rest,
+  h.told ++ out,
+  h.left_is,
+  appended_on before h.told written last out h.written_is wrote,
+  record {
+    ran = record { taken = h.earlier ++ h.piece; parts = h.parts; few = h.few; course = stopped_course state first now input before left written text h; got_to = got };
+    promises = h.halted.promises;
+  },
+)
+
 pub step_told : {D : Type 0} {G : Ghosts D} (state : D → DiskState) (first : Opening D) (now : Stage D G) (s : Status) (a b x y u v m n : ℕ) → EndsStep s a b x y u v m n
     → (input before : List ℕ) (left written written2 : Option (List ℕ)) (text : List ℕ) → (s ≡ status.ReadFault → Told state first now status.ReadFault input before left written2)
     → Stopped state first now input before left written text → WritesUntil s written text written2 → Told state first now s input before left written2
 step_told state first now status.ReadFault a b x y u v m n k input before left written written2 text fault h wrote = fault refl
-step_told state first now status.WriteFault a b x y u v m n k input before left written written2 text fault h wrote = (
-  h.rest,
-  h.told ++ wrote.0,
-  h.left_is,
-  appended_on before h.told written written2 wrote.0 h.written_is wrote.2,
-  record {
-    ran = record {
-      taken = h.earlier ++ h.piece;
-      parts = h.parts;
-      few = h.few;
-      course = stopped_course state first now input before left written text h;
-      got_to = record {
-        earlier = h.earlier;
-        piece = h.piece;
-        of_taken = refl;
-        short = h.short;
-        before = h.exchanges;
-        last = h.more;
-        parts = refl;
-        ended = h.ended;
-        part = wrote.0;
-        rest = wrote.1;
-        of_last = sym h.made ∙ wrote.3;
-        are = ap (λ l. l ++ wrote.0) h.told_is;
-      };
-    };
-    promises = h.halted.promises;
-  },
-)
-step_told state first now status.DiskFault a b x y u v m n k input before left written written2 text fault h wrote = (
-  h.rest,
-  h.told ++ text,
-  h.left_is,
-  appended_on before h.told written written2 text h.written_is wrote,
-  record {
-    ran = record {
-      taken = h.earlier ++ h.piece;
-      parts = h.parts;
-      few = h.few;
-      course = stopped_course state first now input before left written text h;
-      got_to = both_made h.exchanges h.more h.told text h.told_is h.made;
-    };
-    promises = h.halted.promises;
-  },
-)
-step_told state first now status.Memory a b x y u v m n k input before left written written2 text fault h wrote = (
-  h.rest,
-  h.told ++ text,
-  h.left_is,
-  appended_on before h.told written written2 text h.written_is wrote,
-  record {
-    ran = record {
-      taken = h.earlier ++ h.piece;
-      parts = h.parts;
-      few = h.few;
-      course = stopped_course state first now input before left written text h;
-      got_to = all_written (h.told ++ text) (h.exchanges ++ h.more) (both_made h.exchanges h.more h.told text h.told_is h.made);
-    };
-    promises = h.halted.promises;
-  },
-)
+step_told state first now status.WriteFault a b x y u v m n k input before left written written2 text fault h wrote =
+    stopped_told state first now status.WriteFault input before left written written2 text wrote.0 h wrote.2 (record {
+      earlier = h.earlier;
+      piece = h.piece;
+      of_taken = refl;
+      short = h.short;
+      before = h.exchanges;
+      last = h.more;
+      parts = refl;
+      ended = h.ended;
+      part = wrote.0;
+      rest = wrote.1;
+      of_last = sym h.made ∙ wrote.3;
+      are = ap (λ l. l ++ wrote.0) h.told_is;
+    })
+step_told state first now status.DiskFault a b x y u v m n k input before left written written2 text fault h wrote =
+    stopped_told state first now status.DiskFault input before left written written2 text text h wrote (both_made h.exchanges h.more h.told text h.told_is h.made)
+step_told state first now status.Memory a b x y u v m n k input before left written written2 text fault h wrote =
+    stopped_told state first now status.Memory input before left written written2 text text h wrote (all_written (h.told ++ text) (h.exchanges ++ h.more) (both_made h.exchanges h.more h.told text h.told_is h.made))
 step_told state first now _ a b x y u v m n k input before left written written2 text fault h wrote = absurd k
 
 -- the words couldn't be read, or the cluster wasn't opened, and nothing was read or written
