@@ -3,7 +3,6 @@ use Rattle.std.proofs.Common.{◌≡◌, inl, inr, ⊎_elim, ℕ, max, [], ◌�
 use Rattle.std.specs.Prelude.{⊤, ◌≢◌, Option, nat_le, OnOk, IfErr, IsErrOf}
 use Rattle.std.specs.Option.{option_or}
 use Rattle.std.proofs.lemmas.Bool.{leb-true}
-use Rattle.m3_model.specs.declared.reason.Damage.{Damage}
 use Rattle.m3_model.specs.declared.reason.Reason.{Reason}
 use Rattle.m3_model.specs.declared.reason.Reason.TheVariants as reason
 use Rattle.m3_model.specs.declared.replica.Standing.{Standing}
@@ -18,7 +17,6 @@ use Rattle.m3_outside.specs.declared.disk_err.DiskErr.{DiskErr}
 use Rattle.m3_outside.specs.declared.disk_err.DiskErr.TheVariants as refused
 use Rattle.shard_store.specs.shard_files.Gains.{a_fence, Brings}
 use Rattle.shard_store.specs.Stores.{StoreState}
-use Rattle.shard_store.proofs.LogStepLemmas.{counts_same}
 use Rattle.cluster_core.specs.Refusals.{shut, unowned, first_refusal}
 use Rattle.cluster_core.specs.Replicas.{after}
 use Rattle.cluster_core.specs.Rows.{IsOwner}
@@ -28,7 +26,8 @@ use Rattle.cluster_core.specs.declared.replica_state.ReplicaState.{ReplicaState}
 use Rattle.replica_machine.specs.declared.work.Work.{Work}
 use Rattle.replica_machine.specs.Machines.{MachineState, IsMachineOf, IsHeldBy, IsRefusedFor, refusal, shut_machine, settled, settled_answer}
 use Rattle.replica_machine.specs.Steps.{reply_by, IsStep, BringsTo}
-use Rattle.replica_machine.proofs.ReasonLemmas.{IsPlain, plain_lawful, plain_no_damage, plain_no_fault, fence_plain, shut_alike, refused_none, refused_some}
+use Rattle.replica_machine.proofs.PlainLemmas.{plain_step, plain_unfailed}
+use Rattle.replica_machine.proofs.ReasonLemmas.{plain_no_fault, fence_plain, shut_alike, refused_none, refused_some}
 use Rattle.replica_machine.proofs.DiskLemmas.{each_step, reply_counts, brings_settled, brings_none_to, each_whole}
 use Rattle.replica_machine.proofs.HeldByLemmas.{held_fence_doubt}
 use Rattle.replica_machine.proofs.StepLemmas.{machine_of, middle, kept_machine, shut_follows, fence_follows}
@@ -50,18 +49,6 @@ pub record FenceBy {D : Type 0} (state : D → DiskState) (old mid : MachineStat
   pub err : IfErr said (λ why. mid ≡ record old { disk = mid.disk })
   pub unchanged : (state old.disk).tells ≡ true → IsErrOf said refused.Memory → Becomes (λ files. files) (state old.disk) (state mid.disk)
   pub disk : Brings (a_fence version) said (state old.disk) (state mid.disk)
-
-left_plain : (r : ReplicaState) (version : ℕ) (why : Reason) → IsPlain why → r ≡ after r (call.Fence version) (reply.Refused why)
-left_plain r version reason.Down plain = refl
-left_plain r version reason.Boot plain = refl
-left_plain r version reason.NotOwned plain = refl
-left_plain r version (reason.Stale fence) plain = refl
-left_plain r version reason.Past plain = refl
-left_plain r version reason.Future plain = refl
-left_plain r version reason.Disk plain = absurd plain
-left_plain r version reason.Cut plain = absurd plain
-left_plain r version reason.Memory plain = absurd plain
-left_plain r version (reason.Corrupt damage) plain = absurd plain
 
 -- an open machine owns its shard at the version
 pub record IsOwning (s : Standing) (t : Option ℕ) (version : ℕ) : Type 0 where
@@ -88,33 +75,16 @@ module _ {D : Type 0} (state : D → DiskState) (old : MachineState D) (version 
   pub fence_refused : (why : Reason) → option_or (shut old.standing) (unowned old.tenure version) ≡ Some why → FenceDone state old version (Err why) old
   fence_refused why first =
       let plain = fence_plain old.standing old.tenure version why first in
-      let fault : (let r : Result ⊤ Reason = Err why in IsErrOf r reason.Disk) → ⊥ = λ f. plain_no_fault why plain (err_same f) in
       record {
         ok = tt;
         err = λ not. refl;
         plain = λ not none. refl;
         unchanged = λ t f. same_becomes (state old.disk);
-        fault = λ f. absurd (fault f);
+        fault = λ f. absurd (plain_unfailed ⊤ why plain f);
         refused = refused_some ⊤ (refusal old (call.Fence version)) why first;
         disk = brings_none_to (a_fence version) why (state old.disk) (plain_no_fault why plain);
-        step = record {
-          lawful = λ made r h past n s given. plain_lawful _ past s r (call.Fence version) (λ e. e) why plain (alike r h ∙ first);
-          follows = λ made r h. subst (λ (q : ReplicaState). IsMachineOf state (state made).images q old) (left_plain r version why plain) h;
-          opens = λ made r h told none. tt;
-          sound = λ damage e. absurd (plain_no_damage why plain damage (reply_damage damage e));
-          tells = refl;
-          faults = counts_same _ _ (λ e. plain_no_fault why plain (reply_same e));
-        };
+        step = plain_step state old (call.Fence version) (λ tells r e. e) why plain (λ made r h. alike r h ∙ first);
       }
-    where
-      err_same : (let r : Result ⊤ Reason = Err why in IsErrOf r reason.Disk) → why ≡ reason.Disk
-      err_same f = cc
-
-      reply_same : reply.Refused why ≡ reply.Refused reason.Disk → why ≡ reason.Disk
-      reply_same e = cc
-
-      reply_damage : (damage : Damage) → reply.Refused why ≡ reply.Refused (reason.Corrupt damage) → why ≡ reason.Corrupt damage
-      reply_damage damage e = cc
 
   module _ (first : option_or (shut old.standing) (unowned old.tenure version) ≡ None) (mid : MachineState D) where
     is_owner : {base : Files → Type 0} → (r : ReplicaState) → IsMachineOf state base r old → IsOwner r version

@@ -19,10 +19,9 @@ use Rattle.shard_store.proofs.Counts.{counts_for}
 use Rattle.shard_store.specs.Flushes.{AreFlushed, HasFlushed}
 use Rattle.shard_store.specs.Flushes as store
 use Rattle.shard_store.specs.Stores.{StoreState, closed_over}
-use Rattle.shard_store.proofs.LogStepLemmas.{counts_same}
 use Rattle.shard_store.proofs.RearrangeLemmas.{rearranges_for}
 use Rattle.cluster_core.specs.Refusals.{shut, first_refusal}
-use Rattle.cluster_core.specs.Replicas.{after, down}
+use Rattle.cluster_core.specs.Replicas.{down}
 use Rattle.cluster_core.specs.declared.event.StepCall.TheVariants as call
 use Rattle.cluster_core.specs.declared.event.StepReply.TheVariants as reply
 use Rattle.cluster_core.specs.declared.replica_state.ReplicaState.{ReplicaState}
@@ -36,7 +35,8 @@ use Rattle.replica_machine.specs.Steps.{reply_by, IsStep}
 use Rattle.replica_machine.specs.Upkeep.{IsFlushed, IsPartFlushed}
 use Rattle.replica_machine.proofs.FilesLemmas.{damage_named, plain_named, plain_left, refused_some, refused_none, shut_is, moved_is}
 use Rattle.replica_machine.proofs.KeptLemmas.{images_of}
-use Rattle.replica_machine.proofs.ReasonLemmas.{IsPlain, plain_lawful, plain_no_damage, plain_no_fault, shut_by}
+use Rattle.replica_machine.proofs.PlainLemmas.{plain_step, plain_unfailed}
+use Rattle.replica_machine.proofs.ReasonLemmas.{IsPlain, shut_by}
 use Rattle.replica_machine.proofs.RearrangedLemmas as rearranged
 use Rattle.replica_machine.proofs.StepLemmas.{machine_of, whatever_work}
 
@@ -50,18 +50,6 @@ pub record FlushDone {D : Type 0} (state : D → DiskState) (old : MachineState 
   pub form : (damage : Damage) → IsErrOf result (reason.Corrupt damage) → IsFileDamage damage
   pub disk : Rearranges old.content (IsErrOf result reason.Disk) (state old.disk) (state new.disk)
   pub step : IsStep state old (call.Flush rules) (reply_by (λ n. reply.Count n) result) new
-
-kept_plain : (r : ReplicaState) (rules : Rules) (why : Reason) → IsPlain why → r ≡ after r (call.Flush rules) (reply.Refused why)
-kept_plain r rules reason.Down plain = refl
-kept_plain r rules reason.Boot plain = refl
-kept_plain r rules reason.NotOwned plain = refl
-kept_plain r rules (reason.Stale fence) plain = refl
-kept_plain r rules reason.Past plain = refl
-kept_plain r rules reason.Future plain = refl
-kept_plain r rules reason.Disk plain = absurd plain
-kept_plain r rules reason.Cut plain = absurd plain
-kept_plain r rules reason.Memory plain = absurd plain
-kept_plain r rules (reason.Corrupt damage) plain = absurd plain
 
 abbrev Said : Type 0
 Said = Result ℕ Reason
@@ -81,31 +69,15 @@ module _ {D : Type 0} (state : D → DiskState) (old : MachineState D) (rules : 
         plain = λ not. refl;
         refused = refused_some ℕ state old (refusal old (call.Flush rules)) why first;
         form = plain_named ℕ why plain;
-        disk = rearranges_for old.content ⊥ _ (state old.disk) (state old.disk) (λ f. plain_no_fault why plain (err_same f)) nothing;
-        step = record {
-          lawful = λ made r h past n s given. plain_lawful _ past s r (call.Flush rules) (λ e. e) why plain (alike r h ∙ first);
-          follows = λ made r h. subst (λ (q : ReplicaState). IsMachineOf state (state made).images q old) (kept_plain r rules why plain) h;
-          opens = λ made r h told none. tt;
-          sound = λ damage e. absurd (plain_no_damage why plain damage (reply_damage damage e));
-          tells = refl;
-          faults = counts_same _ _ (λ e. plain_no_fault why plain (reply_same e));
-        };
+        disk = rearranges_for old.content ⊥ _ (state old.disk) (state old.disk) (plain_unfailed ℕ why plain) nothing;
+        step = plain_step state old (call.Flush rules) (λ tells r e. e) why plain (λ made r h. alike r h ∙ first);
       }
     where
-      err_same : (let r : Said = Err why in IsErrOf r reason.Disk) → why ≡ reason.Disk
-      err_same f = cc
-
       err_memory : (let r : Said = Err why in IsErrOf r reason.Memory) → why ≡ reason.Memory
       err_memory f = cc
 
       no_memory : (w : Reason) → IsPlain w → w ≢ reason.Memory
       no_memory w plain e = subst IsPlain e plain
-
-      reply_same : reply.Refused why ≡ reply.Refused reason.Disk → why ≡ reason.Disk
-      reply_same e = cc
-
-      reply_damage : (damage : Damage) → reply.Refused why ≡ reply.Refused (reason.Corrupt damage) → why ≡ reason.Corrupt damage
-      reply_damage damage e = cc
 
 -- by a machine's parts: what the store's flush did
 module _ {D : Type 0} (state : D → DiskState) (s : Standing) (tenure : Option ℕ) (begun : ℕ) (work : Work) (before now : StoreState D) (rules : Rules) (is_open : s ≡ standing.Open) (F : Type 0) (moves : Rearranges before.content F (state before.disk) (state now.disk)) where

@@ -5,6 +5,7 @@ pub mod ReasonLemmas
 pub mod DiskLemmas
 pub mod HeldByLemmas
 pub mod StepLemmas
+pub mod PlainLemmas
 pub mod PutLemmas
 pub mod FenceLemmas
 pub mod OtherLemmas

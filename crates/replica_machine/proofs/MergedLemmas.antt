@@ -1,7 +1,6 @@
 -- A merge is a step of the core.
-use Rattle.std.proofs.Common.{◌≡◌, ◌≢◌, ◌≤◌, ◌∙◌, inl, inr, ⊎_elim, ℕ, max, List, ◌++◌, length, All, Any, Bool, true, false, refl, sym, ap, subst, arith, Option, Some, None, Result, Ok, Err}
+use Rattle.std.proofs.Common.{◌≡◌, ◌≢◌, ◌≤◌, ◌∙◌, inl, inr, ⊎_elim, ℕ, max, List, ◌++◌, Bool, true, false, refl, sym, ap, subst, arith, Option, Some, None, Result, Ok, Err}
 use Rattle.std.specs.Prelude.{◌⊎◌, OnOk, IfOk, IfErr, IsErrOf}
-use Rattle.std.specs.Option.{option_or}
 use Rattle.m3_model.specs.Answers.{HasPoint}
 use Rattle.m3_model.specs.Contents.{Contents, Holds, key_of, point_at}
 use Rattle.m3_model.specs.Members.{IsIn}
@@ -21,7 +20,7 @@ use Rattle.placement_core.proofs.ListLemmas.{All-from_each, each-from_All, Any-f
 use Rattle.shard_store.specs.block_buffer.Joins.{joined}
 use Rattle.shard_store.specs.shard_files.Damage.{OfForm}
 use Rattle.shard_store.specs.shard_files.FilesHold.{FilesHold}
-use Rattle.shard_store.specs.shard_files.Gains.{Gains, MayGain, nothing}
+use Rattle.shard_store.specs.shard_files.Gains.{Gains, MayGain}
 use Rattle.shard_store.specs.fileset_read.Volumes.{IsUndamaged}
 use Rattle.shard_store.specs.fileset_read.declared.file_err.FileErr.{FileErr}
 use Rattle.shard_store.specs.fileset_read.declared.file_err.FileErr.TheVariants as unread
@@ -37,12 +36,11 @@ use Rattle.shard_store.proofs.WholeLemmas.{whole_err, whole_is_part, whole_none,
 use Rattle.shard_store.proofs.shard_files_proofs.CountedLemmas.{IsIn-filter, filter-IsIn}
 use Rattle.shard_store.proofs.shard_files_proofs.GainLemmas.{≤ℤ_trans, covers_itself, covers_then}
 use Rattle.cluster_core.specs.Refusals.{untenured, first_refusal}
-use Rattle.cluster_core.specs.Replicas.{IsGone, Shows, after, down}
+use Rattle.cluster_core.specs.Replicas.{IsGone, Shows, down}
 use Rattle.cluster_core.specs.declared.event.StepCall.TheVariants as call
 use Rattle.cluster_core.specs.declared.event.StepReply.TheVariants as reply
 use Rattle.cluster_core.specs.declared.replica_state.ReplicaState.{ReplicaState}
 use Rattle.replica_machine.specs.declared.work.Work.{Work}
-use Rattle.replica_machine.specs.Bases.{CameFrom}
 use Rattle.replica_machine.specs.Boots.{IsRefused}
 use Rattle.replica_machine.specs.Damages.{told_of, IsFileDamage}
 use Rattle.replica_machine.specs.Machines.{MachineState, IsMachineOf, IsHeldBy, refusal, unheld, shut_machine}
@@ -50,13 +48,13 @@ use Rattle.replica_machine.specs.Merged.{IsMerged}
 use Rattle.replica_machine.specs.Reading.{IsRefusedReading, files_answer}
 use Rattle.replica_machine.specs.Works.{with_merge, work_after}
 use Rattle.replica_machine.specs.Steps.{reply_by, IsStep}
-use Rattle.replica_machine.proofs.BaseLemmas.{came_nothing}
 use Rattle.replica_machine.proofs.DiskLemmas.{each_step, each_whole}
 use Rattle.replica_machine.proofs.FilesLemmas.{damage_named, plain_named, plain_left, refused_some, refused_none, shut_is}
-use Rattle.replica_machine.proofs.HeldByLemmas.{held_nothing, held_part}
+use Rattle.replica_machine.proofs.HeldByLemmas.{held_part}
 use Rattle.replica_machine.proofs.PagedLemmas.{holds_it, owning}
-use Rattle.replica_machine.proofs.ReasonLemmas.{IsPlain, plain_lawful, plain_no_damage, plain_no_fault, shut_alike, unheld_plain}
-use Rattle.replica_machine.proofs.StepLemmas.{machine_of, stands_at, kept_machine, shut_follows}
+use Rattle.replica_machine.proofs.PlainLemmas.{plain_step, plain_unfailed}
+use Rattle.replica_machine.proofs.ReasonLemmas.{shut_alike, unheld_plain}
+use Rattle.replica_machine.proofs.StepLemmas.{machine_of, kept_machine, shut_follows, disk_moved, shut_kept}
 
 -- ---- files that a replica may begin with, where a page was merged
 
@@ -138,18 +136,6 @@ pub record MergeDone {D : Type 0} (state : D → DiskState) (old : MachineState 
   pub disk : BringsWhole (of_points (risen_in old.content page.points)) (IsErrOf result reason.Disk) result (state old.disk) (state new.disk)
   pub step : IsStep state old (call.Merge page) (reply_by (λ n. reply.Count n) result) new
 
-kept_plain : (r : ReplicaState) (page : Page) (why : Reason) → IsPlain why → r ≡ after r (call.Merge page) (reply.Refused why)
-kept_plain r page reason.Down plain = refl
-kept_plain r page reason.Boot plain = refl
-kept_plain r page reason.NotOwned plain = refl
-kept_plain r page (reason.Stale fence) plain = refl
-kept_plain r page reason.Past plain = refl
-kept_plain r page reason.Future plain = refl
-kept_plain r page reason.Disk plain = absurd plain
-kept_plain r page reason.Cut plain = absurd plain
-kept_plain r page reason.Memory plain = absurd plain
-kept_plain r page (reason.Corrupt damage) plain = absurd plain
-
 module _ {D : Type 0} (state : D → DiskState) (old : MachineState D) (page : Page) where
   abbrev Said : Type 0
   Said = Result ℕ Reason
@@ -170,25 +156,9 @@ module _ {D : Type 0} (state : D → DiskState) (old : MachineState D) (page : P
         plain = λ not. refl;
         refused = refused_some ℕ state old (refusal old (call.Merge page)) why first;
         form = plain_named ℕ why plain;
-        disk = whole_none (of_points coming) (let r : Said = Err why in IsErrOf r reason.Disk) (Err why) (state old.disk) why refl (λ f. plain_no_fault why plain (err_same f));
-        step = record {
-          lawful = λ made r h past n s given. plain_lawful _ past s r (call.Merge page) (λ e. e) why plain (alike r h ∙ first);
-          follows = λ made r h. subst (λ (q : ReplicaState). IsMachineOf state (state made).images q old) (kept_plain r page why plain) h;
-          opens = λ made r h told none. tt;
-          sound = λ damage e. absurd (plain_no_damage why plain damage (reply_damage damage e));
-          tells = refl;
-          faults = counts_same _ _ (λ e. plain_no_fault why plain (reply_same e));
-        };
+        disk = whole_none (of_points coming) (let r : Said = Err why in IsErrOf r reason.Disk) (Err why) (state old.disk) why refl (plain_unfailed ℕ why plain);
+        step = plain_step state old (call.Merge page) (λ tells r e. e) why plain (λ made r h. alike r h ∙ first);
       }
-    where
-      err_same : (let r : Said = Err why in IsErrOf r reason.Disk) → why ≡ reason.Disk
-      err_same f = cc
-
-      reply_same : reply.Refused why ≡ reply.Refused reason.Disk → why ≡ reason.Disk
-      reply_same e = cc
-
-      reply_damage : (damage : Damage) → reply.Refused why ≡ reply.Refused (reason.Corrupt damage) → why ≡ reason.Corrupt damage
-      reply_damage damage e = cc
 
   module _ (served : unheld old ≡ None) where
     -- no memory before the store was called
@@ -214,14 +184,6 @@ module _ {D : Type 0} (state : D → DiskState) (old : MachineState D) (page : P
         never f = cc
 
     module _ (d : D) where
-      -- where nothing came
-      module _ (same : (state d).tells ≡ (state old.disk).tells) (steps : (state old.disk).tells ≡ true → (c : Files) → (state d).images c → StepOf (Gains nothing) (state old.disk).images c) where
-        closed : {base : Files → Type 0} → (r : ReplicaState) → IsMachineOf state base r old → IsMachineOf state base (down r) (shut_machine standing.Down old d)
-        closed {base} r h =
-            let q = down r in
-            shut_follows state base r q old standing.Down d (λ e. cc) refl refl refl refl h (λ b. each_step (state old.disk) (state d) (IsHeldBy r) (IsHeldBy q) same steps (λ x y gains held. held_nothing r q (stands_at r standing.Down) x y gains held) (h.files b))
-            (λ none. each_step (state old.disk) (state d) (CameFrom base r.tried) (CameFrom base r.tried) same steps (λ x y gains came. came_nothing base r.tried x y gains came) (h.unbegun none)) (each_whole (state old.disk) (state d) base same steps (λ x y gains. gains.snapshots) h.snapshots)
-
       -- with points that are in the log
       merged_follows : {base : Files → Type 0} → (r : ReplicaState) (buffered content : Contents) (work : Work) → (state d).tells ≡ (state old.disk).tells
           → ((state old.disk).tells ≡ true → (c : Files) → (state d).images c → StepOf (Gains (of_points coming)) (state old.disk).images c) → ((state old.disk).tells ≡ true → content ≡ joined old.content page.points)
@@ -332,7 +294,7 @@ module _ {D : Type 0} (state : D → DiskState) (old : MachineState D) (page : P
             (λ f. absurd (never f)) (λ f. absurd (fine f)) brings;
         step = record {
           lawful = λ made r h past n s given. record { reads = refl; taken = alike r h ∙ served; clock = tt };
-          follows = λ made r h. closed brings.tells (λ t. brings.unchanged t fine) r h;
+          follows = λ made r h. shut_kept state (state made).images r old d brings.tells (λ t. brings.unchanged t fine) h;
           opens = λ made r h told none. tt;
           sound = λ damage e tells. absurd (untold tells);
           tells = brings.tells;
@@ -359,15 +321,12 @@ module _ {D : Type 0} (state : D → DiskState) (s : Standing) (tenure : Option 
       → machine_of now_s tenure begun w now ≡ record (machine_of s tenure begun work before) { disk = now.disk; buffered = now.buffered; content = now.content; work = w }
   moved now_s w same is = ap (λ (x : Standing). machine_of x tenure begun w now) same ∙ ap (machine_of s tenure begun w) is
 
-  still : (now_s : Standing) → now_s ≡ s → now ≡ record before { disk = now.disk } → machine_of now_s tenure begun work now ≡ record (machine_of s tenure begun work before) { disk = now.disk }
-  still now_s same is = ap (λ (x : Standing). machine_of x tenure begun work now) same ∙ ap (machine_of s tenure begun work) is
-
   merge_said : (said : Result ℕ FileErr) (now_s : Standing) → IfOk said (HasMerged state page.points before now) → (IsErrOf said unread.Memory → now ≡ record before { disk = now.disk }) → IfErr said (λ why. why ≢ unread.Memory → now ≡ closed_over now.disk)
       → ((state before.disk).tells ≡ true → IfErr said IsUndamaged) → BringsWhole (of_points (risen_in before.content page.points)) (IsErrOf said unread.Disk) said (state before.disk) (state now.disk) → OnOk said (now_s ≡ s)
       → IfErr said (λ why. why ≢ unread.Memory → now_s ≡ standing.Down) → (IsErrOf said unread.Memory → now_s ≡ s) → Done (files_answer said) (machine_of now_s tenure begun (work_after with_merge said work) now)
   merge_said (Ok n) now_s merged memory closed sound brings stays down same =
       subst (Done (Ok n)) (sym (moved now_s (with_merge n work) stays merged.same)) (merge_ok state (machine_of s tenure begun work before) page served now.disk n now.buffered now.content (record { same = refl; buffered = merged.buffered; content = merged.content; count = merged.count }) brings)
-  merge_said (Err unread.Memory) now_s merged memory closed sound brings stays down same = subst (Done (Err reason.Memory)) (sym (still now_s (same refl) (memory refl))) (merge_memory state (machine_of s tenure begun work before) page served now.disk brings)
+  merge_said (Err unread.Memory) now_s merged memory closed sound brings stays down same = subst (Done (Err reason.Memory)) (sym (disk_moved s tenure begun work before now now_s (same refl) (memory refl))) (merge_memory state (machine_of s tenure begun work before) page served now.disk brings)
   merge_said (Err unread.Disk) now_s merged memory closed sound brings stays down same =
       subst (Done (Err reason.Disk)) (sym (shut_is s tenure begun work before now now_s (down (λ e. cc)) (closed (λ e. cc)))) (merge_fault state (machine_of s tenure begun work before) page served now.disk brings)
   merge_said (Err (unread.Form file)) now_s merged memory closed sound brings stays down same =

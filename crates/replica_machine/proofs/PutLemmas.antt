@@ -6,7 +6,6 @@ use Rattle.m3_model.specs.Contents.{raised}
 use Rattle.m3_outside.proofs.Moments.{same_becomes}
 use Rattle.m3_model.specs.Rules.{InWindow}
 use Rattle.m3_model.specs.declared.point.Point.{Point}
-use Rattle.m3_model.specs.declared.reason.Damage.{Damage}
 use Rattle.m3_model.specs.declared.reason.Reason.{Reason}
 use Rattle.m3_model.specs.declared.reason.Reason.TheVariants as reason
 use Rattle.m3_model.specs.declared.replica.Standing.{Standing}
@@ -19,9 +18,7 @@ use Rattle.m3_outside.specs.declared.disk_err.DiskErr.{DiskErr}
 use Rattle.m3_outside.specs.declared.disk_err.DiskErr.TheVariants as refused
 use Rattle.shard_store.specs.shard_files.Gains.{a_point, Brings}
 use Rattle.shard_store.specs.Stores.{StoreState}
-use Rattle.shard_store.proofs.LogStepLemmas.{counts_same}
 use Rattle.cluster_core.specs.Refusals.{shut, unowned, outdated, outside, first_refusal}
-use Rattle.cluster_core.specs.Replicas.{after}
 use Rattle.cluster_core.specs.declared.event.StepCall.TheVariants as call
 use Rattle.cluster_core.specs.declared.event.StepReply.TheVariants as reply
 use Rattle.cluster_core.specs.declared.replica_state.ReplicaState.{ReplicaState}
@@ -29,7 +26,8 @@ use Rattle.replica_machine.specs.declared.work.Work.{Work}
 use Rattle.replica_machine.specs.Machines.{MachineState, IsMachineOf, IsHeldBy, IsRefusedFor, refusal, unserved, shut_machine, settled, settled_answer}
 use Rattle.replica_machine.specs.Steps.{reply_by, IsStep, BringsTo}
 use Rattle.replica_machine.proofs.RefusalLemmas.{up}
-use Rattle.replica_machine.proofs.ReasonLemmas.{IsPlain, plain_lawful, plain_no_damage, plain_no_fault, put_plain, shut_alike, after_three, refused_none, refused_some}
+use Rattle.replica_machine.proofs.PlainLemmas.{plain_step, plain_unfailed}
+use Rattle.replica_machine.proofs.ReasonLemmas.{plain_no_fault, put_plain, shut_alike, after_three, refused_none, refused_some}
 use Rattle.replica_machine.proofs.DiskLemmas.{each_step, reply_counts, brings_settled, brings_none_to, each_whole}
 use Rattle.replica_machine.proofs.HeldByLemmas.{held_doubt}
 use Rattle.replica_machine.proofs.StepLemmas.{machine_of, middle, kept_machine, shut_follows, put_follows, serving}
@@ -54,18 +52,6 @@ pub record PutBy {D : Type 0} (state : D → DiskState) (old mid : MachineState 
   pub unchanged : (state old.disk).tells ≡ true → IsErrOf said refused.Memory → Becomes (λ files. files) (state old.disk) (state mid.disk)
   pub disk : Brings (a_point p) said (state old.disk) (state mid.disk)
 
-left_plain : (r : ReplicaState) (client number version : ℕ) (rules : Rules) (p : Point) (why : Reason) → IsPlain why → r ≡ after r (call.Put client number rules version p) (reply.Refused why)
-left_plain r client number version rules p reason.Down plain = refl
-left_plain r client number version rules p reason.Boot plain = refl
-left_plain r client number version rules p reason.NotOwned plain = refl
-left_plain r client number version rules p (reason.Stale fence) plain = refl
-left_plain r client number version rules p reason.Past plain = refl
-left_plain r client number version rules p reason.Future plain = refl
-left_plain r client number version rules p reason.Disk plain = absurd plain
-left_plain r client number version rules p reason.Cut plain = absurd plain
-left_plain r client number version rules p reason.Memory plain = absurd plain
-left_plain r client number version rules p (reason.Corrupt damage) plain = absurd plain
-
 module _ {D : Type 0} (state : D → DiskState) (old : MachineState D) (version : ℕ) (rules : Rules) (p : Point) where
   alike : {base : Files → Type 0} → (r : ReplicaState) (client number : ℕ) → IsMachineOf state base r old → first_refusal r (call.Put client number rules version p) ≡ refusal old (call.Put client number rules version p)
   alike r client number h = shut_alike state r old h (λ t f. option_or (unowned t version) (option_or (outdated f version) (outside rules p)))
@@ -74,34 +60,17 @@ module _ {D : Type 0} (state : D → DiskState) (old : MachineState D) (version 
   pub put_refused : (why : Reason) → option_or (shut old.standing) (option_or (unowned old.tenure version) (option_or (outdated old.fence version) (outside rules p))) ≡ Some why → PutDone state old version rules p (Err why) old
   put_refused why first =
       let plain = put_plain old.standing old.tenure old.fence version rules p why first in
-      let fault : (let r : Result ⊤ Reason = Err why in IsErrOf r reason.Disk) → ⊥ = λ f. plain_no_fault why plain (err_same f) in
       record {
         ok = tt;
         window = tt;
         err = λ not. refl;
         plain = λ not none. refl;
         unchanged = λ t f. same_becomes (state old.disk);
-        fault = λ f. absurd (fault f);
+        fault = λ f. absurd (plain_unfailed ⊤ why plain f);
         refused = λ client number. refused_some ⊤ (refusal old (call.Put client number rules version p)) why first;
         disk = brings_none_to (a_point p) why (state old.disk) (plain_no_fault why plain);
-        step = λ client number. record {
-          lawful = λ made r h past n s given. plain_lawful _ past s r (call.Put client number rules version p) (λ e. e) why plain (alike r client number h ∙ first);
-          follows = λ made r h. subst (λ (q : ReplicaState). IsMachineOf state (state made).images q old) (left_plain r client number version rules p why plain) h;
-          opens = λ made r h told none. tt;
-          sound = λ damage e. absurd (plain_no_damage why plain damage (reply_damage damage e));
-          tells = refl;
-          faults = counts_same _ _ (λ e. plain_no_fault why plain (reply_same e));
-        };
+        step = λ client number. plain_step state old (call.Put client number rules version p) (λ tells r e. e) why plain (λ made r h. alike r client number h ∙ first);
       }
-    where
-      err_same : (let r : Result ⊤ Reason = Err why in IsErrOf r reason.Disk) → why ≡ reason.Disk
-      err_same f = cc
-
-      reply_same : reply.Refused why ≡ reply.Refused reason.Disk → why ≡ reason.Disk
-      reply_same e = cc
-
-      reply_damage : (damage : Damage) → reply.Refused why ≡ reply.Refused (reason.Corrupt damage) → why ≡ reason.Corrupt damage
-      reply_damage damage e = cc
 
   module _ (served : unserved old version ≡ None) (in_window : InWindow rules p) (inside : outside rules p ≡ None) (mid : MachineState D) where
     none_first : option_or (shut old.standing) (option_or (unowned old.tenure version) (option_or (outdated old.fence version) (outside rules p))) ≡ None

@@ -1,5 +1,5 @@
 -- A read is a step of the core.
-use Rattle.std.proofs.Common.{◌≡◌, ◌≢◌, ℕ, List, refl, sym, ap, subst, ◌∙◌, true, Option, Some, None, Result, Ok, Err}
+use Rattle.std.proofs.Common.{◌≡◌, ◌≢◌, ℕ, List, refl, sym, subst, ◌∙◌, true, Option, Some, None, Result, Ok, Err}
 use Rattle.std.specs.Prelude.{OnOk, IfOk, IfErr, IsErrOf, slice_get}
 use Rattle.std.specs.Option.{option_or}
 use Rattle.std.proofs.lemmas.Bool.{OnTrue_from}
@@ -15,19 +15,16 @@ use Rattle.m3_model.specs.declared.rules.Rules.{Rules}
 use Rattle.m3_model.specs.declared.rules.Space.{Space}
 use Rattle.m3_outside.specs.Files.{Files}
 use Rattle.m3_outside.specs.DiskCalls.{LeavesFiles}
-use Rattle.m3_outside.specs.DiskState.{DiskState, StepOf}
-use Rattle.m3_outside.proofs.Moments.{step_as}
+use Rattle.m3_outside.specs.DiskState.{DiskState}
 use Rattle.shard_store.proofs.commit_log_proofs.Leaves.{leaves_none, leaves_as}
 use Rattle.shard_store.specs.shard_files.Damage.{OfForm}
-use Rattle.shard_store.specs.shard_files.Gains.{nothing, Gains}
 use Rattle.shard_store.specs.fileset_read.Volumes.{IsUndamaged}
 use Rattle.shard_store.specs.fileset_read.declared.file_err.FileErr.{FileErr}
 use Rattle.shard_store.specs.fileset_read.declared.file_err.FileErr.TheVariants as unread
 use Rattle.shard_store.proofs.Counts.{counts_for}
 use Rattle.shard_store.specs.Stores.{StoreState, closed_over}
-use Rattle.shard_store.proofs.LogStepLemmas.{counts_same}
 use Rattle.cluster_core.specs.Refusals.{unowned, outdated, first_refusal}
-use Rattle.cluster_core.specs.Replicas.{after, down}
+use Rattle.cluster_core.specs.Replicas.{down}
 use Rattle.cluster_core.specs.declared.event.StepCall.{StepCall}
 use Rattle.cluster_core.specs.declared.event.StepCall.TheVariants as call
 use Rattle.cluster_core.specs.declared.event.StepReply.TheVariants as reply
@@ -35,17 +32,15 @@ use Rattle.cluster_core.specs.declared.replica_state.ReplicaState.{ReplicaState}
 use Rattle.replica_machine.specs.declared.work.Work.{Work}
 use Rattle.replica_machine.specs.Boots.{IsRefused}
 use Rattle.replica_machine.specs.Damages.{told_of, IsFileDamage}
-use Rattle.replica_machine.specs.Machines.{MachineState, IsMachineOf, IsHeldBy, IsLiveAnswer, refusal, unserved, shut_machine}
+use Rattle.replica_machine.specs.Machines.{MachineState, IsMachineOf, IsLiveAnswer, refusal, unserved, shut_machine}
 use Rattle.replica_machine.specs.Reading.{IsRefusedReading, files_answer}
 use Rattle.replica_machine.specs.Steps.{reply_by, IsStep}
-use Rattle.replica_machine.proofs.BaseLemmas.{came_nothing}
-use Rattle.replica_machine.proofs.DiskLemmas.{each_step, each_whole, stays_nothing}
+use Rattle.replica_machine.proofs.DiskLemmas.{leaves_nothing}
 use Rattle.replica_machine.proofs.FilesLemmas.{damage_named, plain_named, plain_left, refused_some, refused_none, shut_is}
-use Rattle.replica_machine.proofs.HeldByLemmas.{held_nothing}
 use Rattle.replica_machine.proofs.LiveLemmas.{live_found}
-use Rattle.replica_machine.proofs.ReasonLemmas.{IsPlain, plain_lawful, plain_no_damage, plain_no_fault, served_plain, shut_alike}
-use Rattle.replica_machine.proofs.StepLemmas.{machine_of, stands_at, kept_machine, shut_follows, serving, shown}
-use Rattle.replica_machine.specs.Bases.{CameFrom}
+use Rattle.replica_machine.proofs.PlainLemmas.{plain_step, plain_unfailed}
+use Rattle.replica_machine.proofs.ReasonLemmas.{served_plain, shut_alike}
+use Rattle.replica_machine.proofs.StepLemmas.{machine_of, kept_machine, serving, shown, disk_moved, shut_kept}
 
 -- the call
 abbrev pub read_of : ℕ → ℕ → Rules → ℕ → Pick → ℕ → ℕ → StepCall
@@ -62,18 +57,6 @@ pub record ReadDone {D : Type 0} (state : D → DiskState) (old : MachineState D
   pub form : (damage : Damage) → IsErrOf result (reason.Corrupt damage) → IsFileDamage damage
   pub disk : LeavesFiles (IsErrOf result reason.Disk) (state old.disk) (state new.disk)
   pub step : (client number : ℕ) → IsStep state old (read_of client number rules version pick from to) (reply_by (λ series. reply.Found series) result) new
-
-kept_plain : (r : ReplicaState) (client number version : ℕ) (rules : Rules) (pick : Pick) (from to : ℕ) (why : Reason) → IsPlain why → r ≡ after r (read_of client number rules version pick from to) (reply.Refused why)
-kept_plain r client number version rules pick from to reason.Down plain = refl
-kept_plain r client number version rules pick from to reason.Boot plain = refl
-kept_plain r client number version rules pick from to reason.NotOwned plain = refl
-kept_plain r client number version rules pick from to (reason.Stale fence) plain = refl
-kept_plain r client number version rules pick from to reason.Past plain = refl
-kept_plain r client number version rules pick from to reason.Future plain = refl
-kept_plain r client number version rules pick from to reason.Disk plain = absurd plain
-kept_plain r client number version rules pick from to reason.Cut plain = absurd plain
-kept_plain r client number version rules pick from to reason.Memory plain = absurd plain
-kept_plain r client number version rules pick from to (reason.Corrupt damage) plain = absurd plain
 
 module _ {D : Type 0} (state : D → DiskState) (old : MachineState D) (rules : Rules) (version : ℕ) (pick : Pick) (from to : ℕ) where
   abbrev Said : Type 0
@@ -94,42 +77,12 @@ module _ {D : Type 0} (state : D → DiskState) (old : MachineState D) (rules : 
         plain = λ client number not. refl;
         refused = λ client number. refused_some (List Series) state old (refusal old (read_of client number rules version pick from to)) why first;
         form = plain_named (List Series) why plain;
-        disk = leaves_none _ (state old.disk) (λ f. plain_no_fault why plain (err_same f));
-        step = λ client number. record {
-          lawful = λ made r h past n s given. plain_lawful _ past s r (read_of client number rules version pick from to) (λ e. e) why plain (alike r client number h ∙ first);
-          follows = λ made r h. subst (λ (q : ReplicaState). IsMachineOf state (state made).images q old) (kept_plain r client number version rules pick from to why plain) h;
-          opens = λ made r h told none. tt;
-          sound = λ damage e. absurd (plain_no_damage why plain damage (reply_damage damage e));
-          tells = refl;
-          faults = counts_same _ _ (λ e. plain_no_fault why plain (reply_same e));
-        };
+        disk = leaves_none _ (state old.disk) (plain_unfailed (List Series) why plain);
+        step = λ client number. plain_step state old (read_of client number rules version pick from to) (λ tells r e. e) why plain (λ made r h. alike r client number h ∙ first);
       }
-    where
-      err_same : (let r : Said = Err why in IsErrOf r reason.Disk) → why ≡ reason.Disk
-      err_same f = cc
-
-      reply_same : reply.Refused why ≡ reply.Refused reason.Disk → why ≡ reason.Disk
-      reply_same e = cc
-
-      reply_damage : (damage : Damage) → reply.Refused why ≡ reply.Refused (reason.Corrupt damage) → why ≡ reason.Corrupt damage
-      reply_damage damage e = cc
 
   -- the files stayed
   module _ (served : unserved old version ≡ None) (F : Type 0) (d : D) (leaves : LeavesFiles F (state old.disk) (state d)) where
-    steps : (state old.disk).tells ≡ true → (c : Files) → (state d).images c → StepOf (Gains nothing) (state old.disk).images c
-    steps told c image = step_as (λ x y was is. stays_nothing x y is) c ((leaves.proceeds.told told).images c image)
-
-    kept : {base : Files → Type 0} → (r : ReplicaState) → IsMachineOf state base r old → IsMachineOf state base r (record old { disk = d })
-    kept {base} r h = kept_machine state base r old d leaves.proceeds.tells steps h
-
-    closed : {base : Files → Type 0} → (r : ReplicaState) → IsMachineOf state base r old → IsMachineOf state base (down r) (shut_machine standing.Down old d)
-    closed {base} r h =
-        let q = down r in
-        shut_follows state base r q old standing.Down d (λ e. cc) refl refl refl refl h
-        (λ b. each_step (state old.disk) (state d) (IsHeldBy r) (IsHeldBy q) leaves.proceeds.tells steps (λ x y gains held. held_nothing r q (stands_at r standing.Down) x y gains held) (h.files b))
-        (λ none. each_step (state old.disk) (state d) (CameFrom base r.tried) (CameFrom base r.tried) leaves.proceeds.tells steps (λ x y gains came. came_nothing base r.tried x y gains came) (h.unbegun none))
-        (each_whole (state old.disk) (state d) base leaves.proceeds.tells steps (λ x y gains. gains.snapshots) h.snapshots)
-
     read_ok : (space : Space) (series : List Series) → slice_get rules.spaces (space_picked pick) ≡ Some space → ((state old.disk).tells ≡ true → IsLiveAnswer old.content rules pick from to series) → IsOrdered series
         → ReadDone state old rules version pick from to (Ok series) (record old { disk = d })
     read_ok space series at answer ordered = record {
@@ -143,7 +96,7 @@ module _ {D : Type 0} (state : D → DiskState) (old : MachineState D) (rules : 
       disk = leaves_as F _ (state old.disk) (state d) (λ f. absurd (never reason.Disk f)) leaves;
       step = λ client number. record {
         lawful = λ made r h past n s given. (serving state (state made).images r old version h served, given, OnTrue_from (state old.disk).tells _ (λ tells. live_found r old.content rules pick from to space series at (shown state (state made).images r old version h served tells) (answer tells)));
-        follows = λ made r h. kept r h;
+        follows = λ made r h. kept_machine state (state made).images r old d leaves.proceeds.tells (leaves_nothing (state old.disk) (state d) leaves) h;
         opens = λ made r h told none. tt;
         sound = λ damage e. absurd (cc);
         tells = leaves.proceeds.tells;
@@ -166,7 +119,7 @@ module _ {D : Type 0} (state : D → DiskState) (old : MachineState D) (rules : 
       disk = leaves_as F _ (state old.disk) (state d) (λ f. absurd (never f)) leaves;
       step = λ client number. record {
         lawful = λ made r h past n s given. tt;
-        follows = λ made r h. kept r h;
+        follows = λ made r h. kept_machine state (state made).images r old d leaves.proceeds.tells (leaves_nothing (state old.disk) (state d) leaves) h;
         opens = λ made r h told none. tt;
         sound = λ damage e. absurd (cc);
         tells = leaves.proceeds.tells;
@@ -189,7 +142,7 @@ module _ {D : Type 0} (state : D → DiskState) (old : MachineState D) (rules : 
       disk = leaves_as F _ (state old.disk) (state d) (λ e. f) leaves;
       step = λ client number. record {
         lawful = λ made r h past n s given. record { uses = refl; taken = alike r client number h ∙ served; clock = tt; there = tt };
-        follows = λ made r h. closed r h;
+        follows = λ made r h. shut_kept state (state made).images r old d leaves.proceeds.tells (leaves_nothing (state old.disk) (state d) leaves) h;
         opens = λ made r h told none. tt;
         sound = λ damage e. absurd (cc);
         tells = leaves.proceeds.tells;
@@ -209,7 +162,7 @@ module _ {D : Type 0} (state : D → DiskState) (old : MachineState D) (rules : 
       disk = leaves_as F _ (state old.disk) (state d) (λ f. absurd (never f)) leaves;
       step = λ client number. record {
         lawful = λ made r h past n s given. record { reads = refl; taken = alike r client number h ∙ served; clock = tt };
-        follows = λ made r h. closed r h;
+        follows = λ made r h. shut_kept state (state made).images r old d leaves.proceeds.tells (leaves_nothing (state old.disk) (state d) leaves) h;
         opens = λ made r h told none. tt;
         sound = λ damage e tells. absurd (untold tells);
         tells = leaves.proceeds.tells;
@@ -226,16 +179,13 @@ module _ {D : Type 0} (state : D → DiskState) (s : Standing) (tenure : Option 
   abbrev Done : Result (List Series) Reason → MachineState D → Type 0
   Done result new = ReadDone state (machine_of s tenure begun work before) rules version pick from to result new
 
-  moved : (now_s : Standing) → now_s ≡ s → now ≡ record before { disk = now.disk } → machine_of now_s tenure begun work now ≡ record (machine_of s tenure begun work before) { disk = now.disk }
-  moved now_s same is = ap (λ (x : Standing). machine_of x tenure begun work now) same ∙ ap (machine_of s tenure begun work) is
-
   read_said : (said : Result (List Series) FileErr) (now_s : Standing) → ((state before.disk).tells ≡ true → IfOk said (IsLiveAnswer before.content rules pick from to)) → IfOk said IsOrdered → OnOk said (now ≡ record before { disk = now.disk })
       → (IsErrOf said unread.Memory → now ≡ record before { disk = now.disk }) → IfErr said (λ why. why ≢ unread.Memory → now ≡ closed_over now.disk) → ((state before.disk).tells ≡ true → IfErr said IsUndamaged)
       → LeavesFiles (IsErrOf said unread.Disk) (state before.disk) (state now.disk) → OnOk said (now_s ≡ s) → IfErr said (λ why. why ≢ unread.Memory → now_s ≡ standing.Down) → (IsErrOf said unread.Memory → now_s ≡ s) → Done (files_answer said) (machine_of now_s tenure begun work now)
   read_said (Ok series) now_s answer ordered ok memory closed sound leaves stays down same =
-      subst (Done (Ok series)) (sym (moved now_s stays ok)) (read_ok state (machine_of s tenure begun work before) rules version pick from to served _ now.disk leaves space series at answer ordered)
+      subst (Done (Ok series)) (sym (disk_moved s tenure begun work before now now_s stays ok)) (read_ok state (machine_of s tenure begun work before) rules version pick from to served _ now.disk leaves space series at answer ordered)
   read_said (Err unread.Memory) now_s answer ordered ok memory closed sound leaves stays down same =
-      subst (Done (Err reason.Memory)) (sym (moved now_s (same refl) (memory refl))) (read_memory state (machine_of s tenure begun work before) rules version pick from to served _ now.disk leaves)
+      subst (Done (Err reason.Memory)) (sym (disk_moved s tenure begun work before now now_s (same refl) (memory refl))) (read_memory state (machine_of s tenure begun work before) rules version pick from to served _ now.disk leaves)
   read_said (Err unread.Disk) now_s answer ordered ok memory closed sound leaves stays down same =
       subst (Done (Err reason.Disk)) (sym (shut_is s tenure begun work before now now_s (down (λ e. cc)) (closed (λ e. cc)))) (read_fault state (machine_of s tenure begun work before) rules version pick from to served _ now.disk leaves refl)
   read_said (Err (unread.Form file)) now_s answer ordered ok memory closed sound leaves stays down same =

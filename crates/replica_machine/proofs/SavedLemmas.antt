@@ -1,7 +1,6 @@
 -- A snapshot is a step of the core.
 use Rattle.std.proofs.Common.{◌≡◌, ◌≢◌, ℕ, List, refl, sym, ap, subst, ◌∙◌, true, Option, Some, None, Result, Ok, Err}
 use Rattle.std.specs.Prelude.{IfOk, OnOk, IfErr, IsErrOf}
-use Rattle.m3_model.specs.declared.reason.Damage.{Damage}
 use Rattle.m3_model.specs.declared.reason.Reason.{Reason}
 use Rattle.m3_model.specs.declared.reason.Reason.TheVariants as reason
 use Rattle.m3_model.specs.declared.replica.Standing.{Standing}
@@ -17,10 +16,9 @@ use Rattle.shard_store.specs.shard_files.Steps.{next_snapshot}
 use Rattle.shard_store.proofs.Counts.{counts_for}
 use Rattle.shard_store.specs.OneSnapshot.{HasOneSnapshot}
 use Rattle.shard_store.specs.Stores.{StoreState, closed_over}
-use Rattle.shard_store.proofs.LogStepLemmas.{counts_same}
 use Rattle.shard_store.proofs.RearrangeLemmas.{rearranges_for}
 use Rattle.cluster_core.specs.Refusals.{shut, first_refusal}
-use Rattle.cluster_core.specs.Replicas.{after, down}
+use Rattle.cluster_core.specs.Replicas.{down}
 use Rattle.cluster_core.specs.declared.event.StepCall.TheVariants as call
 use Rattle.cluster_core.specs.declared.event.StepReply.TheVariants as reply
 use Rattle.cluster_core.specs.declared.replica_state.ReplicaState.{ReplicaState}
@@ -32,7 +30,8 @@ use Rattle.replica_machine.specs.Steps.{reply_by, IsStep}
 use Rattle.replica_machine.specs.Upkeep.{IsSaved}
 use Rattle.replica_machine.proofs.FilesLemmas.{plain_left, shut_is, moved_is}
 use Rattle.replica_machine.proofs.KeptLemmas.{images_of}
-use Rattle.replica_machine.proofs.ReasonLemmas.{IsPlain, plain_lawful, plain_no_damage, plain_no_fault, shut_by, refused_none, refused_some}
+use Rattle.replica_machine.proofs.PlainLemmas.{plain_step, plain_unfailed}
+use Rattle.replica_machine.proofs.ReasonLemmas.{shut_by, refused_none, refused_some}
 use Rattle.replica_machine.proofs.RearrangedLemmas as rearranged
 use Rattle.replica_machine.proofs.StepLemmas.{machine_of, whatever_work}
 
@@ -49,18 +48,6 @@ pub record SavedDone {D : Type 0} (state : D → DiskState) (old : MachineState 
   pub refused : IsRefusedFor (refusal old call.Snapshot) result
   pub disk : Rearranges old.content (IsErrOf result reason.Disk) (state old.disk) (state new.disk)
   pub step : IsStep state old call.Snapshot (reply_by (λ n. reply.Count n) result) new
-
-kept_plain : (r : ReplicaState) (why : Reason) → IsPlain why → r ≡ after r call.Snapshot (reply.Refused why)
-kept_plain r reason.Down plain = refl
-kept_plain r reason.Boot plain = refl
-kept_plain r reason.NotOwned plain = refl
-kept_plain r (reason.Stale fence) plain = refl
-kept_plain r reason.Past plain = refl
-kept_plain r reason.Future plain = refl
-kept_plain r reason.Disk plain = absurd plain
-kept_plain r reason.Cut plain = absurd plain
-kept_plain r reason.Memory plain = absurd plain
-kept_plain r (reason.Corrupt damage) plain = absurd plain
 
 abbrev Said : Type 0
 Said = Result ℕ Reason
@@ -79,25 +66,9 @@ module _ {D : Type 0} (state : D → DiskState) (old : MachineState D) where
         err = plain_left old why plain;
         plain = λ not. refl;
         refused = refused_some ℕ (refusal old call.Snapshot) why first;
-        disk = rearranges_for old.content ⊥ _ (state old.disk) (state old.disk) (λ f. plain_no_fault why plain (err_same f)) nothing;
-        step = record {
-          lawful = λ made r h past n s given. plain_lawful _ past s r call.Snapshot (λ e. e) why plain (alike r h ∙ first);
-          follows = λ made r h. subst (λ (q : ReplicaState). IsMachineOf state (state made).images q old) (kept_plain r why plain) h;
-          opens = λ made r h told none. tt;
-          sound = λ damage e. absurd (plain_no_damage why plain damage (reply_damage damage e));
-          tells = refl;
-          faults = counts_same _ _ (λ e. plain_no_fault why plain (reply_same e));
-        };
+        disk = rearranges_for old.content ⊥ _ (state old.disk) (state old.disk) (plain_unfailed ℕ why plain) nothing;
+        step = plain_step state old call.Snapshot (λ tells r e. e) why plain (λ made r h. alike r h ∙ first);
       }
-    where
-      err_same : (let r : Said = Err why in IsErrOf r reason.Disk) → why ≡ reason.Disk
-      err_same f = cc
-
-      reply_same : reply.Refused why ≡ reply.Refused reason.Disk → why ≡ reason.Disk
-      reply_same e = cc
-
-      reply_damage : (damage : Damage) → reply.Refused why ≡ reply.Refused (reason.Corrupt damage) → why ≡ reason.Corrupt damage
-      reply_damage damage e = cc
 
 -- by a machine's parts: what the store's snapshot did
 module _ {D : Type 0} (state : D → DiskState) (s : Standing) (tenure : Option ℕ) (begun : ℕ) (work : Work) (before now : StoreState D) (is_open : s ≡ standing.Open) (F : Type 0) (moves : Rearranges before.content F (state before.disk) (state now.disk)) where

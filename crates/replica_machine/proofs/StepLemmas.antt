@@ -13,7 +13,7 @@ use Rattle.m3_outside.specs.DiskState.{DiskState, EachImage, StepOf}
 use Rattle.placement_core.proofs.ListLemmas.{All-from_each, each-from_All}
 use Rattle.shard_store.specs.shard_files.Parts.{AreWhole}
 use Rattle.shard_store.specs.shard_files.Gains.{nothing, a_point, a_fence, Gains}
-use Rattle.cluster_core.specs.Replicas.{Shows, greater}
+use Rattle.cluster_core.specs.Replicas.{Shows, down, greater}
 use Rattle.cluster_core.specs.Rows.{IsServingAt}
 use Rattle.cluster_core.specs.declared.replica_state.ReplicaState.{ReplicaState}
 use Rattle.m3_outside.specs.declared.disk_err.DiskErr.{DiskErr}
@@ -79,6 +79,16 @@ module _ {D : Type 0} (state : D → DiskState) (base : Files → Type 0) where
     unbegun = λ none. unbegun (sym begun ∙ none);
     snapshots = snapshots;
   }
+
+  -- one that a fault or damage took down, and whose disk is as it was
+  pub shut_kept : (r : ReplicaState) (old : MachineState D) (d : D) → (state d).tells ≡ (state old.disk).tells → ((state old.disk).tells ≡ true → (c : Files) → (state d).images c → StepOf (Gains nothing) (state old.disk).images c)
+      → IsMachineOf state base r old → IsMachineOf state base (down r) (shut_machine standing.Down old d)
+  shut_kept r old d same steps h =
+      let q = down r in
+      shut_follows r q old standing.Down d (λ e. cc) refl refl refl refl h
+      (λ b. each_step (state old.disk) (state d) (IsHeldBy r) (IsHeldBy q) same steps (λ x y gains held. held_nothing r q (stands_at r standing.Down) x y gains held) (h.files b))
+      (λ none. each_step (state old.disk) (state d) (CameFrom base r.tried) (CameFrom base r.tried) same steps (λ x y gains came. came_nothing base r.tried x y gains came) (h.unbegun none))
+      (each_whole (state old.disk) (state d) base same steps (λ x y gains. gains.snapshots) h.snapshots)
 
   -- with a point that is in the log
   pub put_follows : (r : ReplicaState) (old : MachineState D) (d : D) (p : Point) → old.standing ≡ standing.Open → (state d).tells ≡ (state old.disk).tells
@@ -157,6 +167,11 @@ store_stays s store is_open open_ = subst (λ (x : Standing). IsStoreOf x store)
 -- a machine by its own fields and its store
 abbrev pub machine_of : {D : Type 0} → Standing → Option ℕ → ℕ → Work → StoreState D → MachineState D
 machine_of s tenure begun work store = record { standing = s; tenure = tenure; begun = begun; fence = store.fence; buffered = store.buffered; content = store.content; disk = store.disk; work = work }
+
+-- one of whose store only the disk changed
+pub disk_moved : {D : Type 0} (s : Standing) (tenure : Option ℕ) (begun : ℕ) (work : Work) (before now : StoreState D) (now_s : Standing) → now_s ≡ s → now ≡ record before { disk = now.disk }
+    → machine_of now_s tenure begun work now ≡ record (machine_of s tenure begun work before) { disk = now.disk }
+disk_moved s tenure begun work before now now_s same is = ap (λ (x : Standing). machine_of x tenure begun work now) same ∙ ap (machine_of s tenure begun work) is
 
 pub failed_is : (e : DiskErr) → (let said : Result ⊤ DiskErr = Err e in IsErrOf said refused.Failed) → e ≡ refused.Failed
 failed_is e f = cc

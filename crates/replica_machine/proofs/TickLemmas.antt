@@ -24,7 +24,6 @@ use Rattle.shard_store.specs.fileset_read.declared.file_err.FileErr.TheVariants 
 use Rattle.shard_store.proofs.Counts.{counts_for}
 use Rattle.shard_store.specs.Ticks.{HasTicked}
 use Rattle.shard_store.specs.Stores.{StoreState, closed_over}
-use Rattle.shard_store.proofs.LogStepLemmas.{counts_same}
 use Rattle.shard_store.proofs.RearrangeLemmas.{rearranges_for}
 use Rattle.cluster_core.specs.Refusals.{shut, first_refusal}
 use Rattle.cluster_core.specs.Replicas.{after}
@@ -41,7 +40,8 @@ use Rattle.replica_machine.specs.Steps.{reply_by, IsStep}
 use Rattle.replica_machine.specs.Upkeep.{IsTicked}
 use Rattle.replica_machine.proofs.FilesLemmas.{damage_named, plain_named, plain_left, refused_some, refused_none, shut_is, moved_is}
 use Rattle.replica_machine.proofs.KeptLemmas.{images_of, live_kept}
-use Rattle.replica_machine.proofs.ReasonLemmas.{IsPlain, plain_lawful, plain_no_damage, plain_no_fault, shut_by}
+use Rattle.replica_machine.proofs.PlainLemmas.{plain_step, plain_unfailed}
+use Rattle.replica_machine.proofs.ReasonLemmas.{shut_by}
 use Rattle.replica_machine.proofs.RearrangedLemmas as rearranged
 use Rattle.replica_machine.proofs.DiskLemmas.{stays_nothing}
 use Rattle.replica_machine.proofs.StepLemmas.{machine_of, kept_machine, whatever_work}
@@ -58,18 +58,6 @@ pub record TickDone {D : Type 0} (state : D → DiskState) (old : MachineState D
   pub form : (damage : Damage) → IsErrOf result (reason.Corrupt damage) → IsFileDamage damage
   pub disk : Rearranges (without old.content (has_expired rules)) (IsErrOf result reason.Disk) (state old.disk) (state new.disk)
   pub step : IsStep state old (call.Tick rules) (reply_by (λ n. reply.Count n) result) new
-
-kept_plain : (r : ReplicaState) (rules : Rules) (why : Reason) → IsPlain why → r ≡ after r (call.Tick rules) (reply.Refused why)
-kept_plain r rules reason.Down plain = refl
-kept_plain r rules reason.Boot plain = refl
-kept_plain r rules reason.NotOwned plain = refl
-kept_plain r rules (reason.Stale fence) plain = refl
-kept_plain r rules reason.Past plain = refl
-kept_plain r rules reason.Future plain = refl
-kept_plain r rules reason.Disk plain = absurd plain
-kept_plain r rules reason.Cut plain = absurd plain
-kept_plain r rules reason.Memory plain = absurd plain
-kept_plain r rules (reason.Corrupt damage) plain = absurd plain
 
 abbrev Said : Type 0
 Said = Result ℕ Reason
@@ -94,25 +82,9 @@ module _ {D : Type 0} (state : D → DiskState) (old : MachineState D) (rules : 
         plain = λ not. refl;
         refused = refused_some ℕ state old (refusal old (call.Tick rules)) why first;
         form = plain_named ℕ why plain;
-        disk = rearranges_for Kept ⊥ _ (state old.disk) (state old.disk) (λ f. plain_no_fault why plain (err_same f)) nothing;
-        step = record {
-          lawful = λ made r h past n s given. plain_lawful _ past s r (call.Tick rules) (λ e. e) why plain (alike r h ∙ first);
-          follows = λ made r h. subst (λ (q : ReplicaState). IsMachineOf state (state made).images q old) (kept_plain r rules why plain) h;
-          opens = λ made r h told none. tt;
-          sound = λ damage e. absurd (plain_no_damage why plain damage (reply_damage damage e));
-          tells = refl;
-          faults = counts_same _ _ (λ e. plain_no_fault why plain (reply_same e));
-        };
+        disk = rearranges_for Kept ⊥ _ (state old.disk) (state old.disk) (plain_unfailed ℕ why plain) nothing;
+        step = plain_step state old (call.Tick rules) (λ tells r e. e) why plain (λ made r h. alike r h ∙ first);
       }
-    where
-      err_same : (let r : Said = Err why in IsErrOf r reason.Disk) → why ≡ reason.Disk
-      err_same f = cc
-
-      reply_same : reply.Refused why ≡ reply.Refused reason.Disk → why ≡ reason.Disk
-      reply_same e = cc
-
-      reply_damage : (damage : Damage) → reply.Refused why ≡ reply.Refused (reason.Corrupt damage) → why ≡ reason.Corrupt damage
-      reply_damage damage e = cc
 
 -- by a machine's parts: what the store's tick did
 module _ {D : Type 0} (state : D → DiskState) (s : Standing) (tenure : Option ℕ) (begun : ℕ) (work : Work) (before now : StoreState D) (rules : Rules) (is_open : s ≡ standing.Open) (F : Type 0)
