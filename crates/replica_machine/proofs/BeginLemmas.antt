@@ -27,7 +27,7 @@ use Rattle.replica_machine.specs.Steps.{IsStep, BringsTo, reply_by}
 use Rattle.replica_machine.specs.Damages.{told_of, IsDamageOf}
 use Rattle.replica_machine.specs.Boots.{AreBesideVolumes, BeganFrom, BeganAgain, HoldsHigher, MayBeUnowned, MayNotLoad, IsRefused}
 use Rattle.replica_machine.specs.declared.machine.Began.{Began}
-use Rattle.replica_machine.proofs.DiskLemmas.{brings_none_to, stays_nothing, brings_stays, after_stays}
+use Rattle.replica_machine.proofs.DiskLemmas.{brings_none_to, stays_nothing, stays_steps, brings_stays, after_stays}
 use Rattle.replica_machine.proofs.BootLemmas.{begin_down, begin_unowned, begin_memory, begin_fault, begin_damage, begin_higher, step_after_stays}
 
 -- what a begin from Boot answers and leaves
@@ -57,7 +57,7 @@ own_not why other own memory disk is = ⊎_elim (λ (e : why ≡ reason.Memory).
 module _ {D : Type 0} (state : D → DiskState) (old : MachineState D) (t : ℕ) (d : D) (up : closed old.standing ≡ None) (high : old.begun ≤ t) (same : (state d).tells ≡ (state old.disk).tells)
     (stays : (state old.disk).tells ≡ true → Elapses Stays (state old.disk) (state d)) where
   steps : (state old.disk).tells ≡ true → (c : Files) → (state d).images c → StepOf (Gains nothing) (state old.disk).images c
-  steps told c image = step_as (λ x y was is. stays_nothing x y is) c ((stays told).images c image)
+  steps told = stays_steps (state old.disk) (state d) (stays told)
 
   parts : (state old.disk).tells ≡ true → (c : Files) → (state d).images c → StepOf (MayGain (a_tenure t)) (state old.disk).images c
   parts told c image = step_as (λ x y was is. nothing_is_part (a_tenure t) x y (stays_nothing x y is)) c ((stays told).images c image)

@@ -42,10 +42,10 @@ use Rattle.replica_machine.specs.Steps.{IsStep, BringsTo}
 use Rattle.replica_machine.specs.Boots.{AreBesideVolumes, HoldsHigher, IsRefused, BeganFrom, BeganAgain}
 use Rattle.replica_machine.specs.declared.machine.Began.{Began}
 use Rattle.replica_machine.proofs.DiskLemmas.{each_step, brings_ok, brings_err, each_whole}
-use Rattle.replica_machine.proofs.BaseLemmas.{came_nothing, came_tried}
-use Rattle.replica_machine.proofs.HeldByLemmas.{held_nothing, greater_is_max}
+use Rattle.replica_machine.proofs.BaseLemmas.{came_tried}
+use Rattle.replica_machine.proofs.HeldByLemmas.{greater_is_max}
 use Rattle.replica_machine.proofs.ReasonLemmas.{own_reason}
-use Rattle.replica_machine.proofs.StepLemmas.{machine_of, settled_is, failed_is, stands_at, kept_machine, shut_follows}
+use Rattle.replica_machine.proofs.StepLemmas.{machine_of, settled_is, failed_is, kept_machine, shut_follows, shut_kept}
 use Rattle.replica_machine.proofs.TenureLemmas.{held_tried, held_began, held_again, loaded_covers, loaded}
 
 empty_or : (xs : List ℕ) → (xs ≡ []) ⊎ (xs ≢ [])
@@ -109,11 +109,7 @@ module _ {D : Type 0} (state : D → DiskState) (old : MachineState D) (t : ℕ)
         → IsStep state old (call.Begin t) (reply.Refused (reason.Corrupt damage)) (shut_machine standing.Down old d)
     begin_damage up high steps damage unsound = record {
       lawful = λ made r h past n s given. record { reads = refl; taken = (not_closed r h up, OnTrue_from (state old.disk).tells (NoneHigher r t) (λ e. none_higher r h high)); clock = tt };
-      follows = λ made r h.
-          let q : ReplicaState = record r { standing = standing.Down } in
-          shut_follows state (state made).images r q old standing.Down d (λ e. cc) refl refl refl refl h (λ b. each_step (state old.disk) (state d) (IsHeldBy r) (IsHeldBy q) same steps (λ x y gains held. held_nothing r q (stands_at r standing.Down) x y gains held) (h.files b))
-          (λ none. each_step (state old.disk) (state d) (CameFrom (state made).images r.tried) (CameFrom (state made).images r.tried) same steps (λ x y gains came. came_nothing (state made).images r.tried x y gains came) (h.unbegun none))
-          (each_whole (state old.disk) (state d) (state made).images same steps (λ x y gains. gains.snapshots) h.snapshots);
+      follows = λ made r h. shut_kept state (state made).images r old d same steps h;
       opens = λ made r h told none. tt;
       sound = λ other e. unsound;
       tells = same;

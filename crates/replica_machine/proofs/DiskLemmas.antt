@@ -5,7 +5,6 @@ use Rattle.m3_model.specs.declared.point.Point.{Point}
 use Rattle.m3_model.specs.declared.reason.Reason.{Reason}
 use Rattle.m3_model.specs.declared.reason.Reason.TheVariants as reason
 use Rattle.m3_outside.specs.Causes.{CountsFaults}
-use Rattle.m3_outside.specs.DiskCalls.{LeavesFiles}
 use Rattle.m3_outside.specs.Files.{Files, Stays}
 use Rattle.m3_outside.specs.DiskState.{DiskState, EachImage, StepOf, Elapses}
 use Rattle.m3_outside.specs.declared.disk_err.DiskErr.{DiskErr}
@@ -145,8 +144,8 @@ if_err_as (Err e) to p = to e p
 pub stays_nothing : (x y : Files) → Stays x y → Gains nothing x y
 stays_nothing x y same = subst (Gains nothing x) (sym same) (gains_nothing x)
 
-pub leaves_nothing : {F : Type 0} (a b : DiskState) → LeavesFiles F a b → a.tells ≡ true → (c : Files) → b.images c → StepOf (Gains nothing) a.images c
-leaves_nothing a b leaves told c image = step_as (λ x y was is. stays_nothing x y is) c ((leaves.proceeds.told told).images c image)
+pub stays_steps : (a b : DiskState) → Elapses Stays a b → (c : Files) → b.images c → StepOf (Gains nothing) a.images c
+stays_steps a b stays c image = step_as (λ x y was is. stays_nothing x y is) c (stays.images c image)
 
 -- a call that changed no file, whatever it was refused for
 pub brings_stays : {X : Type 0} {f : Type 0} (gain : Gain) (why : Reason) (a b : DiskState) → (a.tells ≡ true → Elapses Stays a b) → b.tells ≡ a.tells → CountsFaults f a.faults b.faults → (why ≡ reason.Disk → f)
@@ -154,7 +153,7 @@ pub brings_stays : {X : Type 0} {f : Type 0} (gain : Gain) (why : Reason) (a b :
 brings_stays {X} gain why a b stays same faults to = record {
   any_moment = λ t. elapses_as a b (λ x y image is. nothing_is_part gain x y (stays_nothing x y is)) (stays t);
   acknowledged = λ t. tt;
-  unchanged = λ t not c image. step_as (λ x y was is. stays_nothing x y is) c ((stays t).images c image);
+  unchanged = λ t not. stays_steps a b (stays t);
   tells = same;
   faults = counts_for _ _ _ _ (λ f. to (why_is f)) faults;
 }

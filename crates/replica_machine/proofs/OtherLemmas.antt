@@ -17,7 +17,6 @@ use Rattle.m3_outside.specs.DiskState.{DiskState, StepOf}
 use Rattle.m3_outside.specs.DiskCalls.{Restarts}
 use Rattle.m3_outside.specs.declared.disk_err.DiskErr.{DiskErr}
 use Rattle.m3_outside.specs.declared.disk_err.DiskErr.TheVariants as refused
-use Rattle.m3_outside.proofs.Moments.{step_as}
 use Rattle.shard_store.specs.shard_files.Parts.{AreWhole}
 use Rattle.shard_store.specs.shard_files.Gains.{nothing, Gains}
 use Rattle.shard_store.specs.Stores.{StoreState, closed_over}
@@ -34,10 +33,10 @@ use Rattle.replica_machine.specs.Bases.{CameFrom}
 use Rattle.replica_machine.specs.Machines.{MachineState, IsStoreOf, IsMachineOf, IsHeldBy, IsLiveAnswer, IsOwn, first_machine, shut_machine, unserved, reason_of, left_by, settled_answer}
 use Rattle.replica_machine.specs.Steps.{reply_by, IsStep, RestartsTo}
 use Rattle.replica_machine.proofs.LiveLemmas.{live_found}
-use Rattle.replica_machine.proofs.DiskLemmas.{stays_nothing, each_step, each_whole}
-use Rattle.replica_machine.proofs.BaseLemmas.{came_itself, came_nothing}
+use Rattle.replica_machine.proofs.DiskLemmas.{stays_steps}
+use Rattle.replica_machine.proofs.BaseLemmas.{came_itself}
 use Rattle.replica_machine.proofs.HeldByLemmas.{held_nothing}
-use Rattle.replica_machine.proofs.StepLemmas.{machine_of, stands_at, stands_untenured, kept_machine, shut_follows, serving, shown}
+use Rattle.replica_machine.proofs.StepLemmas.{machine_of, stands_at, stands_untenured, kept_machine, shut_follows, shut_kept, serving, shown}
 
 -- a store of which only the disk changed is still its machine's
 pub store_moved : {D : Type 0} (s : Standing) (store after : StoreState D) → after ≡ record store { disk = after.disk } → IsStoreOf s store → IsStoreOf s after
@@ -198,7 +197,7 @@ module _ {D : Type 0} (state : D → DiskState) (old : MachineState D) (d : D) w
       no_fault f = cc
 
   steps : (e : DiskErr) → (let x : Result ⊤ DiskErr = Err e in Restarts x (state old.disk) (state d)) → (state old.disk).tells ≡ true → (c : Files) → (state d).images c → StepOf (Gains nothing) (state old.disk).images c
-  steps e restarts tells c image = step_as (λ x y was is. stays_nothing x y is) c ((restarts.proceeds.told tells).images c image)
+  steps e restarts tells = stays_steps (state old.disk) (state d) (restarts.proceeds.told tells)
 
   restart_left : (e : DiskErr) → (let x : Result ⊤ DiskErr = Err e in Restarts x (state old.disk) (state d)) → RestartDone state old (Err (reason_of e)) (left_by e (record old { disk = d }))
   restart_left refused.Failed restarts = record {
@@ -209,12 +208,7 @@ module _ {D : Type 0} (state : D → DiskState) (old : MachineState D) (d : D) w
     restarts = restarts_as (Err refused.Failed) (state old.disk) (state d) restarts;
     step = record {
       lawful = λ made r h past n s given. record { uses = refl; taken = refl; clock = tt; there = tt };
-      follows = λ made r h.
-          let q : ReplicaState = record r { standing = standing.Down } in
-          shut_follows state (state made).images r q old standing.Down d (λ e. cc) refl refl refl refl h
-          (λ b. each_step (state old.disk) (state d) (IsHeldBy r) (IsHeldBy q) restarts.proceeds.tells (steps refused.Failed restarts) (λ x y gains held. held_nothing r q (stands_at r standing.Down) x y gains held) (h.files b))
-          (λ none. each_step (state old.disk) (state d) (CameFrom (state made).images r.tried) (CameFrom (state made).images r.tried) restarts.proceeds.tells (steps refused.Failed restarts) (λ x y gains came. came_nothing (state made).images r.tried x y gains came) (h.unbegun none))
-          (each_whole (state old.disk) (state d) (state made).images restarts.proceeds.tells (steps refused.Failed restarts) (λ x y gains. gains.snapshots) h.snapshots);
+      follows = λ made r h. shut_kept state (state made).images r old d restarts.proceeds.tells (steps refused.Failed restarts) h;
       opens = λ made r h told none. tt;
       sound = λ damage e. absurd (cc);
       tells = restarts.proceeds.tells;

@@ -34,7 +34,7 @@ use Rattle.replica_machine.specs.Damages.{told_of, IsFileDamage}
 use Rattle.replica_machine.specs.Machines.{MachineState, IsMachineOf, refusal, unheld, shut_machine}
 use Rattle.replica_machine.specs.Reading.{IsRefusedReading, files_answer}
 use Rattle.replica_machine.specs.Steps.{reply_by, IsStep}
-use Rattle.replica_machine.proofs.DiskLemmas.{leaves_nothing}
+use Rattle.replica_machine.proofs.DiskLemmas.{stays_steps}
 use Rattle.replica_machine.proofs.FilesLemmas.{damage_named, plain_named, plain_left, refused_some, refused_none, shut_is}
 use Rattle.replica_machine.proofs.PageLemmas.{page_is}
 use Rattle.replica_machine.proofs.PlainLemmas.{plain_step, plain_unfailed}
@@ -112,7 +112,7 @@ module _ {D : Type 0} (state : D → DiskState) (old : MachineState D) (after_ke
       disk = leaves_as F _ (state old.disk) (state d) (λ f. absurd (never reason.Disk f)) leaves;
       step = record {
         lawful = λ made r h past n s given. (owning state (state made).images r old h served, OnTrue_from (state old.disk).tells _ (λ tells. page_is r old.content (holding state (state made).images r old h served tells) after_key page (answer tells)));
-        follows = λ made r h. kept_machine state (state made).images r old d leaves.proceeds.tells (leaves_nothing (state old.disk) (state d) leaves) h;
+        follows = λ made r h. kept_machine state (state made).images r old d leaves.proceeds.tells (λ told. stays_steps (state old.disk) (state d) (leaves.proceeds.told told)) h;
         opens = λ made r h told none. tt;
         sound = λ damage e. absurd (cc);
         tells = leaves.proceeds.tells;
@@ -134,7 +134,7 @@ module _ {D : Type 0} (state : D → DiskState) (old : MachineState D) (after_ke
       disk = leaves_as F _ (state old.disk) (state d) (λ f. absurd (never f)) leaves;
       step = record {
         lawful = λ made r h past n s given. tt;
-        follows = λ made r h. kept_machine state (state made).images r old d leaves.proceeds.tells (leaves_nothing (state old.disk) (state d) leaves) h;
+        follows = λ made r h. kept_machine state (state made).images r old d leaves.proceeds.tells (λ told. stays_steps (state old.disk) (state d) (leaves.proceeds.told told)) h;
         opens = λ made r h told none. tt;
         sound = λ damage e. absurd (cc);
         tells = leaves.proceeds.tells;
@@ -156,7 +156,7 @@ module _ {D : Type 0} (state : D → DiskState) (old : MachineState D) (after_ke
       disk = leaves_as F _ (state old.disk) (state d) (λ e. f) leaves;
       step = record {
         lawful = λ made r h past n s given. record { uses = refl; taken = alike r h ∙ served; clock = tt; there = tt };
-        follows = λ made r h. shut_kept state (state made).images r old d leaves.proceeds.tells (leaves_nothing (state old.disk) (state d) leaves) h;
+        follows = λ made r h. shut_kept state (state made).images r old d leaves.proceeds.tells (λ told. stays_steps (state old.disk) (state d) (leaves.proceeds.told told)) h;
         opens = λ made r h told none. tt;
         sound = λ damage e. absurd (cc);
         tells = leaves.proceeds.tells;
@@ -175,7 +175,7 @@ module _ {D : Type 0} (state : D → DiskState) (old : MachineState D) (after_ke
       disk = leaves_as F _ (state old.disk) (state d) (λ f. absurd (never f)) leaves;
       step = record {
         lawful = λ made r h past n s given. record { reads = refl; taken = alike r h ∙ served; clock = tt };
-        follows = λ made r h. shut_kept state (state made).images r old d leaves.proceeds.tells (leaves_nothing (state old.disk) (state d) leaves) h;
+        follows = λ made r h. shut_kept state (state made).images r old d leaves.proceeds.tells (λ told. stays_steps (state old.disk) (state d) (leaves.proceeds.told told)) h;
         opens = λ made r h told none. tt;
         sound = λ damage e tells. absurd (untold tells);
         tells = leaves.proceeds.tells;

@@ -32,7 +32,7 @@ plain_keeps r _ reason.Disk plain = absurd plain
 plain_keeps r _ (reason.Corrupt damage) plain = absurd plain
 plain_keeps r _ _ plain = refl
 
--- each call may be refused as the core's row of refusals says
+-- a step that refuses is lawful as the core says of refusals
 refused_lawful : (tells : Bool) (past : List Event) (n s : ℕ) (r : ReplicaState) (c : StepCall) (why : Reason) → ReplicaMayRefuse tells past s r c why → LawfulStep tells past n s r c (reply.Refused why)
 refused_lawful tells past n s r (call.Begin tenure) why may = may
 refused_lawful tells past n s r (call.Put client number rules version point) why may = may
@@ -62,7 +62,7 @@ plain_unfailed X why plain f = plain_no_fault why plain (err_same f)
     err_same : (let r : Result X Reason = Err why in IsErrOf r reason.Disk) → why ≡ reason.Disk
     err_same f = cc
 
--- where the reason comes first, and want of a tenure may come of this call
+-- where it is the first reason that stands against the call, and the call may be refused as not owned on that ground alone
 pub plain_step : {D : Type 0} (state : D → DiskState) (old : MachineState D) (c : StepCall) → ((tells : Bool) (r : ReplicaState) → first_refusal r c ≡ Some reason.NotOwned → MayBeUnowned tells r c) → (why : Reason) → IsPlain why
     → ((made : D) (r : ReplicaState) → IsMachineOf state (state made).images r old → first_refusal r c ≡ Some why) → IsStep state old c (reply.Refused why) old
 plain_step state old c unowned why plain first = record {

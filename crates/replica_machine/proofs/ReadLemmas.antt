@@ -35,7 +35,7 @@ use Rattle.replica_machine.specs.Damages.{told_of, IsFileDamage}
 use Rattle.replica_machine.specs.Machines.{MachineState, IsMachineOf, IsLiveAnswer, refusal, unserved, shut_machine}
 use Rattle.replica_machine.specs.Reading.{IsRefusedReading, files_answer}
 use Rattle.replica_machine.specs.Steps.{reply_by, IsStep}
-use Rattle.replica_machine.proofs.DiskLemmas.{leaves_nothing}
+use Rattle.replica_machine.proofs.DiskLemmas.{stays_steps}
 use Rattle.replica_machine.proofs.FilesLemmas.{damage_named, plain_named, plain_left, refused_some, refused_none, shut_is}
 use Rattle.replica_machine.proofs.LiveLemmas.{live_found}
 use Rattle.replica_machine.proofs.PlainLemmas.{plain_step, plain_unfailed}
@@ -96,7 +96,7 @@ module _ {D : Type 0} (state : D → DiskState) (old : MachineState D) (rules : 
       disk = leaves_as F _ (state old.disk) (state d) (λ f. absurd (never reason.Disk f)) leaves;
       step = λ client number. record {
         lawful = λ made r h past n s given. (serving state (state made).images r old version h served, given, OnTrue_from (state old.disk).tells _ (λ tells. live_found r old.content rules pick from to space series at (shown state (state made).images r old version h served tells) (answer tells)));
-        follows = λ made r h. kept_machine state (state made).images r old d leaves.proceeds.tells (leaves_nothing (state old.disk) (state d) leaves) h;
+        follows = λ made r h. kept_machine state (state made).images r old d leaves.proceeds.tells (λ told. stays_steps (state old.disk) (state d) (leaves.proceeds.told told)) h;
         opens = λ made r h told none. tt;
         sound = λ damage e. absurd (cc);
         tells = leaves.proceeds.tells;
@@ -119,7 +119,7 @@ module _ {D : Type 0} (state : D → DiskState) (old : MachineState D) (rules : 
       disk = leaves_as F _ (state old.disk) (state d) (λ f. absurd (never f)) leaves;
       step = λ client number. record {
         lawful = λ made r h past n s given. tt;
-        follows = λ made r h. kept_machine state (state made).images r old d leaves.proceeds.tells (leaves_nothing (state old.disk) (state d) leaves) h;
+        follows = λ made r h. kept_machine state (state made).images r old d leaves.proceeds.tells (λ told. stays_steps (state old.disk) (state d) (leaves.proceeds.told told)) h;
         opens = λ made r h told none. tt;
         sound = λ damage e. absurd (cc);
         tells = leaves.proceeds.tells;
@@ -142,7 +142,7 @@ module _ {D : Type 0} (state : D → DiskState) (old : MachineState D) (rules : 
       disk = leaves_as F _ (state old.disk) (state d) (λ e. f) leaves;
       step = λ client number. record {
         lawful = λ made r h past n s given. record { uses = refl; taken = alike r client number h ∙ served; clock = tt; there = tt };
-        follows = λ made r h. shut_kept state (state made).images r old d leaves.proceeds.tells (leaves_nothing (state old.disk) (state d) leaves) h;
+        follows = λ made r h. shut_kept state (state made).images r old d leaves.proceeds.tells (λ told. stays_steps (state old.disk) (state d) (leaves.proceeds.told told)) h;
         opens = λ made r h told none. tt;
         sound = λ damage e. absurd (cc);
         tells = leaves.proceeds.tells;
@@ -162,7 +162,7 @@ module _ {D : Type 0} (state : D → DiskState) (old : MachineState D) (rules : 
       disk = leaves_as F _ (state old.disk) (state d) (λ f. absurd (never f)) leaves;
       step = λ client number. record {
         lawful = λ made r h past n s given. record { reads = refl; taken = alike r client number h ∙ served; clock = tt };
-        follows = λ made r h. shut_kept state (state made).images r old d leaves.proceeds.tells (leaves_nothing (state old.disk) (state d) leaves) h;
+        follows = λ made r h. shut_kept state (state made).images r old d leaves.proceeds.tells (λ told. stays_steps (state old.disk) (state d) (leaves.proceeds.told told)) h;
         opens = λ made r h told none. tt;
         sound = λ damage e tells. absurd (untold tells);
         tells = leaves.proceeds.tells;
