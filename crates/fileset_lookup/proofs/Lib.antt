@@ -4,3 +4,4 @@ pub mod SizeLemmas
 pub mod RunLemmas
 pub mod SpotLemmas
 pub mod BitLemmas
+pub mod ExtentLemmas

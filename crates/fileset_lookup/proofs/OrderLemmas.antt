@@ -1,5 +1,5 @@
 -- Rows in the order of their identifiers.
-use Rattle.std.proofs.Common.{◌≡◌, ◌⊎◌, inl, inr, ℕ, ◌==◌, Bool, true, false, List, [], ◌∷◌, ◌++◌, refl, sym, ap, subst, ◌∙◌}
+use Rattle.std.proofs.Common.{◌≡◌, ◌⊎◌, inl, inr, ℕ, ◌==◌, Bool, true, false, not, List, [], ◌∷◌, ◌++◌, refl, sym, ap, subst, ◌∙◌}
 use Rattle.std.specs.Ordering.{nat_cmp, ordering_reverse, ordering_index}
 use Rattle.std.specs.FinMap.{nat_cmp-IsAntisymmetric, slice_cmp-IsAntisymmetric}
 use Rattle.std.specs.Cmp.Lexicographic.{slice_cmp, nat_list_cmp_total}
@@ -51,6 +51,17 @@ pub isnt_less : (o : Ordering) (b : Bool) → b ≡ (ordering_index o == 0) → 
 isnt_less o b is not less =
     let one : b ≡ true = is ∙ ap (λ (p : Ordering). ordering_index p == 0) less in
     cc
+
+-- what `!=` with `Less` tells
+pub isnt_below : (o : Ordering) (b : Bool) → b ≡ not (ordering_index o == 0) → b ≡ true → ¬ (o ≡ Less)
+isnt_below o b is one less =
+    let none : b ≡ false = is ∙ ap (λ (p : Ordering). not (ordering_index p == 0)) less in
+    cc
+
+pub stays_below : (o : Ordering) (b : Bool) → b ≡ not (ordering_index o == 0) → b ≡ false → o ≡ Less
+stays_below Less b is none = refl
+stays_below Equal b is none = absurd (cc)
+stays_below Greater b is none = absurd (cc)
 
 -- the order of rows
 abbrev pub Before : Series → Series → Type 0

@@ -1,3 +1,4 @@
 pub mod Bits
+pub mod Extents
 pub mod Runs
 pub mod Spots

@@ -30,8 +30,12 @@ fn split_spot(bytes: &[u8]) -> Result<(Spot, &[u8]), WireErr>
     Ok((spot, rest))
 }
 
-// An entry of an index: an identifier and where its series stands in the data; and what follows it.
-fn split_entry(bytes: &[u8]) -> Result<(&[u8], Spot, &[u8]), WireErr>
+/// An entry of an index: an identifier and where its series stands in the data; and what follows it.
+///
+/// # Errors
+///
+/// The bytes end within the entry.
+pub(crate) fn split_entry(bytes: &[u8]) -> Result<(&[u8], Spot, &[u8]), WireErr>
     ensures shorter { IfOk result (λ parts. length parts.2.now < length bytes.now) }
     ensures whole { (id : List ℕ) (at len : ℕ) (rest : List ℕ) → length id < 2 ^ 16 → at < 2 ^ 64 → len < 2 ^ 32 → bytes.now ≡ id_bytes id ++ (big_bytes 8 at ++ (big_bytes 4 len ++ rest)) → Gives result (λ parts. (parts.0.now ≡ id) × (parts.1.at ≡ at) × (parts.1.len ≡ len) × (parts.2.now ≡ rest)) }
 {

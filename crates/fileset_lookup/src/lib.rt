@@ -4,9 +4,11 @@
 
 mod bits;
 mod entries;
+mod extents;
 mod fields;
 mod summaries;
 
 pub use bits::may_hold;
 pub use entries::{Spot, find};
+pub use extents::{Extent, find_extent};
 pub use summaries::{Piece, from_summary, span};
