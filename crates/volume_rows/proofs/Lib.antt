@@ -1,2 +1,3 @@
 pub mod StretchLemmas
 pub mod DiskLemmas
+pub mod RangeLemmas

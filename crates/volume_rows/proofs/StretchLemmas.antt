@@ -22,13 +22,30 @@ use Rattle.volume_rows.specs.declared.entries.Stretch.{Stretch}
 pub above_have_not : (id : List ℕ) (rows : List Series) → AreAbove id rows → HaveNot id rows
 above_have_not id rows above s m = not_below_itself id s.id (above s m)
 
-index_size : (format : ℕ) (xs : List Series) → length (index_bytes format xs) ≡ size format xs
+pub index_size : (format : ℕ) (xs : List Series) → length (index_bytes format xs) ≡ size format xs
 index_size format xs = length_from format 0 xs
 
 -- where a piece ends
 end_of : (later : List Series) (offset len : ℕ) → (later ≡ [] → len ≡ offset) → unwrap_or (offset_of later offset) len ≡ offset
 end_of [] offset len is = is refl
 end_of (s ∷ later) offset len is = refl
+
+-- it ends where the entries of its run do
+pub piece_end : (format : ℕ) (id : List ℕ) (rows : List Series) (piece : Piece) (index_len to : ℕ) → (is : IsPiece format id rows piece) → index_len ≡ length (index_bytes format rows) → to ≡ unwrap_or piece.to index_len
+    → to ≡ length (index_bytes format (is.run.before ++ is.run.first ∷ is.run.others))
+piece_end format id rows piece index_len to is whole ends =
+    let r = is.run in
+    let run : List Series = r.first ∷ r.others in
+    let offset = length (index_bytes format (r.before ++ run)) in
+    let all_rows : size format rows ≡ size format r.before + size format (run ++ r.later) = ap (size format) r.split ∙ size_append format r.before (run ++ r.later) in
+    let tail = size_append format run r.later in
+    let front = size_append format r.before run in
+    let d = index_size format (r.before ++ run) in
+    let e = index_size format rows in
+    let last : r.later ≡ [] → index_len ≡ offset = λ none.
+    let nothing : size format r.later ≡ 0 = ap (size format) none in
+    omega (arith, all_rows, tail, front, d, e, whole, nothing) in
+    ends ∙ ap (λ (o : Option ℕ). unwrap_or o index_len) is.to ∙ end_of r.later offset index_len last
 
 -- the piece that is found by summaries, up to its end
 pub record IsPieceTo (format : ℕ) (id : List ℕ) (rows : List Series) (from to : ℕ) : Type 0 where
@@ -39,18 +56,11 @@ pub piece_to : (format : ℕ) (id : List ℕ) (rows : List Series) (piece : Piec
 piece_to format id rows piece index_len to is whole ends =
     let r = is.run in
     let run : List Series = r.first ∷ r.others in
-    let offset = length (index_bytes format (r.before ++ run)) in
-    let all_rows : size format rows ≡ size format r.before + size format (run ++ r.later) = ap (size format) r.split ∙ size_append format r.before (run ++ r.later) in
-    let tail = size_append format run r.later in
     let front = size_append format r.before run in
     let a = index_size format r.before in
     let b = index_size format run in
     let d = index_size format (r.before ++ run) in
-    let e = index_size format rows in
-    let last : r.later ≡ [] → index_len ≡ offset = λ none.
-    let nothing : size format r.later ≡ 0 = ap (size format) none in
-    omega (arith, all_rows, tail, front, d, e, whole, nothing) in
-    let end : to ≡ offset = ends ∙ ap (λ (o : Option ℕ). unwrap_or o index_len) is.to ∙ end_of r.later offset index_len last in
+    let end = piece_end format id rows piece index_len to is whole ends in
     let from = is.from in
     record {
       order = omega (arith, end, from, front, a, d);
@@ -84,7 +94,7 @@ index_append format at (x ∷ xs) ys =
     ∙ sym (append_assoc (index_entry format at x) (index_from format next xs) (index_from format (at + length (data_bytes (x ∷ xs))) ys))
 
 -- what comes between two parts
-between : (a b c all : List ℕ) (at len : ℕ) → all ≡ a ++ (b ++ c) → at ≡ length a → len ≡ length b → (at + len ≤ length all) × (take len (drop at all) ≡ b)
+pub between : (a b c all : List ℕ) (at len : ℕ) → all ≡ a ++ (b ++ c) → at ≡ length a → len ≡ length b → (at + len ≤ length all) × (take len (drop at all) ≡ b)
 between a b c all at len is from long =
     let x = length-append a (b ++ c) in
     let y = length-append b c in
@@ -93,17 +103,21 @@ between a b c all at len is from long =
       ap (λ (l : List ℕ). take len (drop at l)) is ∙ ap (take len) (drop_at a (b ++ c) at (sym from)) ∙ take_at b c len (sym long),
     )
 
--- the entries stand there, and they alone
+-- entries of rows stand there, and they alone
+pub run_stands : (format : ℕ) (rows before run later : List Series) (at len : ℕ) → rows ≡ before ++ (run ++ later) → at ≡ length (index_bytes format before) → len ≡ length (index_bytes format run)
+    → (at + len ≤ length (index_bytes format rows)) × (take len (drop at (index_bytes format rows)) ≡ index_from format (length (data_bytes before)) run)
+run_stands format rows before run later at len split from long =
+    let next = 0 + length (data_bytes before) in
+    let here : next ≡ length (data_bytes before) = omega arith in
+    let same : length (index_from format next run) ≡ length (index_bytes format run) = length_from format next run ∙ sym (index_size format run) in
+    let parts : index_bytes format rows ≡ index_bytes format before ++ (index_from format next run ++ index_from format (next + length (data_bytes run)) later) =
+    ap (index_bytes format) split ∙ index_append format 0 before (run ++ later) ∙ ap (λ (l : List ℕ). index_bytes format before ++ l) (index_append format next run later) in
+    let r = between (index_bytes format before) (index_from format next run) (index_from format (next + length (data_bytes run)) later) (index_bytes format rows) at len parts from (long ∙ sym same) in
+    (r.0, r.1 ∙ ap (λ (n : ℕ). index_from format n run) here)
+
 pub entries_stand : (format : ℕ) (id : List ℕ) (rows : List Series) (stretch : Stretch) → (h : HasEntries format id rows stretch)
     → (stretch.at + stretch.len ≤ length (index_bytes format rows)) × (take stretch.len (drop stretch.at (index_bytes format rows)) ≡ index_from format (length (data_bytes h.before)) h.run)
-entries_stand format id rows stretch h =
-    let at = 0 + length (data_bytes h.before) in
-    let here : at ≡ length (data_bytes h.before) = omega arith in
-    let long : length (index_from format at h.run) ≡ length (index_bytes format h.run) = length_from format at h.run ∙ sym (index_size format h.run) in
-    let split : index_bytes format rows ≡ index_bytes format h.before ++ (index_from format at h.run ++ index_from format (at + length (data_bytes h.run)) h.later) =
-    ap (index_bytes format) h.split ∙ index_append format 0 h.before (h.run ++ h.later) ∙ ap (λ (l : List ℕ). index_bytes format h.before ++ l) (index_append format at h.run h.later) in
-    let r = between (index_bytes format h.before) (index_from format at h.run) (index_from format (at + length (data_bytes h.run)) h.later) (index_bytes format rows) stretch.at stretch.len split h.at (h.len ∙ sym long) in
-    (r.0, r.1 ∙ ap (λ (n : ℕ). index_from format n h.run) here)
+entries_stand format id rows stretch h = run_stands format rows h.before h.run h.later stretch.at stretch.len h.split h.at h.len
 
 -- ---- records
 

@@ -33,8 +33,8 @@ fn row_in(alloc: Global, bytes: &[u8], id: &str) -> Result<Series, RowErr>
     Ok(row)
 }
 
-// The same of the file.
-fn in_file(e: RowErr, file: FileName) -> FileErr
+/// The same of the file.
+pub(crate) fn in_file(e: RowErr, file: FileName) -> FileErr
     ensures { result ≡ in_file file e }
 {
     match e {
