@@ -7,6 +7,9 @@ use Rattle.std.specs.Cmp.Lexicographic.{slice_cmp}
 use Rattle.std.specs.Ordering.{nat_cmp}
 use Rattle.std.specs.declared.cmp.Ordering.TheVariants.{Less, Equal}
 use Rattle.std.proofs.lemmas.Cmp.{nat_list_cmp_total}
+use Rattle.std.proofs.lemmas.List.{length-append}
+use Rattle.std.proofs.lemmas.List.Concat.{flat_map-append}
+use Rattle.std.proofs.lemmas.List.Sums.{sum_by-append}
 use Rattle.m3_model.specs.Answers.{HasPoint, IsAnswer}
 use Rattle.m3_model.specs.Ascends.{Ascends}
 use Rattle.m3_model.specs.Contents.{content_of}
@@ -18,15 +21,18 @@ use Rattle.m3_model.specs.declared.point.Pick.{Pick}
 use Rattle.m3_model.specs.declared.point.Pick.TheVariants as pick
 use Rattle.m3_model.specs.declared.point.Point.{Point}
 use Rattle.m3_model.specs.declared.point.Series.{Series}
+use Rattle.m3_model.proofs.MemberLemmas.{IsIn-append_left, IsIn-append_right}
 use Rattle.fileset_check.specs.m3_outside.Files.{Files}
 use Rattle.held_points.proofs.series_slots_proofs.AnswerLemmas.{point_in, in_points}
 use Rattle.series_merge.proofs.OrderLemmas.{content_in, ordered_has}
 use Rattle.fileset_check.specs.wire_bytes.Points.{IsPoint}
-use Rattle.fileset_check.specs.wire_bytes.Volumes.{VolumeHead, Checkpoint, IsRow, IsVolume, points_of_rows, row_bytes}
+use Rattle.fileset_check.specs.wire_bytes.Volumes.{VolumeHead, Checkpoint, IsRow, IsVolume, count_of, data_bytes, points_of_rows, row_bytes}
 use Rattle.fileset_check.proofs.volume_bytes_proofs.RowLemmas.{length_row}
 use Rattle.fileset_check.specs.shard_files.Parts.{KnownVolume, VolumeHolds, part_of}
 use Rattle.fileset_check.proofs.shard_files_proofs.PartLemmas.{one_known}
 use Rattle.fileset_check.specs.fileset_read.Rows.{IsSeriesOf}
+use Rattle.volume_rows.specs.Ranges.{AreRowsFrom}
+use Rattle.volume_rows.specs.declared.ranges.RowRange.{RowRange}
 use Rattle.volume_points.specs.Candidates.{AreCandidates, IsOneOf, MayStand, one_or_none}
 use Rattle.volume_points.specs.Picked.{AreAscending, IsPicked, IsSelectionOf, filled}
 use Rattle.volume_points.proofs.PickedLemmas.{IsPart, filled_is, of_matches, parts_ordered}
@@ -158,6 +164,52 @@ in_candidates (pick.One ns id) rows found h o s m asked = subst (λ (l : List Se
     by None none = absurd (none s m (sym asked))
     by (Some r) is = inl (same_series rows r s h.ids is.1 m (is.0 ∙ asked))
 in_candidates (pick.Match ns wanted) rows found h o s m asked = subst (λ (l : List Series). IsIn l s) (sym o) m
+
+-- ---- some rows of a volume, one after another
+
+front_ascends : (xs ys : List Series) → Ascends (λ (a b : Series). IsBelow a.id b.id) (xs ++ ys) → Ascends (λ (a b : Series). IsBelow a.id b.id) xs
+front_ascends [] ys h = tt
+front_ascends (x ∷ xs) ys h = (λ y m. h.0 y (IsIn-append_left xs ys y m), front_ascends xs ys h.1)
+
+back_ascends : (xs ys : List Series) → Ascends (λ (a b : Series). IsBelow a.id b.id) (xs ++ ys) → Ascends (λ (a b : Series). IsBelow a.id b.id) ys
+back_ascends [] ys h = h
+back_ascends (x ∷ xs) ys h = back_ascends xs ys h.1
+
+-- they may be a volume by themselves, if there are any
+module _ (v : VolumeHead) (before found later : List Series) (h : IsVolume v (before ++ (found ++ later))) where
+  in_rows : (s : Series) → IsIn found s → IsIn (before ++ (found ++ later)) s
+  in_rows s m = IsIn-append_right before (found ++ later) s (IsIn-append_left found later s m)
+
+  fewer : length found ≤ length (before ++ (found ++ later))
+  fewer = omega (arith, length-append before (found ++ later), length-append found later)
+
+  fewer_points : count_of found ≤ count_of (before ++ (found ++ later))
+  fewer_points = omega (arith, sum_by-append (λ (s : Series). length s.points) before (found ++ later), sum_by-append (λ (s : Series). length s.points) found later)
+
+  fewer_bytes : length (data_bytes found) ≤ length (data_bytes (before ++ (found ++ later)))
+  fewer_bytes =
+      omega (
+        arith,
+        ap length (flat_map-append row_bytes before (found ++ later)),
+        ap length (flat_map-append row_bytes found later),
+        length-append (data_bytes before) (data_bytes (found ++ later)),
+        length-append (data_bytes found) (data_bytes later),
+      )
+
+  part_alone : MayStand v found
+  part_alone some = record {
+    head = h.head;
+    some = some;
+    counted = (let c = h.counted in omega (arith, c, fewer));
+    points = (let c = h.points in omega (arith, c, fewer_points));
+    row = λ s m. h.row s (in_rows s m);
+    filled = λ s m. h.filled s (in_rows s m);
+    small = (let c = h.small in omega (arith, c, fewer_bytes));
+    ids = front_ascends found later (back_ascends before (found ++ later) h.ids);
+  }
+
+pub range_stands : (v : VolumeHead) (id : List ℕ) (last : Option (List ℕ)) (most : ℕ) (rows : List Series) (found : RowRange) → IsVolume v rows → AreRowsFrom id last most rows found → MayStand v found.rows
+range_stands v id last most rows found h are = part_alone v are.before found.rows are.later (subst (IsVolume v) are.split h)
 
 -- ---- the answer of one volume
 

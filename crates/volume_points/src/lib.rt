@@ -8,6 +8,7 @@ mod candidates;
 mod joining;
 pub mod laws;
 mod matching;
+mod ranged;
 mod ranges;
 mod reading;
 mod whole;
@@ -15,6 +16,7 @@ mod whole;
 pub use block::block_rows;
 pub use block_err::BlockErr;
 pub use joining::join;
+pub use ranged::checked_range;
 pub use reading::{read, read_volume};
 pub use whole::{checked_rows, may_meet, select_from};
 
@@ -57,7 +59,7 @@ pub mod of_volume_bytes {
 }
 /// Of `volume_rows`.
 pub mod of_volume_rows {
-    pub use volume_rows::Seeker;
+    pub use volume_rows::{RowRange, Seeker};
 }
 /// Of `wire_bytes`.
 pub mod of_wire_bytes {
