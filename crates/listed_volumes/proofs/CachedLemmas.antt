@@ -20,7 +20,6 @@ use Rattle.volume_points.specs.Candidates.{AreCandidates}
 use Rattle.volume_points.specs.Picked.{AreAscending}
 use Rattle.block_cache.specs.Blocks.{BlockKey, Blocks, after_forget, after_get, after_put, rows_of, same_block}
 use Rattle.block_cache.proofs.BlockLemmas.{lookup_first, lookup_put, lookup_without, same_equiv, same_true}
-use Rattle.listed_volumes.specs.Listed.{AreHeld}
 use Rattle.listed_volumes.specs.Cached.{AreInOrder, AreOfVolumes, AreRight, HasForgotten, IsMatch, IsKeyOfOne, StayOfVolumes, StayRight, cache_key}
 
 -- ---- keys

@@ -1,10 +1,10 @@
 -- The first points of several listed volumes, from those of fewer.
-use Rattle.std.proofs.Common.{◌≡◌, ◌∙◌, ℕ, ◌<◌, ◌≤◌, ℤ, List, [], ◌∷◌, ◌++◌, length, take, drop, refl, sym, ap, subst, inl, inr, arith, append-nil, get_or, Result, fold}
-use Rattle.std.specs.Prelude.{◌⊎◌, IfOk, Option, Some, None}
+use Rattle.std.proofs.Common.{◌≡◌, ◌∙◌, ℕ, ◌<◌, ◌≤◌, ℤ, List, [], ◌∷◌, ◌++◌, length, take, drop, refl, sym, ap, subst, arith, append-nil, get_or, Result, fold}
+use Rattle.std.specs.Prelude.{IfOk, Option, Some, None}
 use Rattle.std.specs.List.{take-map, drop-map}
-use Rattle.std.specs.FinMap.{empty, get, get-empty}
+use Rattle.std.specs.FinMap.{get, get-empty}
 use Rattle.std.proofs.lemmas.List.{take_all}
-use Rattle.std.proofs.lemmas.List.Sums.{fold-append}
+use Rattle.std.proofs.lemmas.Int.{ints}
 use Rattle.m3_model.specs.Contents.{Contents, content_of, raised}
 use Rattle.m3_model.specs.Keys.{key_cmp}
 use Rattle.m3_model.specs.declared.point.Key.{Key}
@@ -60,10 +60,6 @@ module _ (after : Option Key) (last : Option Point) (limit : ℕ) where
       by None above = absurd above
       by (Some p) above = subst (λ (points : List Point). AreFirst (content_of points) after limit []) (sym (none_of_space p ns rows above)) (first_none [] (omega arith))
 
-  pub first_apart : (v : VolumeHead) (rows : List Series) → IsVolume v rows → IsSpaceBelow v.ns after ⊎ IsSpaceAbove v.ns last → AreFirst (content_of (points_up_to last (points_of_rows v.ns rows))) after limit []
-  first_apart v rows is (inl low) = first_lower v rows is low
-  first_apart v rows is (inr above) = first_upper v.ns rows above
-
 higher_same : (o p : Option ℤ) → higher_there o p ≡ higher_of o p
 higher_same o None = refl
 higher_same o (Some v) = refl
@@ -71,6 +67,16 @@ higher_same o (Some v) = refl
 -- a content, joined with points
 pub join_of_points : (c : Contents) (points : List Point) → IsJoinOf c (content_of points) (fold raised c points)
 join_of_points c points k = get-joined c points k ∙ higher_same (get c k) (get (content_of points) k)
+
+-- a join is one whichever way round
+higher_turned : (o p : Option ℤ) → higher_of o p ≡ higher_of p o
+higher_turned None None = refl
+higher_turned None (Some w) = refl
+higher_turned (Some v) None = refl
+higher_turned (Some v) (Some w) = ap Some (grind (arith, ints))
+
+pub join_turned : (c d both : Contents) → IsJoinOf c d both → IsJoinOf d c both
+join_turned c d both join k = join k ∙ higher_turned (get c k) (get d k)
 
 -- the volumes' points are those of both parts
 pub points_of_parts : (n : ℕ) (vs : List ListedVolume) → volume_points (known_in vs) ≡ volume_points (known_in (take n vs)) ++ volume_points (known_in (drop n vs))

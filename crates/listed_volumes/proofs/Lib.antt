@@ -3,6 +3,8 @@ mod KeptLemmas
 mod FetchLemmas
 pub mod FirstLemmas
 pub mod NeededLemmas
+pub mod TimeLemmas
+pub mod RangeLemmas
 pub use Rattle.volume_points.proofs.AnswerLemmas
 pub use Rattle.volume_points.proofs.KnownLemmas
 pub use Rattle.volume_points.proofs.ReadLemmas

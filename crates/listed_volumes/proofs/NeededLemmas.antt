@@ -1,6 +1,6 @@
 -- The first points of volumes in two parts: where the one has as many as are asked for, none above its last is needed of the other.
-use Rattle.std.proofs.Common.{◌≡◌, ◌∙◌, ℕ, zero, suc, ◌+◌, ◌-◌, ◌<◌, ◌≤◌, ℤ, List, [], ◌∷◌, ◌++◌, length, Bool, true, false, refl, sym, ap, subst, inl, inr, arith, fold, true≢false}
-use Rattle.std.specs.Prelude.{◌⊎◌, Option, Some, None, IsSome, not, nat_le, slice_get}
+use Rattle.std.proofs.Common.{◌≡◌, ◌∙◌, ℕ, suc, ◌-◌, ◌≤◌, ℤ, List, [], ◌∷◌, ◌++◌, length, Bool, true, false, refl, sym, ap, subst, inl, inr, arith, true≢false}
+use Rattle.std.specs.Prelude.{Option, Some, None, not, nat_le, slice_get}
 use Rattle.std.specs.FinMap.{empty, get, get-empty}
 use Rattle.std.specs.Ordering.{is_lt, ordering_reverse}
 use Rattle.std.specs.declared.cmp.Ordering.{Ordering}
@@ -21,9 +21,9 @@ use Rattle.first_points.specs.Bounds.{is_up_to, points_up_to}
 use Rattle.first_points.specs.Firsts.{AreFirst, AreInTurn, HasNonePast, IsNext, IsPast, last_key}
 use Rattle.first_points.specs.Merges.{IsJoinOf, higher_of}
 use Rattle.first_points.proofs.BoundLemmas.{up_to_apart, up_to_left, up_to_taken}
-use Rattle.first_points.proofs.TurnLemmas.{not_itself, past_later}
-use Rattle.listed_volumes.specs.FirstListed.{IsLastNeeded, IsLastOfMany}
-use Rattle.listed_volumes.proofs.FirstLemmas.{join_of_points}
+use Rattle.first_points.proofs.TurnLemmas.{not_itself}
+use Rattle.listed_volumes.specs.FirstListed.{IsLastNeeded}
+use Rattle.listed_volumes.proofs.FirstLemmas.{join_of_points, join_turned}
 
 -- ---- what stands at a key of the points up to a last one
 
@@ -81,7 +81,7 @@ within_lower (Some last) p k low in_it = by (key_cmp (key_of last) k) (key_cmp (
         absurd (true≢false (sym low ∙ ap (λ o. not (is_lt o)) (key_cmp_total.trans (key_of last) k (key_of p) e (key_cmp_total.antisymm k (key_of p) ∙ ap ordering_reverse f))))
 
 -- what is below a point is up to it
-within_below : (p : Point) (k : Key) → key_cmp k (key_of p) ≡ Less → is_up_to (Some p) k ≡ true
+pub within_below : (p : Point) (k : Key) → key_cmp k (key_of p) ≡ Less → is_up_to (Some p) k ≡ true
 within_below p k below = ap (λ o. not (is_lt o)) (key_cmp_total.antisymm (key_of p) k ∙ ap ordering_reverse below)
 
 within_itself : (p : Point) → is_up_to (Some p) (key_of p) ≡ true
@@ -195,18 +195,27 @@ join_up_to last front back =
     subst (IsJoinOf (content_of (points_up_to last front)) (content_of (points_up_to last back))) (sym (fold-append raised empty (points_up_to last front) (points_up_to last back)) ∙ ap content_of (sym (up_to_apart last front back)))
     (join_of_points (content_of (points_up_to last front)) (points_up_to last back))
 
--- the first points of both, merged
-pub first_of_parts : (after : Option Key) (limit : ℕ) (given needed : Option Point) (front back early late points : List Point) → IsLastNeeded early limit given needed → AreFirst (content_of (points_up_to given front)) after limit early
-    → AreFirst (content_of (points_up_to needed back)) after limit late
-    → ((c d join : Contents) (after : Option Key) → IsJoinOf c d join → AreFirst c after limit early → AreFirst d after limit late → AreFirst join after limit points)
-    → AreFirst (content_of (points_up_to given (front ++ back))) after limit points
-first_of_parts after limit given needed front back early late points (inl same) of_front of_back merge =
-    merge _ _ _ after (join_up_to given front back) of_front (subst (λ (o : Option Point). AreFirst (content_of (points_up_to o back)) after limit late) same of_back)
-first_of_parts after limit given None front back early late points (inr many) of_front of_back merge = absurd (let bad : false ≡ true = many.1.0 in true≢false (sym bad))
-first_of_parts after limit given (Some p) front back early late points (inr many) of_front of_back merge =
-    let ends = ends_at (content_of (points_up_to given front)) after early p many.1.1 of_front.in_turn in
-    let low = from_within given front (key_of p) p.v ends.stands in
-    let narrow = first_narrow given p low front after limit early many.0 ends.key of_front in
-    let join = join_up_to (Some p) front back in
-    let merged = merge _ _ _ after join narrow of_back in
-    first_wide given p low (front ++ back) after limit points (as_many _ _ (in_join _ _ _ join) after limit early points many.0 narrow merged) merged
+-- the first points of both, merged, of which those of one are known up to where they are needed
+module _ (after : Option Key) (limit : ℕ) (given needed : Option Point) (one other whole early late points : List Point)
+    (join : (last : Option Point) → IsJoinOf (content_of (points_up_to last one)) (content_of (points_up_to last other)) (content_of (points_up_to last whole)))
+    (of_one : AreFirst (content_of (points_up_to given one)) after limit early) (of_other : AreFirst (content_of (points_up_to needed other)) after limit late)
+    (merge : (c d both : Contents) (after : Option Key) → IsJoinOf c d both → AreFirst c after limit early → AreFirst d after limit late → AreFirst both after limit points) where
+  pub first_of_join : IsLastNeeded early limit given needed → AreFirst (content_of (points_up_to given whole)) after limit points
+  first_of_join need = by needed need of_other
+    where
+      by : (o : Option Point) → IsLastNeeded early limit given o → AreFirst (content_of (points_up_to o other)) after limit late → AreFirst (content_of (points_up_to given whole)) after limit points
+      by o (inl same) of_other = merge _ _ _ after (join given) of_one (subst (λ (o : Option Point). AreFirst (content_of (points_up_to o other)) after limit late) same of_other)
+      by None (inr many) of_other = absurd (let bad : false ≡ true = many.1.0 in true≢false (sym bad))
+      by (Some p) (inr many) of_other =
+          let ends = ends_at (content_of (points_up_to given one)) after early p many.1.1 of_one.in_turn in
+          let low = from_within given one (key_of p) p.v ends.stands in
+          let narrow = first_narrow given p low one after limit early many.0 ends.key of_one in
+          let merged = merge _ _ _ after (join (Some p)) narrow of_other in
+          first_wide given p low whole after limit points (as_many _ _ (in_join _ _ _ (join (Some p))) after limit early points many.0 narrow merged) merged
+
+-- of the first part and the second, whichever is taken first
+pub join_of_parts : (front back : List Point) (last : Option Point) → IsJoinOf (content_of (points_up_to last front)) (content_of (points_up_to last back)) (content_of (points_up_to last (front ++ back)))
+join_of_parts front back last = join_up_to last front back
+
+pub join_of_turned : (front back : List Point) (last : Option Point) → IsJoinOf (content_of (points_up_to last back)) (content_of (points_up_to last front)) (content_of (points_up_to last (front ++ back)))
+join_of_turned front back last = join_turned _ _ _ (join_up_to last front back)

@@ -1,3 +1,4 @@
+pub mod Between
 pub mod Kept
 pub mod Listed
 pub mod Cached

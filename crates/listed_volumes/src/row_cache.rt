@@ -1,5 +1,5 @@
 //! The rows of the volumes that were matched last.
-ghost use Rattle.std.specs.Prelude.{◌≡◌, ◌⊎◌, is_some, [], ◌∷◌, None, IfOk, IfSome};
+ghost use Rattle.std.specs.Prelude.{◌≡◌, ◌⊎◌, ◌↔◌, ◌≤◌, is_some, [], ◌∷◌, length, None, IfOk, IfSome, IsTrue};
 ghost use Rattle.std.specs.Option.{option_copied};
 ghost use Rattle.m3_model.specs.Reads.{IsOrdered};
 ghost use Rattle.volume_points.specs.volume_bytes.Heads.{head_of};
@@ -188,6 +188,16 @@ impl RowCache {
     {
         for head in heads {
             self.forget(head);
+        }
+    }
+
+    // Whether the rows of as many volumes are kept as may be.
+    pub(crate) fn is_full(&self) -> bool
+        ensures { IsTrue result ↔ (64 ≤ length self.now.held) }
+    {
+        match &self.blocks {
+            Some(cache) => MOST_BLOCKS <= cache.len(),
+            None => false,
         }
     }
 

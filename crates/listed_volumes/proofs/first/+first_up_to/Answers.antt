@@ -19,7 +19,7 @@ use Rattle.listed_volumes.specs.FirstListed.{IsLastNeeded}
 use Rattle.listed_volumes.specs.Listed.{AreHeld, known_in}
 use Rattle.listed_volumes.proofs.FetchLemmas.{held_back, held_first, held_front, in_back, in_front}
 use Rattle.listed_volumes.proofs.FirstLemmas.{first_alone, first_none, points_of_parts}
-use Rattle.listed_volumes.proofs.NeededLemmas.{first_of_parts}
+use Rattle.listed_volumes.proofs.NeededLemmas.{first_of_join, join_of_parts}
 use Rattle.listed_volumes.proofs.first.+first_up_to.Goals as goal
 
 pub first_of_one-requires-clause-there : goal.first_of_one-requires-clause-there
@@ -102,9 +102,11 @@ returns-in_ok-late-in_default-clause-first g t c = λ tells.
     subst (λ (ps : List Point). IfOk c.both.result (AreFirst (content_of (points_up_to last ps)) after limit)) (sym (points_of_parts n vs))
     (IfOk-weaker c.both.result _ (AreFirst (content_of (points_up_to last (volume_points (known_in (take n vs)) ++ volume_points (known_in (drop n vs))))) after limit)
     (λ points merge.
-    first_of_parts after limit last needed (volume_points (known_in (take n vs))) (volume_points (known_in (drop n vs))) early late points
-    (subst (λ (l : List Point). IsLastNeeded l limit last needed) c.as_slice.ensures c.last_needed-needed.ensures)
+    let front = volume_points (known_in (take n vs)) in
+    let back = volume_points (known_in (drop n vs)) in
+    first_of_join after limit last needed front back (front ++ back) early late points (join_of_parts front back)
     (subst (λ (l : List ListedVolume). AreFirst (content_of (points_up_to last (volume_points (known_in l)))) after limit early) c.split_at.ensures.front (c.in_ok-early-in_default.ensures.first tells))
     (subst (λ (l : List ListedVolume). AreFirst (content_of (points_up_to needed (volume_points (known_in l)))) after limit late) c.split_at.ensures.back (c.in_ok-late-in_default.ensures.first (leaves.proceeds.tells ∙ tells)))
-    merge)
+    merge
+    (subst (λ (l : List Point). IsLastNeeded l limit last needed) c.as_slice.ensures c.last_needed-needed.ensures))
     c.both.ensures.ok)

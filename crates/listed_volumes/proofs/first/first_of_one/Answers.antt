@@ -13,7 +13,7 @@ use Rattle.listed_volumes.specs.Cached.{cache_key}
 use Rattle.listed_volumes.specs.FirstListed.{AreFirstInRows}
 use Rattle.listed_volumes.specs.Listed.{known_as}
 use Rattle.listed_volumes.proofs.CachedLemmas.{listed_got, right_got, right_rows}
-use Rattle.listed_volumes.proofs.FirstLemmas.{first_apart}
+use Rattle.listed_volumes.proofs.TimeLemmas.{first_apart}
 use Rattle.listed_volumes.proofs.first.first_of_one.Goals as goal
 
 pub returns-then-is_apart-clause-leaves : goal.returns-then-is_apart-clause-leaves
@@ -51,10 +51,10 @@ returns-in-Ok-Some-clause-right g c = λ tells. right_got (g.D.Disk.state c.args
 -- ---- they are read
 
 pub returns-in-Ok-None-clause-kept : goal.returns-in-Ok-None-clause-kept
-returns-in-Ok-None-clause-kept g c = λ known among listed. c.first_read.ensures.kept known among (listed_got (known_as c.args.volume.now ∷ []) (cache_key (head_of c.args.volume.now.head)) c.args.kept.now c.first.new.self c.first.ensures.used known among listed)
+returns-in-Ok-None-clause-kept g c = λ known among listed. c.first_unkept.ensures.kept known among (listed_got (known_as c.args.volume.now ∷ []) (cache_key (head_of c.args.volume.now.head)) c.args.kept.now c.first.new.self c.first.ensures.used known among listed)
 
 pub returns-in-Ok-None-clause-right : goal.returns-in-Ok-None-clause-right
-returns-in-Ok-None-clause-right g c = λ tells known held right. c.first_read.ensures.right tells known held (right_got (g.D.Disk.state c.args.disk.now).files (cache_key (head_of c.args.volume.now.head)) c.args.kept.now c.first.new.self c.first.ensures.used known held right)
+returns-in-Ok-None-clause-right g c = λ tells known held right. c.first_unkept.ensures.right tells known held (right_got (g.D.Disk.state c.args.disk.now).files (cache_key (head_of c.args.volume.now.head)) c.args.kept.now c.first.new.self c.first.ensures.used known held right)
 
 -- ---- no memory for what is found
 

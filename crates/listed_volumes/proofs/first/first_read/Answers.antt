@@ -1,4 +1,4 @@
-use Rattle.std.proofs.Common.{◌≡◌, ◌∙◌, List, ap, sym, subst}
+use Rattle.std.proofs.Common.{◌∙◌, List, subst}
 use Rattle.std.specs.Option.{option_copied}
 use Rattle.m3_model.specs.Contents.{content_of}
 use Rattle.m3_model.specs.declared.point.Series.{Series}
