@@ -1,5 +1,6 @@
 //! Puts so many points to a replica, streams all pages of it, and has another replica merge them: the first word says how many points,
-//! the second how far it goes, `put`, `page` or `merge`.
+//! the second how far it goes, `put`, `page` or `merge`, and a third of how many series they are, ten at least: a thousand, where it is
+//! left out.
 #![tactic(auto)]
 
 use m3_model::{Memory, Point, Text};
@@ -18,9 +19,9 @@ fn open_replica(alloc: Global) -> Result<Replica<MemDisk>, Memory> {
     Ok(replica)
 }
 
-// The point of this number: ten points have one time, and there are a thousand series.
-fn point_at(alloc: Global, number: u64) -> Result<Point, Memory> {
-    let series = number.wrapping_mul(7_919) % 1_000;
+// The point of this number, of so many series: ten points have one time.
+fn point_at(alloc: Global, number: u64, series: u64) -> Result<Point, Memory> {
+    let series = number.wrapping_mul(7_919).checked_rem(series).unwrap_or(0);
     let id = format!(in alloc; "series-{series}")?;
     Ok(Point {
         ns: 0,
@@ -30,10 +31,10 @@ fn point_at(alloc: Global, number: u64) -> Result<Point, Memory> {
     })
 }
 
-// Puts so many points, and flushes after each ten thousand of them.
-fn put_points(replica: &mut Replica<MemDisk>, count: u64) -> Result<(), Memory> {
+// Puts so many points of so many series, and flushes after each ten thousand of them.
+fn put_points(replica: &mut Replica<MemDisk>, count: u64, series: u64) -> Result<(), Memory> {
     for number in 0..count {
-        let point = point_at(replica.alloc, number)?;
+        let point = point_at(replica.alloc, number, series)?;
         replica.set_moment(point.t);
         let _ = replica.put(&point);
         if number % 10_000 == 9_999 {
@@ -52,9 +53,14 @@ fn stream_points(replica: &mut Replica<MemDisk>, count: u64, merges: bool) -> Re
     Ok(streamed.is_some_and(|came| came.points == count && came.merged == merged))
 }
 
-// Puts so many points, and goes as far as the word says. False where not all points came.
-fn put_and_stream(replica: &mut Replica<MemDisk>, count: u64, word: &str) -> Result<bool, Memory> {
-    put_points(replica, count)?;
+// Puts so many points of so many series, and goes as far as the word says. False where not all points came.
+fn put_and_stream(
+    replica: &mut Replica<MemDisk>,
+    count: u64,
+    word: &str,
+    series: u64,
+) -> Result<bool, Memory> {
+    put_points(replica, count, series)?;
     match word {
         "page" => stream_points(replica, count, false),
         "merge" => stream_points(replica, count, true),
@@ -62,9 +68,9 @@ fn put_and_stream(replica: &mut Replica<MemDisk>, count: u64, word: &str) -> Res
     }
 }
 
-fn run_words(alloc: Global, count: u64, word: &str) -> Result<bool, Memory> {
+fn run_words(alloc: Global, count: u64, word: &str, series: u64) -> Result<bool, Memory> {
     let mut replica = open_replica(alloc)?;
-    let came = put_and_stream(&mut replica, count, word);
+    let came = put_and_stream(&mut replica, count, word, series);
     drop(replica);
     came
 }
@@ -73,7 +79,11 @@ fn run(rt: HostRuntime) -> Option<bool> {
     let mut words = env::args(&rt).ok()?;
     let count = words.nth(1)?.parse::<u64>().ok()?;
     let word = words.next()?;
-    run_words(rt.alloc(), count, word.as_str()).ok()
+    let series = match words.next() {
+        Some(series) => series.parse::<u64>().ok()?,
+        None => 1_000,
+    };
+    run_words(rt.alloc(), count, word.as_str(), series).ok()
 }
 
 fn main(rt: HostRuntime) -> ExitCode {
