@@ -2,7 +2,7 @@
 use Rattle.std.proofs.Common.{◌≡◌, ◌≤◌, ℕ, List, [], ◌++◌, length, refl, sym, ap, ◌∙◌, subst, inl, inr, arith}
 use Rattle.std.specs.Prelude.{Option, Some, Result, Err, IsErrOf}
 use Rattle.std.specs.List.{flat_map}
-use Rattle.std.proofs.lemmas.Option.{same_Some}
+use Rattle.std.proofs.lemmas.Option.{same_Some, none-some}
 use Rattle.m3_model.specs.Members.{IsIn}
 use Rattle.m3_model.specs.declared.act.Act.{Act}
 use Rattle.m3_model.specs.declared.act.Act.TheVariants as act
@@ -146,4 +146,4 @@ swept_tells {D} {G} state old start turns new a c done failed asks stands h = by
     by act.Tick is = tick_tells state start turns old new stands done failed (of_call (call.Tick old.net.state.rules) is)
     by act.Flush is = flush_tells state start turns old new stands done failed (of_call (call.Flush old.net.state.rules) is)
     by act.Snapshot is = snapshot_tells state start turns old new stands done failed (of_call call.Snapshot is)
-    by _ is = cc
+    by _ is = absurd (none-some c is)
