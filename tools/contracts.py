@@ -25,7 +25,8 @@ def functions(name):
         for line in file.read_text().splitlines():
             it = line.strip()
             if line.startswith(("impl", "}")):
-                owner = re.search(r"(\w+)(?:<[^>]*>)? \{", line)[1] + "::" if line.startswith("impl") else ""
+                of = re.search(r"(\w+)(?:<[^>]*>)? \{", line)
+                owner = f"{of[1]}::" if of else ""
             if it in ("{", "{}") or it.endswith(" {") and not clause:
                 head, own = "", None
             elif own is not None and (clause or re.match(r"(requires|ensures)\b", it)):

@@ -75,6 +75,18 @@ pub join_swap : (ps qs : List Point) (c : Contents) → fold raised (fold raised
 join_swap [] qs c = refl
 join_swap (p ∷ ps) qs c = join_swap ps qs (raised c p) ∙ ap (λ d. fold raised d ps) (join_one_swap qs c p)
 
+raised_again : (c : Contents) (p : Point) → raised (raised c p) p ≡ raised c p
+raised_again c p = raised_twice c p p.v ∙ ap (λ v. raised c (record p { v = v })) (higher_again p.v)
+  where
+    higher_again : (v : ℤ) → higher (Some v) v ≡ v
+    higher_again v = grind (arith, ints)
+
+-- a list that is joined twice is joined once
+pub join_again : (ps : List Point) (c : Contents) → fold raised (fold raised c ps) ps ≡ fold raised c ps
+join_again [] c = refl
+join_again (p ∷ ps) c =
+    ap (λ d. fold raised d ps) (sym (join_one_swap ps (raised c p) p)) ∙ ap (λ d. fold raised (fold raised d ps) ps) (raised_again c p) ∙ join_again ps (raised c p)
+
 pub append_swap : (ps qs : List Point) → JoinAlike (ps ++ qs) (qs ++ ps)
 append_swap ps qs c = fold-append raised c ps qs ∙ join_swap ps qs c ∙ sym (fold-append raised c qs ps)
 

@@ -8,6 +8,7 @@ use Rattle.std.specs.declared.cmp.Ordering.TheVariants.{Less, Equal, Greater}
 use Rattle.std.proofs.lemmas.Cmp.{nat_list_cmp_total}
 use Rattle.std.proofs.lemmas.List.{append-nil}
 use Rattle.std.proofs.lemmas.List.Concat.{flat_map-append}
+use Rattle.std.proofs.lemmas.List.Sums.{fold-append}
 use Rattle.m3_model.specs.Ascends.{Ascends}
 use Rattle.m3_model.specs.Contents.{Contents, raised}
 use Rattle.m3_model.specs.Reads.{IsOrdered, points_in}
@@ -16,6 +17,7 @@ use Rattle.series_merge.specs.Merges.{IsMergeOf}
 use Rattle.series_merge.specs.Parts.{JoinAlike}
 use Rattle.series_merge.specs.Pairs.{points_at}
 use Rattle.series_merge.specs.Runs.{IsBefore, IsRun, IsJoinedSeries, which_next, IsPartOfMerge}
+use Rattle.series_merge.proofs.JoinLemmas.{join_again}
 use Rattle.series_merge.proofs.PairLemmas.{points_apart, merge_some}
 use Rattle.series_merge.proofs.PartLemmas.{IsBeforeFirst, of_one, of_other, of_both}
 
@@ -171,3 +173,9 @@ merge_of_none (x ∷ one) other none h = absurd (omega arith)
 pub merge_with_none : (one other : List Series) → length other ≡ 0 → IsOrdered one → IsMergeOf one other one
 merge_with_none one [] none h = record { ordered = h; content = λ ns. ap (fold raised empty) (sym (append-nil (points_in ns one))) }
 merge_with_none one (y ∷ other) none h = absurd (omega arith)
+
+pub merge_of_same : (one other : List Series) → one ≡ other → IsOrdered one → IsMergeOf one other one
+merge_of_same one other same h = subst (λ xs. IsMergeOf one xs one) same (record {
+  ordered = h;
+  content = λ ns. sym (fold-append raised empty (points_in ns one) (points_in ns one) ∙ join_again (points_in ns one) empty);
+})

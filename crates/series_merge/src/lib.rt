@@ -4,5 +4,6 @@
 pub mod laws;
 pub mod merging;
 mod pairs;
+mod same;
 
 pub use merging::merge;

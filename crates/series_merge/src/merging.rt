@@ -6,6 +6,7 @@ ghost use Rattle.series_merge.specs.Merges.{IsMergeOf};
 ghost use Rattle.series_merge.specs.Runs.{IsPartOfMerge, IsJoinedSeries, which_next};
 
 use crate::pairs::join_pairs;
+use crate::same::are_same;
 use m3_model::{Memory, Seq, Series};
 use std::alloc::Global;
 use std::cmp::Ordering;
@@ -122,6 +123,16 @@ fn merge_all(alloc: Global, one: Seq<Series>, other: Seq<Series>) -> Result<Seq<
     Ok(Seq::from_vec(done))
 }
 
+// The one of two equal lists.
+fn kept(one: Seq<Series>, other: Seq<Series>) -> Seq<Series>
+    requires same { one ≡ other }
+    requires one { IsOrdered one }
+    ensures { IsMergeOf one other result }
+{
+    drop(other);
+    one
+}
+
 /// The series of both lists in one: each identifier once, with the pairs of both by time, and of two pairs at one time
 /// the higher. Identifiers ascend strictly by bytes in each list, times ascend strictly in each series, and no series is
 /// empty; the same is so of the result.
@@ -142,6 +153,9 @@ pub fn merge(alloc: Global, one: Seq<Series>, other: Seq<Series>) -> Result<Seq<
     }
     if other.len() == 0 {
         return Ok(one);
+    }
+    if are_same(one.as_slice(), other.as_slice()) {
+        return Ok(kept(one, other));
     }
     merge_all(alloc, one, other)
 }
