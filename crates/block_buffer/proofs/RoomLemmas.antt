@@ -1,9 +1,10 @@
 -- Room in a buffer.
-use Rattle.std.proofs.Common.{◌≡◌, ◌≢◌, refl, sym, subst}
-use Rattle.std.specs.Prelude.{Option, Some, None}
+use Rattle.std.proofs.Common.{◌≡◌, ◌≢◌, ℤ, refl, sym, ap, subst}
+use Rattle.std.specs.Prelude.{Option, Some, None, IsSome}
 use Rattle.m3_model.specs.declared.point.Key.{Key}
 use Rattle.series_slots.specs.declared.series_key.SeriesKey.{SeriesKey}
-use Rattle.series_slots.specs.Points.{slot_at}
+use Rattle.series_slots.specs.Slots.{settled}
+use Rattle.series_slots.specs.Points.{slot_at, value_of}
 use Rattle.series_slots.specs.SeriesEntries.{SeriesEntries, slots_of}
 use Rattle.block_buffer.specs.declared.room.Room.{Room}
 use Rattle.block_buffer.specs.Room.{RoomStands, room_key, OnlyRoomIsEmpty}
@@ -33,3 +34,12 @@ only_vacated old new key only h k e =
     let room : Some key ≡ Some k = only k was.0 in
     let same : key ≡ k = cc in
     absurd (was.1 (sym same))
+
+-- a slot has a value
+pub valued_slot : (es : SeriesEntries) (k : Key) → OnlyRoomIsEmpty None es → IsSome (slot_at (slots_of es) k) → (v : ℤ) × (value_of (slots_of es) k ≡ Some v)
+valued_slot es k only some = by (slot_at (slots_of es) k) refl some
+  where
+    by : (o : Option (Option ℤ)) → slot_at (slots_of es) k ≡ o → IsSome o → (v : ℤ) × (value_of (slots_of es) k ≡ Some v)
+    by None e h = cc
+    by (Some None) e h = let wrong : None ≡ Some k = only k e in cc
+    by (Some (Some v)) e h = (v, ap settled e)

@@ -55,11 +55,12 @@ impl Model for AllSeries {
     ghost invariant = { λ a. TimesFit a.placed × SpacesBelow a.spaces a.placed × (a.spaces ≤ 256) × AreNoted a.firsts.spaces.items a.placed };
 }
 
-// Where a slot is: the position of its series, and whether it has a value.
+// Where a slot is: the position of its series, whether it has a value, and whether the series had a slot before.
 #[derive(Clone, Copy)]
 pub(crate) struct Found {
     pub(crate) position: usize,
     pub(crate) valued: bool,
+    pub(crate) known: bool,
 }
 
 // The value of a slot, if there is a slot and it has one.
@@ -175,21 +176,36 @@ impl AllSeries {
         ensures ok { OnOk result (IsSlotSet self.old self.new (key_at series.now t) (Some (value_of (slots_of self.old) (key_at series.now t)))) }
         ensures stands { IfOk result (λ found. StandsAt self.new found.position t series.now) }
         ensures valued { IfOk result (λ found. found.valued ≡ is_some (value_of (slots_of self.old) (key_at series.now t))) }
+        ensures known { IfOk result (λ found. IsTrue found.known → (q : ℕ) × IsSome (slot_at (slots_of self.old) (key_at series.now q))) }
         ensures err { OnErr result (AreSameSlots self.old self.new) }
     {
         match self.position_of(series) {
             Some(position) => {
+                let known = self.has_slots(position);
                 let valued = self.hold_at(alloc, position, t)?;
-                Ok(Found { position, valued })
+                Ok(Found {
+                    position,
+                    valued,
+                    known,
+                })
             }
             None => {
                 let position = self.hold_new(alloc, series.copy(alloc)?, t)?;
                 Ok(Found {
                     position,
                     valued: false,
+                    known: false,
                 })
             }
         }
+    }
+
+    // Whether the series at this position has a slot, in constant time.
+    fn has_slots(&self, position: usize) -> bool
+        requires { (s : SeriesKey) × IsAt self.now position s }
+        ensures { (s : SeriesKey) → IsAt self.now position s → IsTrue result → (q : ℕ) × IsSome (slot_at (slots_of self.now) (key_at s q)) }
+    {
+        !self.placed.is_vacant(position)
     }
 
     // Makes a slot of the series at this position, if there is none. Says whether there is a value.

@@ -1,4 +1,4 @@
-ghost use Rattle.std.specs.Prelude.{◌≡◌, ◌+◌, ◌-◌, ◌^◌, ◌<◌, List, min, Some, None, true, is_some, IfOk, IfSome, IsSome, OnOk, OnErr, MatchOption};
+ghost use Rattle.std.specs.Prelude.{◌≡◌, ◌+◌, ◌-◌, ◌^◌, ◌<◌, List, min, Some, None, true, is_some, IsTrue, IfOk, IfSome, IsSome, OnOk, OnErr, MatchOption};
 ghost use Rattle.std.specs.FinMap as finite;
 ghost use Rattle.std.specs.List.{All};
 ghost use Rattle.m3_model.specs.declared.point.Matcher.{Matcher};
@@ -17,6 +17,7 @@ ghost use Rattle.block_buffer.specs.Taken.{HasSeries, HasId, HasNone, IsTaken, s
 use crate::all_series::AllSeries;
 use crate::blocks::{block_starts, closed_starts, listed};
 use crate::room::Room;
+use crate::stand::Stand;
 use crate::taken::Taken;
 use m3_model::{Duplicate, Memory, Pick, Point, Rules, Seq, Series, Text};
 use series_slots::SeriesKey;
@@ -75,14 +76,15 @@ impl Buffer {
     }
 
     /// Takes the memory that a `put` of this point needs, and gives up the room for any other. Says whether a point stands at
-    /// its key already. Finds the series in constant expected time, and its time in the logarithm of its times.
+    /// its key already, and whether its series is known to have one. Finds the series in constant expected time, and its time in the logarithm of its times.
     ///
     /// # Errors
     ///
     /// Want of memory leaves the points as they were, and no room.
-    pub fn room(&mut self, p: &Point) -> Result<bool, Memory>
+    pub fn room(&mut self, p: &Point) -> Result<Stand, Memory>
         ensures ok { OnOk result (self.new ≡ record { points = self.old.points; room = Some (key_of p.now) }) }
-        ensures stands { IfOk result (λ stands. stands ≡ is_some (finite.get self.old.points (key_of p.now))) }
+        ensures stands { IfOk result (λ stand. stand.valued ≡ is_some (finite.get self.old.points (key_of p.now))) }
+        ensures known { IfOk result (λ stand. IsTrue stand.known → HasId self.old.points p.now.id) }
         ensures err { OnErr result (self.new ≡ record { points = self.old.points; room = None }) }
     {
         self.release();
@@ -92,7 +94,10 @@ impl Buffer {
             position: found.position,
             t: p.t,
         });
-        Ok(found.valued)
+        Ok(Stand {
+            valued: found.valued,
+            known: found.known,
+        })
     }
 
     /// Joins the point, of which the higher value stays at its key, and uses up the room for it. Says whether that

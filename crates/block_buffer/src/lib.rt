@@ -9,7 +9,9 @@ mod first_times;
 pub mod laws;
 mod room;
 mod spot;
+pub mod stand;
 pub mod taken;
 
 pub use buffer::Buffer;
+pub use stand::Stand;
 pub use taken::Taken;

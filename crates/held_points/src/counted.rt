@@ -1,4 +1,4 @@
-ghost use Rattle.std.specs.Prelude.{◌≡◌, ◌⊎◌, ◌+◌, ◌^◌, ◌<◌, ◌≤◌, List, Some, None, true, IsSome, IfOk, IfSome, OnOk, OnErr, MatchOption};
+ghost use Rattle.std.specs.Prelude.{◌≡◌, ◌⊎◌, ◌+◌, ◌^◌, ◌<◌, ◌≤◌, List, Some, None, true, IsTrue, IsSome, IfOk, IfSome, OnOk, OnErr, MatchOption};
 ghost use Rattle.std.specs.List.{All};
 ghost use Rattle.std.specs.FinMap as finite;
 ghost use Rattle.m3_model.specs.Contents.{raised, raised_at, key_of};
@@ -57,20 +57,22 @@ impl CountedBuffer {
     }
 
     // Takes the memory that a `put` of this point needs. Where a replica may hold no more points and none stands at the
-    // key, memory is said to be wanted. An error leaves the points as they were.
-    pub(crate) fn room(&mut self, point: &Point) -> Result<(), Memory>
+    // key, memory is said to be wanted. An error leaves the points as they were. What is answered is true only of an
+    // identifier that has a point.
+    pub(crate) fn room(&mut self, point: &Point) -> Result<bool, Memory>
         requires { self.old.room ≡ None }
         ensures ok { OnOk result (self.new ≡ record { points = self.old.points; room = Some (key_of point.now) }) }
         ensures err { OnErr result (self.new ≡ record { points = self.old.points; room = None }) }
         ensures fits { OnOk result (IsSome (finite.get self.old.points (key_of point.now)) ⊎ (finite.len self.old.points < MOST_REPLICA_POINTS)) }
+        ensures known { IfOk result (λ known. IsTrue known → HasId self.old.points point.now.id) }
     {
-        let stands = self.buffer.room(point)?;
-        if !stands && self.count >= MOST_REPLICA_POINTS {
+        let stand = self.buffer.room(point)?;
+        if !stand.valued && self.count >= MOST_REPLICA_POINTS {
             self.buffer.release();
             return Err(Memory);
         }
-        self.adds = !stands;
-        Ok(())
+        self.adds = !stand.valued;
+        Ok(stand.known)
     }
 
     // Joins the point, for which there is room.

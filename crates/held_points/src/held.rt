@@ -81,13 +81,17 @@ impl HeldPoints {
         ensures err { OnErr result (self.new ≡ self.old) }
         ensures fits { OnOk result (IsSome (finite.get self.old.points (key_of point.now)) ⊎ (finite.len self.old.points < MOST_REPLICA_POINTS)) }
     {
-        let newly = list(self.alloc, &mut self.index, &point.id)?;
-        if let Err(e) = self.buffer.room(point) {
-            unlist(&mut self.index, newly, &point.id);
-            return Err(e);
+        let known = self.buffer.room(point)?;
+        match list(self.alloc, &mut self.index, known, &point.id) {
+            Ok(newly) => {
+                self.newly = newly;
+                Ok(())
+            }
+            Err(e) => {
+                self.buffer.release();
+                Err(e)
+            }
         }
-        self.newly = newly;
-        Ok(())
     }
 
     /// Joins the point, for which there is room and of which the higher value stays at its key, and uses up the room. Takes

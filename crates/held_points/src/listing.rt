@@ -1,6 +1,6 @@
-ghost use Rattle.std.specs.Prelude.{◌≡◌, None, IfOk, OnErr, MatchBool};
+ghost use Rattle.std.specs.Prelude.{◌≡◌, None, IsTrue, IfOk, OnErr, MatchBool};
 ghost use Rattle.m3_model.specs.Tags.{HasTags};
-ghost use Rattle.tag_index.specs.Listed.{Listed};
+ghost use Rattle.tag_index.specs.Listed.{Listed, IsPresent};
 ghost use Rattle.held_points.specs.Indexed.{IsNewlyListed, WasListed, IsForgotten};
 
 use crate::counted::CountedBuffer;
@@ -21,12 +21,14 @@ fn tags_of(alloc: Global, id: &str) -> Result<Seq<(Text, Text)>, Memory>
     }
 }
 
-// Lists the series with its tags, and says whether it wasn't listed before. Want of memory changes nothing.
-pub(crate) fn list(alloc: Global, index: &mut Index, id: &Text) -> Result<bool, Memory>
+// Lists the series with its tags, and says whether it wasn't listed before. One known to be listed isn't sought. Want of
+// memory changes nothing.
+pub(crate) fn list(alloc: Global, index: &mut Index, known: bool, id: &Text) -> Result<bool, Memory>
+    requires { IsTrue known → IsPresent index.old id.now }
     ensures ok { IfOk result (λ newly. MatchBool newly (IsNewlyListed index.old index.new id.now) (WasListed index.old index.new id.now)) }
     ensures err { OnErr result (index.new ≡ index.old) }
 {
-    if index.has(id.as_str()) {
+    if known || index.has(id.as_str()) {
         return Ok(false);
     }
     let tags = tags_of(alloc, id.as_str())?;

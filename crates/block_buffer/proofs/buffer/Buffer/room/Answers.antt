@@ -11,7 +11,7 @@ use Rattle.block_buffer.specs.Room.{room_key}
 use Rattle.block_buffer.specs.Held.{InMemory}
 use Rattle.series_slots.proofs.PointLemmas.{same_points, always_err, get-points}
 use Rattle.block_buffer.proofs.ContentLemmas.{value_held, value_same, only_held}
-use Rattle.block_buffer.proofs.RoomLemmas.{no_room, only_of}
+use Rattle.block_buffer.proofs.RoomLemmas.{no_room, only_of, valued_slot}
 use Rattle.block_buffer.proofs.buffer.Buffer.room.Goals as goal
 
 abbrev held : Contents → Option Key → InMemory
@@ -47,3 +47,17 @@ returns-clause-stands c =
     c.in_ok-found.ensures.valued
     ∙ ap is_some (sym (get-points (slots_of c.self.inside.all) key) ∙ ap (λ (h : InMemory). finite.get h.points key) was
     ∙ ap (λ (s : SeriesKey). finite.get c.args.self.now.points (key_at s c.args.p.now.t)) c.in_ok-set.ensures)
+
+pub returns-clause-known : goal.returns-clause-known
+returns-clause-known c known =
+    let was : held (points_of (slots_of c.self.inside.all)) (room_key c.self.inside.sought c.self.inside.room) ≡ held c.args.self.now.points None = c.self.view_is ∙ c.release.ensures in
+    let only = only_of c.self.inside.sought c.self.inside.room c.self.inside.all (ap (λ (h : InMemory). h.room) was) c.self.invariant.1 in
+    let slot = c.in_ok-found.ensures.known known in
+    let key : Key = key_at c.set.new.self slot.0 in
+    let value = valued_slot c.self.inside.all key only slot.1 in
+    record {
+      key = key;
+      v = value.0;
+      stands = ap (λ (h : InMemory). finite.get h.points key) (sym was) ∙ get-points (slots_of c.self.inside.all) key ∙ value.1;
+      named = ap (λ (s : SeriesKey). s.id) c.in_ok-set.ensures;
+    }
