@@ -41,7 +41,8 @@ impl Schedule {
         ensures after { self.new ≡ calls_after self.old }
         ensures cause { CountsFaults (IsTrue result) self.old.faults self.new.faults }
     {
-        let fails = self.fail.contains(&self.calls) || self.fuse == Some(0);
+        let listed = !self.fail.is_empty() && self.fail.contains(&self.calls);
+        let fails = listed || self.fuse == Some(0);
         self.calls = self.calls.saturating_add(1);
         if fails {
             self.faults = self.faults.saturating_add(1);
