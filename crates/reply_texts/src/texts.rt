@@ -23,6 +23,9 @@ const SERIES_ROOM: usize = 64;
 // Of so many series the room is taken at once.
 const FIRST_SERIES: usize = 64;
 
+// Bytes of one point.
+const POINT_ROOM: usize = 24;
+
 fn write_acks(acks: &[u8], instances: &[Instance], out: &mut Writer) -> Result<(), AllocError>
     ensures tokens { OnOk result (out.new.tokens ≡ out.old.tokens ++ tokens_of (object_of (acks_fields instances.now acks.now))) }
     ensures reads { OnOk result (ReadsBack (object_of (acks_fields instances.now acks.now))) }
@@ -73,7 +76,11 @@ pub fn acks_text(alloc: Global, instances: &[Instance], acks: &[u8]) -> Result<S
 fn room_for(series: &[Series]) -> usize
     ensures { ROOM ≤ result }
 {
-    ROOM + SERIES_ROOM * series.len().min(FIRST_SERIES)
+    let points = match series.first() {
+        Some(first) => first.points.len().min(FIRST_SERIES),
+        None => 0,
+    };
+    ROOM + (SERIES_ROOM + POINT_ROOM * points) * series.len().min(FIRST_SERIES)
 }
 
 /// These series were read.
