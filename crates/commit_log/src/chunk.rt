@@ -5,7 +5,7 @@ ghost use Rattle.log_chunks.specs.m3_outside.DiskState.{DiskState, Elapses, Step
 ghost use Rattle.commit_log.specs.Segment.{segment, MayAdd, Adds, OthersStay, IsReady, IsKept};
 
 use byteorder::{BigEndian, ByteOrder};
-use log_chunks::m3_outside::{Disk, Failed, FileName};
+use log_chunks::of_m3_outside::{Disk, Failed, FileName};
 use log_chunks::{HEAD_BYTES, OPEN};
 
 /// The file of the segment of this number.

@@ -10,9 +10,9 @@ ghost use Rattle.commit_log.specs.Cutting.{numbers_below, segments_below};
 
 use crate::chunk::segment_name;
 use crate::read::segment_numbers;
-use log_chunks::m3_model::Memory;
-use log_chunks::m3_outside::take_away::take_away;
-use log_chunks::m3_outside::{Disk, DiskErr, FileName};
+use log_chunks::of_m3_model::Memory;
+use log_chunks::of_m3_outside::take_away::take_away;
+use log_chunks::of_m3_outside::{Disk, DiskErr, FileName};
 use std::alloc::Global;
 
 // The names of the segments of these numbers.

@@ -11,8 +11,8 @@ ghost use Rattle.commit_log.specs.Reading.{IsFront};
 ghost use Rattle.commit_log.specs.Segment.{segment};
 
 use crate::chunk::segment_name;
-use log_chunks::m3_model::limits::SEGMENT_BYTES;
-use log_chunks::m3_outside::{Disk, DiskErr, FileName};
+use log_chunks::of_m3_model::limits::SEGMENT_BYTES;
+use log_chunks::of_m3_outside::{Disk, DiskErr, FileName};
 use std::alloc::Global;
 
 /// The first bytes of a segment's file, at most as many as a segment has.

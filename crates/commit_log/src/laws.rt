@@ -5,7 +5,7 @@ ghost use Rattle.log_chunks.specs.m3_outside.Files.{Files};
 ghost use Rattle.commit_log.specs.Segment.{ReadsChunks};
 ghost use Rattle.commit_log.specs.LogLaws.{NothingBehindGate, NumbersAreThere, LogIsOne, DamagedIsNone, ReaderFindsLog, AppendGrowsLog, BeginLeavesLog, CutLeavesEnd};
 
-use log_chunks::m3_outside::Disk;
+use log_chunks::of_m3_outside::Disk;
 
 /// A segment reads as at most one list of chunks.
 pub fn chunks_are_one()

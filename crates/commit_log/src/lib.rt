@@ -17,5 +17,19 @@ pub use log_chunks::{ChunkAt, get_chunk};
 pub use log_err::LogErr;
 pub use read::{Found, Segments, list_segments, next_after, read_all};
 
-// Libraries that the rows of crates above need not name.
-pub use log_chunks::{m3_model, m3_outside, wire_bytes};
+// Of libraries that the rows of crates above need not name: what these crates name of them.
+/// Of `m3_model`.
+pub mod of_m3_model {
+    pub use log_chunks::of_m3_model::{Memory, Point, Seq, Series, Text, limits};
+}
+/// Of `m3_outside`.
+pub mod of_m3_outside {
+    pub use log_chunks::of_m3_outside::{Disk, DiskErr, Failed, FileName, take_away};
+}
+/// Of `wire_bytes`.
+pub mod of_wire_bytes {
+    pub use log_chunks::of_wire_bytes::{
+        EntryAt, WireErr, digest, get_between, get_entry, get_number, get_point, put_fence,
+        put_number, put_point, put_points, put_tenure,
+    };
+}

@@ -10,8 +10,8 @@ ghost use Rattle.commit_log.specs.LogEnd.{NoneFrom, LogEndStands, IsReadyFor, Ma
 
 use crate::chunk::{put_chunk, segment_name};
 use log_chunks::HEAD_BYTES;
-use log_chunks::m3_model::limits::{NUMBER_END, SEGMENT_BYTES};
-use log_chunks::m3_outside::{Disk, DiskErr, Failed};
+use log_chunks::of_m3_model::limits::{NUMBER_END, SEGMENT_BYTES};
+use log_chunks::of_m3_outside::{Disk, DiskErr, Failed};
 use std::marker::Model;
 
 // The device calls of an append that use up room.

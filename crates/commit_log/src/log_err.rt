@@ -1,6 +1,6 @@
 ghost use Rattle.std.specs.Prelude.{◌≡◌};
 
-use log_chunks::m3_outside::{DiskErr, Failed};
+use log_chunks::of_m3_outside::{DiskErr, Failed};
 use std::alloc::{AllocError, AllocFailed};
 use thiserror::Error;
 

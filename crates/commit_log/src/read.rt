@@ -13,9 +13,9 @@ ghost use Rattle.commit_log.specs.declared.log_err.LogErr.TheVariants as errors;
 use crate::file::read_front;
 use crate::log_err::LogErr;
 use crate::segment::read_chunks;
-use log_chunks::m3_model::Seq;
-use log_chunks::m3_model::limits::NUMBER_END;
-use log_chunks::m3_outside::{Disk, DiskErr, FileName};
+use log_chunks::of_m3_model::Seq;
+use log_chunks::of_m3_model::limits::NUMBER_END;
+use log_chunks::of_m3_outside::{Disk, DiskErr, FileName};
 use std::alloc::Global;
 
 /// What a log holds.

@@ -5,7 +5,7 @@ ghost use Rattle.commit_log.specs.declared.log_err.LogErr.TheVariants as errors;
 
 use crate::file::Front;
 use crate::log_err::LogErr;
-use log_chunks::m3_model::Seq;
+use log_chunks::of_m3_model::Seq;
 use log_chunks::{ChunkAt, get_chunk};
 use std::alloc::Global;
 

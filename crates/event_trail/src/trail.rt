@@ -10,7 +10,7 @@ use crate::past::Past;
 use crate::views::EventView;
 use event_book::Full;
 use m3_outside::Disk;
-use placement_core::m3_model::{Placement, Rules};
+use placement_core::of_m3_model::{Placement, Rules};
 use std::marker::{Model, PhantomData};
 
 // So many events a list takes.

@@ -7,7 +7,7 @@ ghost use Rattle.cluster_core.specs.declared.event.Event.TheVariants as event;
 ghost use Rattle.cluster_core.specs.declared.event.StepCall.TheVariants as call;
 ghost use Rattle.cluster_core.specs.declared.event.StepReply.TheVariants as reply;
 
-use placement_core::m3_model::{
+use placement_core::of_m3_model::{
     Key, Page, Pick, Placement, Point, Reason, Report, Rules, Seq, Series,
 };
 use std::marker::Model;

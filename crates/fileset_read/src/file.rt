@@ -5,8 +5,8 @@ ghost use Rattle.shard_files.specs.m3_outside.DiskState.{DiskState, Told};
 ghost use Rattle.shard_files.specs.m3_outside.DiskCalls.{LeavesFiles};
 ghost use Rattle.shard_files.specs.m3_outside.declared.disk_err.DiskErr.TheVariants.{Failed as DiskFailed, Memory as WantOfMemory};
 
-use shard_files::m3_model::Seq;
-use shard_files::m3_outside::{Disk, DiskErr, FileName};
+use shard_files::of_m3_model::Seq;
+use shard_files::of_m3_outside::{Disk, DiskErr, FileName};
 use std::alloc::Global;
 
 // The bytes of a file of this size.

@@ -1,5 +1,5 @@
-use shard_files::m3_model::Memory;
-use shard_files::m3_outside::{DiskErr, FileName};
+use shard_files::of_m3_model::Memory;
+use shard_files::of_m3_outside::{DiskErr, FileName};
 use thiserror::Error;
 
 /// Why a volume isn't read.

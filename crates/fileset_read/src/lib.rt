@@ -20,17 +20,17 @@ pub use volume::{row, rows};
 // Of libraries that the rows of crates above need not name: what these crates name of them.
 /// Of `commit_log`.
 pub mod of_commit_log {
-    pub use shard_files::commit_log::{
+    pub use shard_files::of_commit_log::{
         Log, Segments, cut_before, list_segments, next_after, read_front,
     };
 }
 /// Of `m3_model`.
 pub mod of_m3_model {
-    pub use shard_files::m3_model::{Memory, Point, Seq, Series, Text, limits};
+    pub use shard_files::of_m3_model::{Memory, Point, Seq, Series, Text, limits};
 }
 /// Of `m3_outside`.
 pub mod of_m3_outside {
-    pub use shard_files::m3_outside::{Disk, DiskErr, Failed, FileName, take_away};
+    pub use shard_files::of_m3_outside::{Disk, DiskErr, Failed, FileName, take_away};
 }
 /// Of `shard_files`.
 pub mod of_shard_files {
@@ -42,7 +42,7 @@ pub mod of_volume_bytes {
 }
 /// Of `wire_bytes`.
 pub mod of_wire_bytes {
-    pub use shard_files::wire_bytes::{
+    pub use shard_files::of_wire_bytes::{
         WireErr, digest, get_between, get_number, get_point, put_fence, put_number, put_point,
         put_points, put_tenure,
     };

@@ -8,8 +8,8 @@ ghost use Rattle.shard_files.specs.Parts as parts;
 ghost use Rattle.shard_files.specs.Parts.{counted_volumes};
 ghost use Rattle.fileset_read.specs.Volumes.{is_counted};
 
-use shard_files::m3_model::{Memory, Seq};
-use shard_files::m3_outside::{Disk, DiskErr, Failed, FileName};
+use shard_files::of_m3_model::{Memory, Seq};
+use shard_files::of_m3_outside::{Disk, DiskErr, Failed, FileName};
 use std::alloc::Global;
 
 // An open gate.

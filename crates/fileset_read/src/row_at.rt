@@ -3,7 +3,7 @@ ghost use Rattle.shard_files.specs.m3_model.declared.point.Series.{Series as Row
 ghost use Rattle.shard_files.specs.wire_bytes.Volumes.{row_bytes};
 ghost use Rattle.fileset_read.specs.Rows.{AreInside, FindsRow, IsSpelled};
 
-use shard_files::wire_bytes::{WireErr, get_number};
+use shard_files::of_wire_bytes::{WireErr, get_number};
 
 /// The record of a series in the data of a volume: its identifier is the bytes from `id_from` to `id_to`, `count` times with
 /// their values stand from `from` on, and `next` is the offset behind them.

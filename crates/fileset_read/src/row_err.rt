@@ -1,5 +1,5 @@
-use shard_files::m3_model::Memory;
-use shard_files::wire_bytes::WireErr;
+use shard_files::of_m3_model::Memory;
+use shard_files::of_wire_bytes::WireErr;
 use std::alloc::AllocFailed;
 use thiserror::Error;
 

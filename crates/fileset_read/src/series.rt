@@ -5,8 +5,8 @@ ghost use Rattle.fileset_read.specs.Rows.{ArePairs, AreInside, AreSpelled, Gives
 
 use crate::row_at::{RowAt, find_row};
 use crate::row_err::RowErr;
-use shard_files::m3_model::{Seq, Series, Text};
-use shard_files::wire_bytes::get_number;
+use shard_files::of_m3_model::{Seq, Series, Text};
+use shard_files::of_wire_bytes::get_number;
 use std::alloc::Global;
 
 // So many times and values, from the offset on.

@@ -15,8 +15,8 @@ use crate::file::read_file;
 use crate::file_err::FileErr;
 use crate::row_err::RowErr;
 use crate::series::{rows_in, series_in};
-use shard_files::m3_model::{Seq, Series};
-use shard_files::m3_outside::{Disk, FileName};
+use shard_files::of_m3_model::{Seq, Series};
+use shard_files::of_m3_outside::{Disk, FileName};
 use std::alloc::Global;
 use volume_bytes::Head;
 

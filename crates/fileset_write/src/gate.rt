@@ -7,7 +7,7 @@ ghost use Rattle.fileset_write.specs.Putting.{IsShut, MayOpen, MayPutAll, PutNon
 
 use crate::new_file::NewFile;
 use crate::put_file::{CALLS, put_file, put_files};
-use shard_files::m3_outside::{Disk, DiskErr, FileName};
+use shard_files::of_m3_outside::{Disk, DiskErr, FileName};
 
 // An open gate.
 const OPEN: u8 = 1;

@@ -1,5 +1,5 @@
-use shard_files::m3_model::Seq;
-use shard_files::m3_outside::FileName;
+use shard_files::of_m3_model::Seq;
+use shard_files::of_m3_outside::FileName;
 
 /// A file that is to be made: its name and its bytes.
 #[derive(Drop)]

@@ -7,8 +7,8 @@ ghost use Rattle.shard_files.specs.commit_log.Contents as contents;
 ghost use Rattle.shard_files.specs.Steps as steps;
 ghost use Rattle.shard_files.specs.Steps.{next_volume};
 
-use shard_files::commit_log::next_after;
-use shard_files::m3_outside::{Disk, DiskErr, FileName};
+use shard_files::of_commit_log::next_after;
+use shard_files::of_m3_outside::{Disk, DiskErr, FileName};
 use std::alloc::Global;
 
 // Whether the name is that of a file of some volume of this namespace and this start.

@@ -6,7 +6,7 @@ ghost use Rattle.shard_files.specs.m3_outside.declared.disk_err.DiskErr.TheVaria
 ghost use Rattle.fileset_write.specs.Putting.{MayPut, OthersOf, AreAbsent, AreApart, behind, names_of, with_file, with_files};
 
 use crate::new_file::NewFile;
-use shard_files::m3_outside::{Disk, DiskErr, FileName};
+use shard_files::of_m3_outside::{Disk, DiskErr, FileName};
 
 /// Room for a write and a sync.
 pub(crate) const CALLS: u64 = 2;

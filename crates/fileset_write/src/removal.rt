@@ -6,8 +6,8 @@ ghost use Rattle.shard_files.specs.m3_outside.Removal.{without_files, MayTakeAwa
 ghost use Rattle.shard_files.specs.m3_outside.declared.disk_err.DiskErr.TheVariants.{Failed as DiskFailed, Memory as WantOfMemory};
 ghost use Rattle.shard_files.specs.Steps.{files_of_volume, parts_there, those_there};
 
-use shard_files::m3_outside::take_away::take_away;
-use shard_files::m3_outside::{Disk, DiskErr, Failed, FileName};
+use shard_files::of_m3_outside::take_away::take_away;
+use shard_files::of_m3_outside::{Disk, DiskErr, Failed, FileName};
 
 // How many files a volume has.
 const FILES: usize = 7;

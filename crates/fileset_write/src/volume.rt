@@ -4,9 +4,9 @@ ghost use Rattle.volume_bytes.specs.Heads.{head_of};
 ghost use Rattle.fileset_write.specs.NewVolumes.{IsNewVolume};
 
 use crate::new_file::NewFile;
-use shard_files::m3_model::{Memory, Seq, Series};
-use shard_files::m3_outside::FileName;
-use shard_files::wire_bytes::digest;
+use shard_files::of_m3_model::{Memory, Seq, Series};
+use shard_files::of_m3_outside::FileName;
+use shard_files::of_wire_bytes::digest;
 use std::alloc::Global;
 use volume_bytes::{Head, Tables, bloom_filter, digests, info, tables_of};
 

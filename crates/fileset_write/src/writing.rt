@@ -10,8 +10,8 @@ ghost use Rattle.shard_files.specs.Steps.{next_volume, volume_after, MayWrite, W
 use crate::gate::put_all;
 use crate::next_number::next_number;
 use crate::volume::new_volume;
-use shard_files::m3_model::{Seq, Series};
-use shard_files::m3_outside::{Disk, DiskErr};
+use shard_files::of_m3_model::{Seq, Series};
+use shard_files::of_m3_outside::{Disk, DiskErr};
 use std::alloc::Global;
 use volume_bytes::Head;
 

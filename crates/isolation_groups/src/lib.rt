@@ -4,7 +4,7 @@
 ghost use Rattle.std.specs.Prelude.{◌≡◌, ◌≢◌, ◌↔◌, All, IsTrue};
 ghost use Rattle.isolation_groups.specs.Groups.{group_of, IsFree};
 
-use placement_core::m3_model::{Assignment, Instance};
+use placement_core::of_m3_model::{Assignment, Instance};
 
 /// The isolation group of the node of this number, empty where no instance has it.
 pub fn group_of(instances: &[Instance], node: u8) -> &str

@@ -4,7 +4,7 @@ ghost use Rattle.log_chunks.specs.Segment.{written};
 ghost use Rattle.log_chunks.specs.Offsets.{IsNext};
 
 use crate::head::{HEAD_BYTES, OPEN};
-use wire_bytes::m3_model::limits::SEGMENT_BYTES;
+use wire_bytes::of_m3_model::limits::SEGMENT_BYTES;
 use wire_bytes::{WireErr, get_between};
 
 /// What stands at an offset in the first bytes of a segment.

@@ -8,7 +8,7 @@ ghost use Rattle.placement_plan.specs.Choices.{MayTake, IsLeastLoaded, taking_cm
 use crate::nodes::name_of;
 use crate::shards::has_node;
 use isolation_groups::is_free;
-use placement_core::m3_model::{Assignment, Instance};
+use placement_core::of_m3_model::{Assignment, Instance};
 use std::cmp::Ordering;
 
 fn compare(instances: &[Instance], loads: &[usize], a: u8, b: u8) -> Ordering

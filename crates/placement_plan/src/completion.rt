@@ -10,7 +10,7 @@ use crate::nodes::listed_node;
 use crate::plan_err::PlaceErr;
 use crate::shards::{joins_from, settled, source_of};
 use crate::version::next_version;
-use placement_core::m3_model::{Assignment, Duplicate, Instance, Memory, Placement, Seq};
+use placement_core::of_m3_model::{Assignment, Duplicate, Instance, Memory, Placement, Seq};
 use std::alloc::Global;
 
 fn cancelled_shard(

@@ -4,7 +4,7 @@ ghost use Rattle.placement_core.specs.m3_model.declared.limits.TheConstants.{MOS
 ghost use Rattle.placement_plan.specs.Nodes.{serves, load};
 ghost use Rattle.placement_plan.specs.Loads.{AreLoads, IsShifted};
 
-use placement_core::m3_model::{Assignment, Memory, Seq, ShardState};
+use placement_core::of_m3_model::{Assignment, Memory, Seq, ShardState};
 use std::alloc::Global;
 
 /// Whether the node is Available or Initializing in the shard.

@@ -10,8 +10,8 @@ ghost use Rattle.placement_plan.specs.Plans.{HasRoom};
 ghost use Rattle.placement_plan.specs.Refusals.{IsPastLimit};
 
 use crate::plan_err::PlaceErr;
-use placement_core::m3_model::limits::MOST_NODES;
-use placement_core::m3_model::{Duplicate, Instance, Memory, Seq, Text};
+use placement_core::of_m3_model::limits::MOST_NODES;
+use placement_core::of_m3_model::{Duplicate, Instance, Memory, Seq, Text};
 use std::alloc::Global;
 
 /// The number of the listed node of this name.

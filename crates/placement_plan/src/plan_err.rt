@@ -1,7 +1,7 @@
 ghost use Rattle.std.specs.Prelude.{◌≡◌};
 ghost use Rattle.placement_plan.specs.declared.plan_err.PlaceErr.TheVariants as errors;
 
-use placement_core::m3_model::memory;
+use placement_core::of_m3_model::memory;
 use std::alloc::{AllocError, AllocFailed};
 use thiserror::Error;
 

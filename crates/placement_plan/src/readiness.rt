@@ -13,7 +13,7 @@ ghost use Rattle.placement_plan.specs.Refusals.{IsBusy, IsInitializing};
 
 use crate::shards::has_node;
 use isolation_groups::is_free;
-use placement_core::m3_model::{Assignment, Instance, Seq, ShardState};
+use placement_core::of_m3_model::{Assignment, Instance, Seq, ShardState};
 
 fn joining_node(shard: &[Assignment]) -> Option<u8>
     ensures found { IfSome result (λ node. IsInitializing node shard.now) }

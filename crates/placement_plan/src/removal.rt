@@ -9,7 +9,7 @@ use crate::nodes::{listed_node, unlisted};
 use crate::plan_err::PlaceErr;
 use crate::shards::first_shard_of;
 use crate::version::next_version;
-use placement_core::m3_model::{Duplicate, Placement};
+use placement_core::of_m3_model::{Duplicate, Placement};
 use std::alloc::Global;
 
 /// The placement where the node, which has no shard, isn't listed any more. Its position among the nodes stays its own.

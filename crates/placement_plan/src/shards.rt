@@ -10,7 +10,7 @@ ghost use Rattle.placement_plan.specs.Nodes.{Has, IsFirstWhere};
 ghost use Rattle.placement_plan.specs.Choices.{moved};
 ghost use Rattle.placement_plan.specs.Plans.{JoinsFrom, IsJoining};
 
-use placement_core::m3_model::{Assignment, Memory, Seq, ShardState};
+use placement_core::of_m3_model::{Assignment, Memory, Seq, ShardState};
 use std::alloc::Global;
 
 fn any_of(shard: &[Assignment], node: u8) -> bool

@@ -3,7 +3,7 @@ ghost use Rattle.placement_core.specs.m3_model.declared.limits.TheConstants.{NUM
 ghost use Rattle.placement_plan.specs.Refusals.{IsMemory};
 
 use crate::plan_err::PlaceErr;
-use placement_core::m3_model::limits::NUMBER_END;
+use placement_core::of_m3_model::limits::NUMBER_END;
 
 /// The version after this one. Where there is none the refusal is that for want of memory.
 pub fn next_version(version: u64) -> Result<u64, PlaceErr>

@@ -2,7 +2,7 @@ ghost use Rattle.std.specs.Prelude.{◌≡◌, ◌≤◌, max, IfOk};
 ghost use Rattle.shard_files.specs.HeldEntries.{AmountTo, points_in, tenure_in, fence_in};
 
 use crate::entries::LogEntry;
-use commit_log::m3_model::{Memory, Point, Seq};
+use commit_log::of_m3_model::{Memory, Point, Seq};
 use std::alloc::Global;
 
 /// What entries amount to.

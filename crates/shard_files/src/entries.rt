@@ -3,8 +3,8 @@ ghost use Rattle.commit_log.specs.wire_bytes.Fields.{Stands};
 ghost use Rattle.commit_log.specs.wire_bytes.Entries.{IsBounded, bytes_of_point, PointsStand, EntryStands};
 ghost use Rattle.shard_files.specs.Entries.{IsEntry, HasPoint, HavePoints, MayBreak, end_of};
 
-use commit_log::m3_model::{Memory, Point, Seq, Text};
-use commit_log::wire_bytes::{EntryAt, WireErr, get_entry, get_point};
+use commit_log::of_m3_model::{Memory, Point, Seq, Text};
+use commit_log::of_wire_bytes::{EntryAt, WireErr, get_entry, get_point};
 use std::alloc::{AllocFailed, Global};
 use thiserror::Error;
 

@@ -8,7 +8,7 @@ ghost use Rattle.shard_files.specs.Keeps.{KeepsThen, StopKeeps};
 ghost use Rattle.shard_files.specs.Loading.{LogDamageIsFirst};
 ghost use Rattle.shard_files.specs.StepLaws.{DoneIsStep, WriteKeeps, NextVolumeIsNew, TakeKeeps, SaveKeeps, NextSnapshotIsNew, CutKeeps, ClearKeeps, TakenByNames, StepsKeep, ClosedIsUncounted, VolumeNeedsItsFiles, CheckpointGoesFirst, SnapshotNeedsItsData};
 
-use commit_log::m3_outside::Disk;
+use commit_log::of_m3_outside::Disk;
 
 /// Files hold at most one list of points, with one tenure and one fence.
 pub fn files_hold_one()

@@ -8,7 +8,7 @@ ghost use Rattle.shard_files.specs.Loading.{LogTells};
 ghost use Rattle.shard_files.specs.HeldLaws.{OneSpelling, EntriesAreOne, OneMore, GrownIsJoined, StopLeavesPart};
 ghost use Rattle.shard_files.specs.Once.{OnceIsOne, OnceHasContent, HeldOnceIsOne};
 
-use commit_log::m3_outside::Disk;
+use commit_log::of_m3_outside::Disk;
 
 /// No two entries within their bounds have the same bytes.
 pub fn one_spelling()

@@ -1,5 +1,5 @@
-use commit_log::m3_model::Memory;
-use commit_log::m3_outside::{DiskErr, FileName};
+use commit_log::of_m3_model::Memory;
+use commit_log::of_m3_outside::{DiskErr, FileName};
 use thiserror::Error;
 
 /// Why a replica's files can't be read.

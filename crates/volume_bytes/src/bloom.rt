@@ -4,7 +4,7 @@ ghost use Rattle.volume_bytes.specs.Bits.{AreBitsOf};
 
 use crate::bits::{byte_at, set_bits};
 use std::alloc::Global;
-use wire_bytes::m3_model::{Memory, Seq, Series};
+use wire_bytes::of_m3_model::{Memory, Seq, Series};
 use wire_bytes::put_number;
 
 // Sets the bits of all rows' identifiers, none of which is set yet.

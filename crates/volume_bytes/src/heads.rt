@@ -4,7 +4,7 @@ ghost use Rattle.wire_bytes.specs.Volumes.{IsHead, info_of};
 ghost use Rattle.volume_bytes.specs.Heads.{head_of};
 
 use std::alloc::Global;
-use wire_bytes::m3_model::{Memory, Seq};
+use wire_bytes::of_m3_model::{Memory, Seq};
 use wire_bytes::{digest, put_number};
 
 /// Which volume of a disk, of format 1.

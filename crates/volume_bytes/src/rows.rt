@@ -3,7 +3,7 @@ ghost use Rattle.std.specs.Int.{w64};
 ghost use Rattle.wire_bytes.specs.m3_model.declared.limits.TheConstants.{MOST_ID_BYTES};
 ghost use Rattle.wire_bytes.specs.Volumes.{IsRow, id_bytes, pair_bytes, row_bytes};
 
-use wire_bytes::m3_model::{Memory, Series};
+use wire_bytes::of_m3_model::{Memory, Series};
 use wire_bytes::put_number;
 
 // Each of these appends some of its bytes where memory is wanted.

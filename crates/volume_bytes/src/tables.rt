@@ -7,7 +7,7 @@ ghost use Rattle.volume_bytes.specs.Tables.{AreTables};
 
 use crate::rows::{push_id, push_row};
 use std::alloc::Global;
-use wire_bytes::m3_model::{Memory, Seq, Series};
+use wire_bytes::of_m3_model::{Memory, Seq, Series};
 use wire_bytes::put_number;
 
 /// The bytes of the files that follow rows in their order.

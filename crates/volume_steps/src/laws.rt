@@ -1,7 +1,7 @@
 //! Laws over what files hold, in the words of what is in memory.
 ghost use Rattle.volume_steps.specs.Laws.{HoldWithFewer, JoinIsThere, KnownAreThere, LogStepsKeep, OneMoreKnown, ShedsMakeUp};
 
-use shard_files::m3_outside::Disk;
+use shard_files::of_m3_outside::Disk;
 
 /// Each known volume is there whole for reads, too, where each image has the known ones.
 pub fn known_are_there<D: Disk>()

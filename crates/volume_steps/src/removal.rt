@@ -16,7 +16,7 @@ ghost use Rattle.volume_steps.specs.Known.{HoldsKnown, HaveContent};
 ghost use Rattle.volume_steps.specs.KnownLists.{IsOfOne, without_volume, without_volumes};
 
 use fileset_write::remove;
-use shard_files::m3_outside::{Disk, DiskErr};
+use shard_files::of_m3_outside::{Disk, DiskErr};
 use volume_bytes::Head;
 
 /// Takes away the volume of this namespace, start and number, complete or not, its checkpoint first. What is to be kept is in

@@ -15,7 +15,7 @@ ghost use Rattle.volume_steps.specs.KnownLists.{volume_of, with_volume};
 
 use fileset_write::write;
 use m3_model::{Seq, Series};
-use shard_files::m3_outside::{Disk, DiskErr};
+use shard_files::of_m3_outside::{Disk, DiskErr};
 use std::alloc::Global;
 
 /// Writes a volume of format 1 with these rows for the block of this namespace, start and size, and gives its number: one

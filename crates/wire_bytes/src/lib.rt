@@ -18,5 +18,8 @@ pub use numbers::{get_between, get_number, put_number};
 pub use points::{PointAt, get_point, put_point};
 pub use wire_err::WireErr;
 
-// Libraries that the rows of crates above need not name.
-pub use m3_model;
+// Of libraries that the rows of crates above need not name: what these crates name of them.
+/// Of `m3_model`.
+pub mod of_m3_model {
+    pub use m3_model::{Memory, Point, Seq, Series, Text, limits};
+}
