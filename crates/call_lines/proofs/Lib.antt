@@ -12,7 +12,7 @@ pub mod FoundLemmas
 pub mod ShortLemmas
 pub mod KeepLemmas
 pub mod SampleLemmas
-pub use Rattle.told_runs.proofs as told_runs_proofs
-pub use Rattle.told_runs.proofs.told_by_proofs as told_by_proofs
-pub use Rattle.told_runs.proofs.told_causes_proofs as told_causes_proofs
-pub use Rattle.told_runs.proofs.told_moves_proofs as told_moves_proofs
+pub mod told_by_proofs
+pub mod told_causes_proofs
+pub mod told_moves_proofs
+pub mod told_runs_proofs

@@ -3,9 +3,9 @@ pub mod Laws
 pub mod ReadLaws
 pub mod Keeps
 pub mod Sample
-pub use Rattle.told_runs.specs as told_runs
-pub use Rattle.told_runs.specs.placement_acts as placement_acts
-pub use Rattle.told_runs.specs.placement_plan as placement_plan
-pub use Rattle.told_runs.specs.told_by as told_by
-pub use Rattle.told_runs.specs.told_causes as told_causes
-pub use Rattle.told_runs.specs.told_moves as told_moves
+pub mod placement_acts
+pub mod placement_plan
+pub mod told_by
+pub mod told_causes
+pub mod told_moves
+pub mod told_runs

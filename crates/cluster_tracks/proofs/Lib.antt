@@ -23,7 +23,7 @@ pub mod UpkeepLemmas
 pub mod InitLemmas
 pub mod PlacementLemmas
 pub mod LineLemmas
+pub mod cluster_members_proofs
+pub mod first_cluster_proofs
+pub mod told_runs_proofs
 pub use Rattle.placement_tracks.proofs.act_lines_proofs.StandLemmas
-pub use Rattle.placement_tracks.proofs.cluster_members_proofs as cluster_members_proofs
-pub use Rattle.placement_tracks.proofs.first_cluster_proofs as first_cluster_proofs
-pub use Rattle.placement_tracks.proofs.told_runs_proofs as told_runs_proofs

@@ -8,10 +8,10 @@ pub mod ReadLemmas
 pub mod CutLemmas
 pub mod LogLemmas
 pub mod CutLaws
+pub mod m3_model_proofs
+pub mod m3_outside_proofs
+pub mod wire_bytes_proofs
 pub use Rattle.log_chunks.proofs.Chunks
 pub use Rattle.log_chunks.proofs.Fronts
 pub use Rattle.log_chunks.proofs.LawLemmas
 pub use Rattle.log_chunks.proofs.Shapes
-pub use Rattle.log_chunks.proofs.m3_model_proofs as m3_model_proofs
-pub use Rattle.log_chunks.proofs.m3_outside_proofs as m3_outside_proofs
-pub use Rattle.log_chunks.proofs.wire_bytes_proofs as wire_bytes_proofs

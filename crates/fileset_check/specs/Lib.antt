@@ -4,10 +4,10 @@ pub mod PartFiles
 pub mod Told
 pub mod Whole
 pub mod Laws
-pub use Rattle.fileset_read.specs as fileset_read
-pub use Rattle.fileset_read.specs.commit_log as commit_log
-pub use Rattle.fileset_read.specs.m3_model as m3_model
-pub use Rattle.fileset_read.specs.m3_outside as m3_outside
-pub use Rattle.fileset_read.specs.shard_files as shard_files
-pub use Rattle.fileset_read.specs.volume_bytes as volume_bytes
-pub use Rattle.fileset_read.specs.wire_bytes as wire_bytes
+pub mod commit_log
+pub mod fileset_read
+pub mod m3_model
+pub mod m3_outside
+pub mod shard_files
+pub mod volume_bytes
+pub mod wire_bytes

@@ -8,6 +8,6 @@ pub mod AnswerLemmas
 pub mod JoinLemmas
 pub mod CountLemmas
 pub mod ForgetLemmas
-pub use Rattle.block_buffer.proofs as block_buffer_proofs
-pub use Rattle.series_slots.proofs as series_slots_proofs
-pub use Rattle.tag_query.proofs as tag_query_proofs
+pub mod block_buffer_proofs
+pub mod series_slots_proofs
+pub mod tag_query_proofs

@@ -1,5 +1,5 @@
 pub mod Serves
 pub mod Stands
-pub use Rattle.cluster_joins.specs as cluster_joins
-pub use Rattle.peer_streams.specs as peer_streams
-pub use Rattle.told_joins.specs as told_joins
+pub mod cluster_joins
+pub mod peer_streams
+pub mod told_joins

@@ -1,2 +1,2 @@
 pub mod BesideLemmas
-pub use Rattle.listed_volumes.proofs as listed_volumes_proofs
+pub mod listed_volumes_proofs

@@ -1,4 +1,4 @@
 pub mod Beside
-pub use Rattle.first_points.specs as first_points
-pub use Rattle.held_pages.specs as held_pages
-pub use Rattle.listed_volumes.specs as listed_volumes
+pub mod first_points
+pub mod held_pages
+pub mod listed_volumes

@@ -9,4 +9,4 @@ pub mod LawLemmas
 pub mod ExampleLemmas
 pub mod AscendLemmas
 pub mod LawfulLemmas
-pub use Rattle.m3_model.proofs as m3_model_proofs
+pub mod m3_model_proofs

@@ -5,4 +5,4 @@ pub mod NodeNames
 pub mod Steps
 pub mod Changes
 pub mod Example
-pub use Rattle.m3_model.specs as m3_model
+pub mod m3_model

@@ -28,7 +28,7 @@ pub mod MergedLemmas
 pub mod FlushLemmas
 pub mod TickLemmas
 pub mod SavedLemmas
-pub use Rattle.cluster_core.proofs as cluster_core_proofs
-pub use Rattle.m3_model.proofs as m3_model_proofs
-pub use Rattle.placement_core.proofs as placement_core_proofs
-pub use Rattle.shard_store.proofs.shard_files_proofs as shard_files_proofs
+pub mod cluster_core_proofs
+pub mod m3_model_proofs
+pub mod placement_core_proofs
+pub mod shard_files_proofs

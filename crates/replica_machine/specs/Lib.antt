@@ -10,15 +10,15 @@ pub mod Upkeep
 pub mod MachineLaws
 pub mod Openings
 pub mod Rearranged
-pub use Rattle.cluster_core.specs as cluster_core
-pub use Rattle.first_points.specs as first_points
-pub use Rattle.m3_model.specs as m3_model
-pub use Rattle.m3_outside.specs as m3_outside
-pub use Rattle.placement_core.specs as placement_core
+pub mod block_buffer
+pub mod cluster_core
+pub mod commit_log
+pub mod first_points
+pub mod m3_model
+pub mod m3_outside
+pub mod placement_core
+pub mod shard_files
+pub mod wire_bytes
 pub use Rattle.shard_store.specs.Beside
 pub use Rattle.shard_store.specs.Merges
 pub use Rattle.shard_store.specs.Whole
-pub use Rattle.shard_store.specs.block_buffer as block_buffer
-pub use Rattle.shard_store.specs.commit_log as commit_log
-pub use Rattle.shard_store.specs.shard_files as shard_files
-pub use Rattle.shard_store.specs.wire_bytes as wire_bytes

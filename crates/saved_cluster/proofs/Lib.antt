@@ -9,5 +9,5 @@ mod PlanLemmas
 mod SaveLemmas
 mod ServeLemmas
 mod StateLemmas
-pub use Rattle.cluster_tracks.proofs.first_cluster_proofs as first_cluster_proofs
-pub use Rattle.served_cluster.proofs as served_cluster_proofs
+pub mod first_cluster_proofs
+pub mod served_cluster_proofs

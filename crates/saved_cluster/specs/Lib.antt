@@ -1,11 +1,11 @@
 pub mod States
 pub mod Saved
 pub mod Openings
-pub use Rattle.cluster_tracks.specs as cluster_tracks
-pub use Rattle.cluster_tracks.specs.cluster_members as cluster_members
-pub use Rattle.cluster_tracks.specs.cluster_placements as cluster_placements
-pub use Rattle.cluster_tracks.specs.first_cluster as first_cluster
-pub use Rattle.cluster_tracks.specs.replica_calls as replica_calls
-pub use Rattle.cluster_tracks.specs.replica_exchange as replica_exchange
-pub use Rattle.cluster_tracks.specs.session_net as session_net
-pub use Rattle.served_cluster.specs as served_cluster
+pub mod cluster_members
+pub mod cluster_placements
+pub mod cluster_tracks
+pub mod first_cluster
+pub mod replica_calls
+pub mod replica_exchange
+pub mod served_cluster
+pub mod session_net

@@ -1,10 +1,9 @@
-pub use Rattle.net_plan.specs as net_plan
-pub use Rattle.placement_core.specs as placement_core
-pub use Rattle.session_net.specs as session_net
-pub use Rattle.session_net.specs.cluster_core as cluster_core
-pub use Rattle.session_net.specs.event_trail as event_trail
-pub use Rattle.session_net.specs.replica_calls as replica_calls
-pub use Rattle.session_net.specs.replica_exchange as replica_exchange
-pub use Rattle.session_net.specs.replica_machine as replica_machine
-pub use Rattle.session_net.specs.shard_files as shard_files
-pub use Rattle.session_net.specs.wire_bytes as wire_bytes
+pub mod cluster_core
+pub mod event_trail
+pub mod net_plan
+pub mod replica_calls
+pub mod replica_exchange
+pub mod replica_machine
+pub mod session_net
+pub mod shard_files
+pub mod wire_bytes

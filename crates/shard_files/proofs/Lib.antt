@@ -20,9 +20,9 @@ pub mod RefusedLemmas
 pub mod FirstDamageLemmas
 pub mod AloneLemmas
 pub mod DiskSteps
+pub mod commit_log_proofs
+pub mod m3_model_proofs
+pub mod m3_outside_proofs
+pub mod wire_bytes_proofs
 pub use Rattle.commit_log.proofs.Leaves
 pub use Rattle.commit_log.proofs.ReadLemmas
-pub use Rattle.commit_log.proofs as commit_log_proofs
-pub use Rattle.commit_log.proofs.m3_model_proofs as m3_model_proofs
-pub use Rattle.commit_log.proofs.m3_outside_proofs as m3_outside_proofs
-pub use Rattle.commit_log.proofs.wire_bytes_proofs as wire_bytes_proofs

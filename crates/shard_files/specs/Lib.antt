@@ -12,7 +12,7 @@ pub mod Steps
 pub mod FileLaws
 pub mod StepLaws
 pub mod Damage
-pub use Rattle.commit_log.specs as commit_log
-pub use Rattle.commit_log.specs.m3_model as m3_model
-pub use Rattle.commit_log.specs.m3_outside as m3_outside
-pub use Rattle.commit_log.specs.wire_bytes as wire_bytes
+pub mod commit_log
+pub mod m3_model
+pub mod m3_outside
+pub mod wire_bytes

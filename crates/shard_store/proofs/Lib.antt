@@ -19,10 +19,10 @@ pub mod SnapshotLemmas
 pub mod CountedLemmas
 pub mod CacheLemmas
 pub mod MergeLemmas
+pub mod block_buffer_proofs
+pub mod commit_log_proofs
+pub mod shard_files_proofs
 pub use Rattle.store_log.proofs.LogStepLemmas
 pub use Rattle.store_log.proofs.WholeLemmas
 pub use Rattle.shard_open.proofs.Counts
 pub use Rattle.shard_open.proofs.ToldLemmas
-pub use Rattle.store_log.proofs.listed_volumes_proofs.block_buffer_proofs as block_buffer_proofs
-pub use Rattle.store_log.proofs.listed_volumes_proofs.commit_log_proofs as commit_log_proofs
-pub use Rattle.store_log.proofs.listed_volumes_proofs.shard_files_proofs as shard_files_proofs

@@ -5,7 +5,7 @@ pub mod BodyLemmas
 pub mod CheckLemmas
 pub mod NewestLemmas
 pub mod LawLemmas
-pub use Rattle.fileset_check.proofs as fileset_check_proofs
-pub use Rattle.fileset_check.proofs.commit_log_proofs as commit_log_proofs
-pub use Rattle.fileset_check.proofs.m3_outside_proofs as m3_outside_proofs
-pub use Rattle.fileset_check.proofs.shard_files_proofs as shard_files_proofs
+pub mod commit_log_proofs
+pub mod fileset_check_proofs
+pub mod m3_outside_proofs
+pub mod shard_files_proofs

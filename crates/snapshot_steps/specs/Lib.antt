@@ -1,3 +1,3 @@
 pub mod Saved
 pub mod Counts
-pub use Rattle.volume_steps.specs as volume_steps
+pub mod volume_steps

@@ -1,7 +1,7 @@
 pub mod Kept
 pub mod Whole
-pub use Rattle.joined_reads.specs as joined_reads
-pub use Rattle.joined_reads.specs.first_points as first_points
-pub use Rattle.joined_reads.specs.held_pages as held_pages
-pub use Rattle.joined_reads.specs.listed_volumes as listed_volumes
-pub use Rattle.snapshot_steps.specs as snapshot_steps
+pub mod first_points
+pub mod held_pages
+pub mod joined_reads
+pub mod listed_volumes
+pub mod snapshot_steps

@@ -16,7 +16,7 @@ pub mod BesideServedLemmas
 pub mod BrokenLemmas
 pub mod CountedLemmas
 pub mod StepLemmas
-pub use Rattle.told_by.proofs as told_by_proofs
-pub use Rattle.told_causes.proofs as told_causes_proofs
-pub use Rattle.told_moves.proofs as told_moves_proofs
-pub use Rattle.transcripts.proofs as transcripts_proofs
+pub mod told_by_proofs
+pub mod told_causes_proofs
+pub mod told_moves_proofs
+pub mod transcripts_proofs

@@ -8,9 +8,9 @@ pub mod BesideSample
 pub mod Broken
 pub mod Counted
 pub mod Steps
-pub use Rattle.placement_acts.specs as placement_acts
-pub use Rattle.placement_plan.specs as placement_plan
-pub use Rattle.told_by.specs as told_by
-pub use Rattle.told_causes.specs as told_causes
-pub use Rattle.told_moves.specs as told_moves
-pub use Rattle.transcripts.specs as transcripts
+pub mod placement_acts
+pub mod placement_plan
+pub mod told_by
+pub mod told_causes
+pub mod told_moves
+pub mod transcripts

@@ -7,9 +7,9 @@ pub mod VolumeLemmas
 pub mod KnownLemmas
 pub mod ReadLemmas
 pub mod BlockLemmas
-pub use Rattle.fileset_check.proofs as fileset_check_proofs
-pub use Rattle.fileset_check.proofs.commit_log_proofs as commit_log_proofs
-pub use Rattle.fileset_check.proofs.shard_files_proofs as shard_files_proofs
-pub use Rattle.held_points.proofs as held_points_proofs
-pub use Rattle.held_points.proofs.block_buffer_proofs as block_buffer_proofs
-pub use Rattle.series_merge.proofs as series_merge_proofs
+pub mod block_buffer_proofs
+pub mod commit_log_proofs
+pub mod fileset_check_proofs
+pub mod held_points_proofs
+pub mod series_merge_proofs
+pub mod shard_files_proofs

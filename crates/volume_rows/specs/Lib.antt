@@ -1,4 +1,4 @@
 pub mod Ranges
 pub mod Seekers
 pub mod Stretches
-pub use Rattle.fileset_lookup.specs as fileset_lookup
+pub mod fileset_lookup

@@ -6,4 +6,4 @@ pub mod PointLemmas
 pub mod EntryLemmas
 pub mod VolumeLemmas
 pub mod StopLemmas
-pub use Rattle.m3_model.proofs as m3_model_proofs
+pub mod m3_model_proofs

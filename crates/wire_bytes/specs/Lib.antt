@@ -7,4 +7,4 @@ pub mod Bodies
 pub mod Volumes
 pub mod Snapshots
 pub mod ByteLaws
-pub use Rattle.m3_model.specs as m3_model
+pub mod m3_model

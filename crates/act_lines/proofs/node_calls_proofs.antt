@@ -1,0 +1,2 @@
+pub use Rattle.node_calls.proofs.ListLemmas
+pub use Rattle.node_calls.proofs.RunLemmas

@@ -1,0 +1,3 @@
+pub use Rattle.call_lines.proofs.told_moves_proofs.OwnLemmas
+pub use Rattle.call_lines.proofs.told_moves_proofs.SlotLemmas
+pub use Rattle.call_lines.proofs.told_moves_proofs.TenureLemmas

@@ -1,0 +1,1 @@
+pub use Rattle.transcripts.proofs.SweepLemmas

@@ -1,0 +1,3 @@
+pub use Rattle.call_lines.specs.Laws
+pub use Rattle.call_lines.specs.Left
+pub use Rattle.call_lines.specs.ReadLaws

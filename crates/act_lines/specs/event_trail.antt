@@ -1,0 +1,1 @@
+pub use Rattle.node_calls.specs.event_trail.Trails

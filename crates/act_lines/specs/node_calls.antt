@@ -1,0 +1,2 @@
+pub use Rattle.node_calls.specs.Halts
+pub use Rattle.node_calls.specs.Nodes

@@ -1,0 +1,2 @@
+pub use Rattle.node_calls.specs.replica_exchange.MachineCalls
+pub use Rattle.node_calls.specs.replica_exchange.declared

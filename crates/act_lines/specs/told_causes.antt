@@ -1,0 +1,1 @@
+pub use Rattle.call_lines.specs.told_causes.Faults

@@ -1,0 +1,3 @@
+pub use Rattle.told_runs.proofs.told_moves_proofs.OwnLemmas
+pub use Rattle.told_runs.proofs.told_moves_proofs.SlotLemmas
+pub use Rattle.told_runs.proofs.told_moves_proofs.TenureLemmas

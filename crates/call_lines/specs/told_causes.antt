@@ -1,0 +1,1 @@
+pub use Rattle.told_runs.specs.told_causes.Faults

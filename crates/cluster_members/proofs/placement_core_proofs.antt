@@ -1,0 +1,1 @@
+pub use Rattle.session_writes.proofs.placement_core_proofs.ListLemmas

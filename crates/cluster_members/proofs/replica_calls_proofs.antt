@@ -1,0 +1,1 @@
+pub use Rattle.session_writes.proofs.replica_calls_proofs.SlotLemmas

@@ -1,0 +1,2 @@
+pub use Rattle.session_writes.proofs.replica_machine_proofs.OpeningLemmas
+pub use Rattle.session_writes.proofs.replica_machine_proofs.OtherLemmas

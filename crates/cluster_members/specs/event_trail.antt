@@ -1,0 +1,1 @@
+pub use Rattle.session_writes.specs.event_trail.Trails

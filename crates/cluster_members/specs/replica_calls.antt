@@ -1,0 +1,2 @@
+pub use Rattle.session_writes.specs.replica_calls.Calls
+pub use Rattle.session_writes.specs.replica_calls.Slots

@@ -1,0 +1,1 @@
+pub use Rattle.placement_tracks.proofs.cluster_members_proofs.PlanLemmas

@@ -1,0 +1,1 @@
+pub use Rattle.placement_tracks.proofs.told_runs_proofs.StepLemmas

@@ -1,0 +1,3 @@
+pub use Rattle.join_tracks.specs.cluster_joins.Boots
+pub use Rattle.join_tracks.specs.cluster_joins.Marks
+pub use Rattle.join_tracks.specs.cluster_joins.declared

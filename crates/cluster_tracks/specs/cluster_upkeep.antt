@@ -1,0 +1,1 @@
+pub use Rattle.cluster_upkeep.specs.Upkeep

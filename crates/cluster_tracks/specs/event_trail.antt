@@ -1,0 +1,1 @@
+pub use Rattle.placement_tracks.specs.event_trail.Trails

@@ -1,0 +1,1 @@
+pub use Rattle.join_tracks.specs.peer_streams.Joins

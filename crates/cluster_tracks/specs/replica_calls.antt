@@ -1,0 +1,2 @@
+pub use Rattle.placement_tracks.specs.replica_calls.Calls
+pub use Rattle.placement_tracks.specs.replica_calls.Slots

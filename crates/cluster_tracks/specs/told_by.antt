@@ -1,0 +1,1 @@
+pub use Rattle.placement_tracks.specs.told_by.Steps

@@ -1,0 +1,1 @@
+pub use Rattle.join_tracks.specs.told_joins.Lines

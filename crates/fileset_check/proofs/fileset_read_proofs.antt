@@ -1,0 +1,1 @@
+pub use Rattle.fileset_read.proofs.NameLemmas

@@ -1,0 +1,3 @@
+pub use Rattle.fileset_read.proofs.m3_outside_proofs.Moments
+pub use Rattle.fileset_read.proofs.m3_outside_proofs.Names
+pub use Rattle.fileset_read.proofs.m3_outside_proofs.Removal

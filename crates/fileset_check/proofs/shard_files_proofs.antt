@@ -1,0 +1,15 @@
+pub use Rattle.fileset_read.proofs.shard_files_proofs.ContentLemmas
+pub use Rattle.fileset_read.proofs.shard_files_proofs.CountedLemmas
+pub use Rattle.fileset_read.proofs.shard_files_proofs.CutSteps
+pub use Rattle.fileset_read.proofs.shard_files_proofs.DamageLemmas
+pub use Rattle.fileset_read.proofs.shard_files_proofs.FilesHoldLemmas
+pub use Rattle.fileset_read.proofs.shard_files_proofs.FirstDamageLemmas
+pub use Rattle.fileset_read.proofs.shard_files_proofs.GainLemmas
+pub use Rattle.fileset_read.proofs.shard_files_proofs.HeldLemmas
+pub use Rattle.fileset_read.proofs.shard_files_proofs.KeepLemmas
+pub use Rattle.fileset_read.proofs.shard_files_proofs.LocationLemmas
+pub use Rattle.fileset_read.proofs.shard_files_proofs.NextLemmas
+pub use Rattle.fileset_read.proofs.shard_files_proofs.PartLemmas
+pub use Rattle.fileset_read.proofs.shard_files_proofs.SegmentStops
+pub use Rattle.fileset_read.proofs.shard_files_proofs.SnapshotSteps
+pub use Rattle.fileset_read.proofs.shard_files_proofs.VolumeSteps

@@ -1,0 +1,3 @@
+pub use Rattle.fileset_read.proofs.wire_bytes_proofs.EntryLemmas
+pub use Rattle.fileset_read.proofs.wire_bytes_proofs.FieldLemmas
+pub use Rattle.fileset_read.proofs.wire_bytes_proofs.VolumeLemmas

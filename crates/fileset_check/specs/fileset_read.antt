@@ -1,0 +1,3 @@
+pub use Rattle.fileset_read.specs.Rows
+pub use Rattle.fileset_read.specs.Volumes
+pub use Rattle.fileset_read.specs.declared

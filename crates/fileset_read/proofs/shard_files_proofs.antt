@@ -1,0 +1,15 @@
+pub use Rattle.shard_files.proofs.ContentLemmas
+pub use Rattle.shard_files.proofs.CountedLemmas
+pub use Rattle.shard_files.proofs.CutSteps
+pub use Rattle.shard_files.proofs.DamageLemmas
+pub use Rattle.shard_files.proofs.FilesHoldLemmas
+pub use Rattle.shard_files.proofs.FirstDamageLemmas
+pub use Rattle.shard_files.proofs.GainLemmas
+pub use Rattle.shard_files.proofs.HeldLemmas
+pub use Rattle.shard_files.proofs.KeepLemmas
+pub use Rattle.shard_files.proofs.LocationLemmas
+pub use Rattle.shard_files.proofs.NextLemmas
+pub use Rattle.shard_files.proofs.PartLemmas
+pub use Rattle.shard_files.proofs.SegmentStops
+pub use Rattle.shard_files.proofs.SnapshotSteps
+pub use Rattle.shard_files.proofs.VolumeSteps

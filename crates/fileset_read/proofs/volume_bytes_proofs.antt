@@ -1,0 +1,1 @@
+pub use Rattle.volume_bytes.proofs.RowLemmas

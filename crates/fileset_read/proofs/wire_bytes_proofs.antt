@@ -1,0 +1,6 @@
+pub use Rattle.shard_files.proofs.wire_bytes_proofs.EntryLemmas
+pub use Rattle.shard_files.proofs.wire_bytes_proofs.FieldLemmas
+pub use Rattle.shard_files.proofs.wire_bytes_proofs.NumberLemmas
+pub use Rattle.shard_files.proofs.wire_bytes_proofs.PointLemmas
+pub use Rattle.shard_files.proofs.wire_bytes_proofs.StopLemmas
+pub use Rattle.shard_files.proofs.wire_bytes_proofs.VolumeLemmas

@@ -1,0 +1,14 @@
+pub use Rattle.shard_files.specs.Damage
+pub use Rattle.shard_files.specs.Entries
+pub use Rattle.shard_files.specs.FileLaws
+pub use Rattle.shard_files.specs.FilesHold
+pub use Rattle.shard_files.specs.Gains
+pub use Rattle.shard_files.specs.HeldEntries
+pub use Rattle.shard_files.specs.Keeps
+pub use Rattle.shard_files.specs.Loading
+pub use Rattle.shard_files.specs.LogSteps
+pub use Rattle.shard_files.specs.Once
+pub use Rattle.shard_files.specs.Parts
+pub use Rattle.shard_files.specs.StepLaws
+pub use Rattle.shard_files.specs.Steps
+pub use Rattle.shard_files.specs.declared

@@ -1,0 +1,2 @@
+pub use Rattle.series_slots.proofs.AnswerLemmas
+pub use Rattle.series_slots.proofs.MoveLemmas

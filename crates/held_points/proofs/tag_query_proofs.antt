@@ -1,0 +1,1 @@
+pub use Rattle.tag_query.proofs.Members

@@ -1,0 +1,2 @@
+pub use Rattle.series_slots.specs.Ranges
+pub use Rattle.series_slots.specs.SeriesKeys

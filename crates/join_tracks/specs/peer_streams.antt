@@ -1,0 +1,1 @@
+pub use Rattle.peer_streams.specs.Joins

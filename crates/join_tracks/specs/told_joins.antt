@@ -1,0 +1,1 @@
+pub use Rattle.told_joins.specs.Lines

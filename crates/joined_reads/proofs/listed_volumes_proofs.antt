@@ -1,0 +1,10 @@
+pub use Rattle.listed_volumes.proofs.AnswerLemmas
+pub use Rattle.listed_volumes.proofs.CachedLemmas
+pub use Rattle.listed_volumes.proofs.KnownLemmas
+pub use Rattle.listed_volumes.proofs.ReadLemmas
+pub use Rattle.listed_volumes.proofs.RetainLemmas
+pub mod block_buffer_proofs
+pub mod commit_log_proofs
+pub mod held_points_proofs
+pub mod series_merge_proofs
+pub mod shard_files_proofs

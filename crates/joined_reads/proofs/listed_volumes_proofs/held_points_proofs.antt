@@ -1,0 +1,1 @@
+pub use Rattle.listed_volumes.proofs.held_points_proofs.ListLemmas

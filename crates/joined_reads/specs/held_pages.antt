@@ -1,0 +1,3 @@
+pub use Rattle.held_pages.specs.Rises
+pub use Rattle.held_pages.specs.Walks
+pub use Rattle.held_pages.specs.declared

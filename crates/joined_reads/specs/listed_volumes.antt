@@ -1,0 +1,15 @@
+pub use Rattle.listed_volumes.specs.BlockErr
+pub use Rattle.listed_volumes.specs.Blocks
+pub use Rattle.listed_volumes.specs.Cached
+pub use Rattle.listed_volumes.specs.Known
+pub use Rattle.listed_volumes.specs.Listed
+pub use Rattle.listed_volumes.specs.TheVariants
+pub mod block_buffer
+pub mod commit_log
+pub use Rattle.listed_volumes.specs.declared
+pub mod fileset_read
+pub mod series_merge
+pub mod series_slots
+pub mod shard_files
+pub mod volume_bytes
+pub mod wire_bytes

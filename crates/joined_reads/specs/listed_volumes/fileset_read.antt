@@ -1,0 +1,2 @@
+pub use Rattle.listed_volumes.specs.fileset_read.Volumes
+pub mod declared

@@ -1,0 +1,1 @@
+pub use Rattle.listed_volumes.specs.fileset_read.declared.file_err.FileErr

@@ -1,0 +1,1 @@
+pub use Rattle.listed_volumes.specs.series_merge.Merges

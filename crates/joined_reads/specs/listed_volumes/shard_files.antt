@@ -1,0 +1,11 @@
+pub use Rattle.listed_volumes.specs.shard_files.Damage
+pub use Rattle.listed_volumes.specs.shard_files.Entries
+pub use Rattle.listed_volumes.specs.shard_files.FilesHold
+pub use Rattle.listed_volumes.specs.shard_files.Gains
+pub use Rattle.listed_volumes.specs.shard_files.HeldEntries
+pub use Rattle.listed_volumes.specs.shard_files.Keeps
+pub use Rattle.listed_volumes.specs.shard_files.LogSteps
+pub use Rattle.listed_volumes.specs.shard_files.Once
+pub use Rattle.listed_volumes.specs.shard_files.Parts
+pub use Rattle.listed_volumes.specs.shard_files.Steps
+pub mod declared

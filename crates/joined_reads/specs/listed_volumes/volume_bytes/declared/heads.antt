@@ -1,0 +1,1 @@
+pub use Rattle.listed_volumes.specs.volume_bytes.declared.heads.Head

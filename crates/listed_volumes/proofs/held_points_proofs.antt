@@ -1,0 +1,1 @@
+pub use Rattle.volume_points.proofs.held_points_proofs.ListLemmas

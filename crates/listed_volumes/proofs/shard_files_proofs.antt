@@ -1,0 +1,9 @@
+pub use Rattle.volume_points.proofs.shard_files_proofs.ContentLemmas
+pub use Rattle.volume_points.proofs.shard_files_proofs.CountedLemmas
+pub use Rattle.volume_points.proofs.shard_files_proofs.FilesHoldLemmas
+pub use Rattle.volume_points.proofs.shard_files_proofs.GainLemmas
+pub use Rattle.volume_points.proofs.shard_files_proofs.HeldLemmas
+pub use Rattle.volume_points.proofs.shard_files_proofs.KeepLemmas
+pub use Rattle.volume_points.proofs.shard_files_proofs.NextLemmas
+pub use Rattle.volume_points.proofs.shard_files_proofs.PartLemmas
+pub use Rattle.volume_points.proofs.shard_files_proofs.VolumeSteps

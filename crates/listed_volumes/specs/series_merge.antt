@@ -1,0 +1,1 @@
+pub use Rattle.volume_points.specs.series_merge.Merges

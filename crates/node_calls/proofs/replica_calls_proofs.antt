@@ -1,0 +1,1 @@
+pub use Rattle.cluster_members.proofs.replica_calls_proofs.SlotLemmas

@@ -1,0 +1,1 @@
+pub use Rattle.cluster_members.proofs.replica_exchange_proofs.ExchangeLemmas

@@ -1,0 +1,2 @@
+pub use Rattle.cluster_members.proofs.replica_machine_proofs.OpeningLemmas
+pub use Rattle.cluster_members.proofs.replica_machine_proofs.OtherLemmas

@@ -1,0 +1,1 @@
+pub use Rattle.cluster_members.proofs.shard_files_proofs.FilesHoldLemmas

@@ -1,0 +1,1 @@
+pub use Rattle.cluster_members.specs.event_trail.Trails

@@ -1,0 +1,14 @@
+pub use Rattle.act_lines.proofs.BeginEvents
+pub use Rattle.act_lines.proofs.DueLemmas
+pub use Rattle.act_lines.proofs.GroupLemmas
+pub use Rattle.act_lines.proofs.HaltLemmas
+pub use Rattle.act_lines.proofs.InitLemmas
+pub use Rattle.act_lines.proofs.InitStands
+pub use Rattle.act_lines.proofs.KnownLemmas
+pub use Rattle.act_lines.proofs.NodeStands
+pub use Rattle.act_lines.proofs.NothingLemmas
+pub use Rattle.act_lines.proofs.OpenLemmas
+pub use Rattle.act_lines.proofs.QuietLemmas
+pub use Rattle.act_lines.proofs.SettingLemmas
+pub use Rattle.act_lines.proofs.StandLemmas
+pub use Rattle.act_lines.proofs.UntakenLemmas

@@ -1,0 +1,1 @@
+pub use Rattle.act_lines.proofs.cluster_members_proofs.PlanLemmas

@@ -1,0 +1,1 @@
+pub use Rattle.cluster_placements.proofs.PlacedLemmas

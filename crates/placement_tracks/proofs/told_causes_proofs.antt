@@ -1,0 +1,1 @@
+pub use Rattle.act_lines.proofs.told_causes_proofs.FaultLemmas

@@ -1,0 +1,3 @@
+pub use Rattle.act_lines.proofs.told_moves_proofs.OwnLemmas
+pub use Rattle.act_lines.proofs.told_moves_proofs.SlotLemmas
+pub use Rattle.act_lines.proofs.told_moves_proofs.TenureLemmas

@@ -1,0 +1,2 @@
+pub use Rattle.act_lines.specs.replica_calls.Calls
+pub use Rattle.act_lines.specs.replica_calls.Slots

@@ -1,0 +1,2 @@
+pub use Rattle.act_lines.specs.replica_exchange.MachineCalls
+pub use Rattle.act_lines.specs.replica_exchange.declared

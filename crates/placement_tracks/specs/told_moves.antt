@@ -1,0 +1,1 @@
+pub use Rattle.act_lines.specs.told_moves.Order

@@ -1,0 +1,3 @@
+pub use Rattle.replica_exchange.proofs.cluster_core_proofs.ExtendLemmas
+pub use Rattle.replica_exchange.proofs.cluster_core_proofs.ListLemmas
+pub use Rattle.replica_exchange.proofs.cluster_core_proofs.OwnLemmas

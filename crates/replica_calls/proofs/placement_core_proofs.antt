@@ -1,0 +1,2 @@
+pub use Rattle.replica_exchange.proofs.placement_core_proofs.ListLemmas
+pub use Rattle.replica_exchange.proofs.placement_core_proofs.OrderLemmas

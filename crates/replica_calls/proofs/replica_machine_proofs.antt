@@ -1,0 +1,2 @@
+pub use Rattle.replica_exchange.proofs.replica_machine_proofs.OpeningLemmas
+pub use Rattle.replica_exchange.proofs.replica_machine_proofs.OtherLemmas

@@ -1,0 +1,1 @@
+pub use Rattle.replica_exchange.specs.event_trail.Trails

@@ -1,0 +1,2 @@
+pub use Rattle.replica_machine.proofs.OpeningLemmas
+pub use Rattle.replica_machine.proofs.OtherLemmas

@@ -1,0 +1,1 @@
+pub use Rattle.replica_machine.specs.cluster_core.contracts.event.Event

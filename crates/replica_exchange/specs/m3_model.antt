@@ -1,0 +1,2 @@
+pub use Rattle.replica_machine.specs.m3_model.Reads
+pub use Rattle.replica_machine.specs.m3_model.declared

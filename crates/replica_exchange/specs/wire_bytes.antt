@@ -1,0 +1,1 @@
+pub use Rattle.replica_machine.specs.wire_bytes.Entries

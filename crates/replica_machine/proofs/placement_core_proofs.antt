@@ -1,0 +1,2 @@
+pub use Rattle.placement_core.proofs.ListLemmas
+pub use Rattle.placement_core.proofs.OrderLemmas

@@ -1,0 +1,1 @@
+pub use Rattle.shard_store.proofs.shard_files_proofs.FilesHoldLemmas

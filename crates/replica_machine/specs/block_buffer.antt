@@ -1,0 +1,1 @@
+pub use Rattle.shard_store.specs.block_buffer.Held

@@ -1,0 +1,10 @@
+pub use Rattle.cluster_core.specs.Answers
+pub use Rattle.cluster_core.specs.Asks
+pub use Rattle.cluster_core.specs.Earlier
+pub use Rattle.cluster_core.specs.Legal
+pub use Rattle.cluster_core.specs.Lists
+pub use Rattle.cluster_core.specs.Refusals
+pub use Rattle.cluster_core.specs.Replicas
+pub use Rattle.cluster_core.specs.Rows
+pub mod contracts
+pub use Rattle.cluster_core.specs.declared

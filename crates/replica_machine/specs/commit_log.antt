@@ -1,0 +1,1 @@
+pub use Rattle.shard_store.specs.commit_log.Contents

@@ -1,0 +1,1 @@
+pub use Rattle.first_points.specs.Firsts

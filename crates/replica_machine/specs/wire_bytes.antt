@@ -1,0 +1,1 @@
+pub use Rattle.shard_store.specs.wire_bytes.Entries

@@ -1,0 +1,1 @@
+pub use Rattle.cluster_tracks.specs.replica_calls.Slots

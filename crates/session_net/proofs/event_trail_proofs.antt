@@ -1,0 +1,1 @@
+pub use Rattle.replica_calls.proofs.event_trail_proofs.Balances

@@ -1,0 +1,2 @@
+pub use Rattle.replica_calls.proofs.placement_core_proofs.ListLemmas
+pub use Rattle.replica_calls.proofs.placement_core_proofs.OrderLemmas

@@ -1,0 +1,1 @@
+pub use Rattle.replica_calls.proofs.SlotLemmas

@@ -1,0 +1,2 @@
+pub use Rattle.replica_calls.proofs.replica_machine_proofs.OpeningLemmas
+pub use Rattle.replica_calls.proofs.replica_machine_proofs.OtherLemmas

@@ -1,0 +1,1 @@
+pub use Rattle.replica_calls.proofs.shard_files_proofs.FilesHoldLemmas

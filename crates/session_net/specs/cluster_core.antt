@@ -1,0 +1,9 @@
+pub use Rattle.replica_calls.specs.cluster_core.Answers
+pub use Rattle.replica_calls.specs.cluster_core.Asks
+pub use Rattle.replica_calls.specs.cluster_core.Earlier
+pub use Rattle.replica_calls.specs.cluster_core.Legal
+pub use Rattle.replica_calls.specs.cluster_core.Lists
+pub use Rattle.replica_calls.specs.cluster_core.Refusals
+pub use Rattle.replica_calls.specs.cluster_core.Replicas
+pub use Rattle.replica_calls.specs.cluster_core.Rows
+pub use Rattle.replica_calls.specs.cluster_core.declared

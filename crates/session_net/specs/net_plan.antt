@@ -1,0 +1,2 @@
+pub use Rattle.net_plan.specs.Fates
+pub use Rattle.net_plan.specs.declared

@@ -1,0 +1,1 @@
+pub use Rattle.session_net.proofs.event_trail_proofs.Balances

@@ -1,0 +1,1 @@
+pub use Rattle.session_net.proofs.shard_files_proofs.FilesHoldLemmas

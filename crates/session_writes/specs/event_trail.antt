@@ -1,0 +1,1 @@
+pub use Rattle.session_net.specs.event_trail.Trails

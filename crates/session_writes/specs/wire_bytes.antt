@@ -1,0 +1,1 @@
+pub use Rattle.session_net.specs.wire_bytes.Entries

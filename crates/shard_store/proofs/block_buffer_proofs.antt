@@ -1,0 +1,1 @@
+pub use Rattle.store_log.proofs.listed_volumes_proofs.block_buffer_proofs.LawLemmas

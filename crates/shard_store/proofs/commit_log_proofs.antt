@@ -1,0 +1,1 @@
+pub use Rattle.store_log.proofs.listed_volumes_proofs.commit_log_proofs.Leaves

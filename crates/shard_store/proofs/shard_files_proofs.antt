@@ -1,0 +1,4 @@
+pub use Rattle.store_log.proofs.listed_volumes_proofs.shard_files_proofs.ContentLemmas
+pub use Rattle.store_log.proofs.listed_volumes_proofs.shard_files_proofs.CountedLemmas
+pub use Rattle.store_log.proofs.listed_volumes_proofs.shard_files_proofs.FilesHoldLemmas
+pub use Rattle.store_log.proofs.listed_volumes_proofs.shard_files_proofs.GainLemmas

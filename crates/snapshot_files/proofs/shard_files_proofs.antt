@@ -1,0 +1,10 @@
+pub use Rattle.fileset_check.proofs.shard_files_proofs.CountedLemmas
+pub use Rattle.fileset_check.proofs.shard_files_proofs.CutSteps
+pub use Rattle.fileset_check.proofs.shard_files_proofs.DamageLemmas
+pub use Rattle.fileset_check.proofs.shard_files_proofs.FilesHoldLemmas
+pub use Rattle.fileset_check.proofs.shard_files_proofs.FirstDamageLemmas
+pub use Rattle.fileset_check.proofs.shard_files_proofs.KeepLemmas
+pub use Rattle.fileset_check.proofs.shard_files_proofs.NextLemmas
+pub use Rattle.fileset_check.proofs.shard_files_proofs.PartLemmas
+pub use Rattle.fileset_check.proofs.shard_files_proofs.SegmentStops
+pub use Rattle.fileset_check.proofs.shard_files_proofs.SnapshotSteps

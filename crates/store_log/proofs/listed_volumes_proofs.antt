@@ -1,0 +1,10 @@
+pub use Rattle.joined_reads.proofs.listed_volumes_proofs.AnswerLemmas
+pub use Rattle.joined_reads.proofs.listed_volumes_proofs.CachedLemmas
+pub use Rattle.joined_reads.proofs.listed_volumes_proofs.KnownLemmas
+pub use Rattle.joined_reads.proofs.listed_volumes_proofs.ReadLemmas
+pub use Rattle.joined_reads.proofs.listed_volumes_proofs.RetainLemmas
+pub mod block_buffer_proofs
+pub mod commit_log_proofs
+pub mod held_points_proofs
+pub mod series_merge_proofs
+pub mod shard_files_proofs

@@ -1,0 +1,4 @@
+pub use Rattle.joined_reads.proofs.listed_volumes_proofs.block_buffer_proofs.BlockLemmas
+pub use Rattle.joined_reads.proofs.listed_volumes_proofs.block_buffer_proofs.ClosedLemmas
+pub use Rattle.joined_reads.proofs.listed_volumes_proofs.block_buffer_proofs.ContentLemmas
+pub use Rattle.joined_reads.proofs.listed_volumes_proofs.block_buffer_proofs.LawLemmas

@@ -1,0 +1,3 @@
+pub use Rattle.joined_reads.proofs.listed_volumes_proofs.commit_log_proofs.Begin
+pub use Rattle.joined_reads.proofs.listed_volumes_proofs.commit_log_proofs.Leaves
+pub use Rattle.joined_reads.proofs.listed_volumes_proofs.commit_log_proofs.ReadLemmas

@@ -1,0 +1,1 @@
+pub use Rattle.joined_reads.proofs.listed_volumes_proofs.held_points_proofs.ListLemmas

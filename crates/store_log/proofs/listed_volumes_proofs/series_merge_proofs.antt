@@ -1,0 +1,2 @@
+pub use Rattle.joined_reads.proofs.listed_volumes_proofs.series_merge_proofs.JoinLemmas
+pub use Rattle.joined_reads.proofs.listed_volumes_proofs.series_merge_proofs.OrderLemmas

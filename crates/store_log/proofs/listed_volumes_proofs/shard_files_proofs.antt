@@ -1,0 +1,8 @@
+pub use Rattle.joined_reads.proofs.listed_volumes_proofs.shard_files_proofs.ContentLemmas
+pub use Rattle.joined_reads.proofs.listed_volumes_proofs.shard_files_proofs.CountedLemmas
+pub use Rattle.joined_reads.proofs.listed_volumes_proofs.shard_files_proofs.FilesHoldLemmas
+pub use Rattle.joined_reads.proofs.listed_volumes_proofs.shard_files_proofs.GainLemmas
+pub use Rattle.joined_reads.proofs.listed_volumes_proofs.shard_files_proofs.KeepLemmas
+pub use Rattle.joined_reads.proofs.listed_volumes_proofs.shard_files_proofs.NextLemmas
+pub use Rattle.joined_reads.proofs.listed_volumes_proofs.shard_files_proofs.PartLemmas
+pub use Rattle.joined_reads.proofs.listed_volumes_proofs.shard_files_proofs.VolumeSteps

@@ -1,0 +1,1 @@
+pub use Rattle.joined_reads.specs.first_points.Firsts

@@ -1,0 +1,15 @@
+pub use Rattle.joined_reads.specs.listed_volumes.BlockErr
+pub use Rattle.joined_reads.specs.listed_volumes.Blocks
+pub use Rattle.joined_reads.specs.listed_volumes.Cached
+pub use Rattle.joined_reads.specs.listed_volumes.Known
+pub use Rattle.joined_reads.specs.listed_volumes.Listed
+pub use Rattle.joined_reads.specs.listed_volumes.TheVariants
+pub mod block_buffer
+pub mod commit_log
+pub use Rattle.joined_reads.specs.listed_volumes.declared
+pub mod fileset_read
+pub mod series_merge
+pub mod series_slots
+pub mod shard_files
+pub mod volume_bytes
+pub mod wire_bytes

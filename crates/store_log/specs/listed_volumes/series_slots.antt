@@ -1,0 +1,1 @@
+pub use Rattle.joined_reads.specs.listed_volumes.series_slots.Ranges

@@ -1,0 +1,10 @@
+pub use Rattle.joined_reads.specs.listed_volumes.shard_files.Damage
+pub use Rattle.joined_reads.specs.listed_volumes.shard_files.Entries
+pub use Rattle.joined_reads.specs.listed_volumes.shard_files.FilesHold
+pub use Rattle.joined_reads.specs.listed_volumes.shard_files.Gains
+pub use Rattle.joined_reads.specs.listed_volumes.shard_files.HeldEntries
+pub use Rattle.joined_reads.specs.listed_volumes.shard_files.Keeps
+pub use Rattle.joined_reads.specs.listed_volumes.shard_files.Once
+pub use Rattle.joined_reads.specs.listed_volumes.shard_files.Parts
+pub use Rattle.joined_reads.specs.listed_volumes.shard_files.Steps
+pub mod declared

@@ -1,0 +1,1 @@
+pub use Rattle.joined_reads.specs.listed_volumes.volume_bytes.declared.heads.Head

@@ -1,0 +1,9 @@
+pub use Rattle.told_by.proofs.BrokenLemmas
+pub use Rattle.told_by.proofs.JoinedLemmas
+pub use Rattle.told_by.proofs.KeptLemmas
+pub use Rattle.told_by.proofs.LeaveLemmas
+pub use Rattle.told_by.proofs.LineLemmas
+pub use Rattle.told_by.proofs.OneLemmas
+pub use Rattle.told_by.proofs.RuleLemmas
+pub use Rattle.told_by.proofs.SampleLemmas
+pub use Rattle.told_by.proofs.TurnLemmas

@@ -1,0 +1,2 @@
+pub use Rattle.told_causes.proofs.FaultLemmas
+pub use Rattle.told_causes.proofs.WaitLemmas

@@ -1,0 +1,3 @@
+pub use Rattle.told_moves.proofs.OwnLemmas
+pub use Rattle.told_moves.proofs.SlotLemmas
+pub use Rattle.told_moves.proofs.TenureLemmas

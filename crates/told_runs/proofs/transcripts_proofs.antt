@@ -1,0 +1,2 @@
+pub use Rattle.transcripts.proofs.PlacementLemmas
+pub use Rattle.transcripts.proofs.PositionLemmas

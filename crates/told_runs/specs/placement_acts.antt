@@ -1,0 +1,1 @@
+pub use Rattle.placement_acts.specs.Acts

@@ -1,0 +1,2 @@
+pub use Rattle.placement_plan.specs.First
+pub use Rattle.placement_plan.specs.declared

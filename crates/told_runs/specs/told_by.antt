@@ -1,0 +1,11 @@
+pub use Rattle.told_by.specs.Clocks
+pub use Rattle.told_by.specs.Hears
+pub use Rattle.told_by.specs.Lines
+pub use Rattle.told_by.specs.Makes
+pub use Rattle.told_by.specs.Openings
+pub use Rattle.told_by.specs.Reads
+pub use Rattle.told_by.specs.Sample
+pub use Rattle.told_by.specs.Spans
+pub use Rattle.told_by.specs.Steps
+pub use Rattle.told_by.specs.Told
+pub use Rattle.told_by.specs.Writes

@@ -1,0 +1,1 @@
+pub use Rattle.told_moves.specs.Order

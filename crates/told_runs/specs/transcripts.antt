@@ -1,0 +1,9 @@
+pub use Rattle.transcripts.specs.Calls
+pub use Rattle.transcripts.specs.Caused
+pub use Rattle.transcripts.specs.Deliveries
+pub use Rattle.transcripts.specs.Fates
+pub use Rattle.transcripts.specs.Placements
+pub use Rattle.transcripts.specs.Points
+pub use Rattle.transcripts.specs.Reasons
+pub use Rattle.transcripts.specs.Record
+pub use Rattle.transcripts.specs.Rules

@@ -1,0 +1,1 @@
+pub use Rattle.held_points.proofs.ListLemmas

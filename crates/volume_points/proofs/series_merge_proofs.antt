@@ -1,0 +1,2 @@
+pub use Rattle.series_merge.proofs.JoinLemmas
+pub use Rattle.series_merge.proofs.OrderLemmas

@@ -1,0 +1,1 @@
+pub use Rattle.series_merge.specs.Merges

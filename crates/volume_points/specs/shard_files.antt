@@ -1,0 +1,11 @@
+pub use Rattle.fileset_check.specs.shard_files.Damage
+pub use Rattle.fileset_check.specs.shard_files.Entries
+pub use Rattle.fileset_check.specs.shard_files.FilesHold
+pub use Rattle.fileset_check.specs.shard_files.Gains
+pub use Rattle.fileset_check.specs.shard_files.HeldEntries
+pub use Rattle.fileset_check.specs.shard_files.Keeps
+pub use Rattle.fileset_check.specs.shard_files.LogSteps
+pub use Rattle.fileset_check.specs.shard_files.Once
+pub use Rattle.fileset_check.specs.shard_files.Parts
+pub use Rattle.fileset_check.specs.shard_files.Steps
+pub use Rattle.fileset_check.specs.shard_files.declared

@@ -1,0 +1,2 @@
+pub use Rattle.fileset_check.specs.volume_bytes.Heads
+pub use Rattle.fileset_check.specs.volume_bytes.declared

@@ -1,0 +1,1 @@
+pub use Rattle.volume_rows.specs.fileset_lookup.Extents

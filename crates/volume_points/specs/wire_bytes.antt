@@ -1,0 +1,3 @@
+pub use Rattle.fileset_check.specs.wire_bytes.Entries
+pub use Rattle.fileset_check.specs.wire_bytes.Snapshots
+pub use Rattle.fileset_check.specs.wire_bytes.Volumes

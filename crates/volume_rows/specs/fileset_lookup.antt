@@ -1,0 +1,1 @@
+pub use Rattle.fileset_lookup.specs.Extents
