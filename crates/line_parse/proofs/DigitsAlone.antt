@@ -1,5 +1,5 @@
 -- The number that digits alone write.
-use Rattle.std.proofs.Common.{◌≡◌, ℕ, ◌^◌, ◌<◌, List, [], ◌∷◌, ◌++◌, length, get_or, drop, cond, false, Some, refl, sym, ap, subst, ◌∙◌, arith, append-nil, lt-ltb, ne_eqb}
+use Rattle.std.proofs.Common.{◌≡◌, ℕ, ◌^◌, ◌<◌, List, [], ◌∷◌, ◌++◌, length, get_or, false, Some, refl, sym, ap, subst, ◌∙◌, arith, append-nil, lt-ltb, ne_eqb}
 use Rattle.std.specs.Char.{digit_value}
 use Rattle.std.specs.Str.Parse.{AllDigits, IsNumeral, digits_value, without_leading_plus}
 use Rattle.fast_float.specs.Text.{Parts, scan, IsWellFormed}

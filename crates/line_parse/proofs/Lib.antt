@@ -1,3 +1,4 @@
 pub mod Levels
+pub mod ShortNumerals
 pub mod WholeTexts
 mod DigitsAlone

@@ -1,11 +1,14 @@
 //! Numerals, as serde_json reads them.
-ghost use Rattle.std.specs.Prelude.{◌≡◌, ◌==◌, ◌<◌, length, slice_index, IsTrue, IfSome, Some, true, false, option_map};
+ghost use Rattle.std.specs.Prelude.{ℕ, ◌≡◌, ◌==◌, ◌<◌, ◌≤◌, length, slice_index, IsTrue, IfSome, Some, true, false, is_some, option_map};
 ghost use Rattle.serde_json.specs.Data.{unsigned};
 ghost use Rattle.serde_json.specs.Read.{number_of, number_from, float_of};
 ghost use Rattle.serde_json.specs.View.{number_view};
 
 use fast_float::{Numeral, parse_u64};
 use serde_json::Number;
+
+// A numeral without an exponent that has no more bytes is below ten to the power of so many, which a float holds.
+const SHORT: usize = 300;
 
 fn has_minus(bytes: &[u8]) -> bool
     ensures value { result ≡ (slice_index bytes.now 0 == 45) }
@@ -72,4 +75,30 @@ pub fn number_of(text: &str) -> Option<Number>
         Some(n) => Some(Number::from(n)),
         None => scanned(bytes),
     }
+}
+
+// Whether no byte is above a `9`, as the `e` of an exponent is.
+fn has_no_exponent(bytes: &[u8]) -> bool
+    ensures { IsTrue result → (i : ℕ) → i < length bytes.now → slice_index bytes.now i ≤ 57 }
+{
+    for byte in bytes {
+        if *byte > b'9' {
+            return false;
+        }
+    }
+    true
+}
+
+// Whether it is too short to be too large.
+fn is_short(bytes: &[u8]) -> bool
+    ensures { IsTrue result → is_some (number_of bytes.now) ≡ true }
+{
+    bytes.len() <= SHORT && has_no_exponent(bytes)
+}
+
+/// Whether a numeral of JSON has a number: it isn't too large for a float. Only a long one, or one with an exponent, is read for it.
+pub fn has_number(text: &str) -> bool
+    ensures { result ≡ is_some (number_of text.now) }
+{
+    is_short(text.as_bytes()) || number_of(text).is_some()
 }

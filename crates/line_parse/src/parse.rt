@@ -5,7 +5,7 @@ ghost use Rattle.json.specs.declared.error.Error.TheVariants.{OutOfMemory};
 ghost use Rattle.serde_json.specs.Read.{read};
 ghost use Rattle.line_parse.specs.Contents.{content, has_values, items_have_values, members_have_values};
 
-use crate::numbers::number_of;
+use crate::numbers::has_number;
 use json::{Error, Reader, Scratch, Value};
 use std::alloc::Global;
 
@@ -17,7 +17,7 @@ fn has_values(value: &Value<'_>) -> bool
     ensures { result ≡ has_values (value_view value.now) }
 {
     match value {
-        Value::Number(text) => number_of(text).is_some(),
+        Value::Number(text) => has_number(text),
         Value::Array(items) => items_have_values(items.as_slice()),
         Value::Object(members) => members_have_values(members.as_slice()),
         _ => true,
