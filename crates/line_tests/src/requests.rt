@@ -1,4 +1,5 @@
 use line_fields::LineErr;
+use m3_json::of_json::Scratch;
 use m3_json::read_line;
 use m3_model::{Act, Matcher, Request};
 use std::alloc::Global;
@@ -285,7 +286,7 @@ ok {"op":"now","now":1e308,"now":0}
 form {"op":"now","now":1e309,"now":0}"#;
 
 fn outcome(alloc: Global, line: &[u8]) -> &'static str {
-    match read_line(alloc, line) {
+    match read_line(alloc, &mut Scratch::new(alloc), line) {
         Ok(_) => "ok",
         Err(LineErr::Form) => "form",
         Err(LineErr::Later) => "later",
@@ -471,7 +472,7 @@ fn tell_request(request: &Request, out: &mut String) -> Result<(), Fail> {
 }
 
 fn tell_line(alloc: Global, line: &str, out: &mut String) -> Result<(), Fail> {
-    if let Ok(request) = read_line(alloc, line.as_bytes()) {
+    if let Ok(request) = read_line(alloc, &mut Scratch::new(alloc), line.as_bytes()) {
         tell_request(&request, out)?;
     }
     Ok(write!(out, " => {line}\n")?)

@@ -16,3 +16,7 @@ mod upkeep;
 
 pub use lines::read_line;
 pub use not_yet::is_served;
+
+pub mod of_json {
+    pub use json::Scratch;
+}

@@ -95,14 +95,15 @@ fn is_memory(error: Error) -> bool
 ///
 /// `Form` says that the line isn't in the grammar, `Later` that it is and no part of the program serves it yet, and
 /// `Memory` that memory ran out first. An error leaves nothing behind.
-pub fn read_line(alloc: Global, line: &[u8]) -> Result<Request, LineErr>
+///
+/// The scratch is memory alone: it grows to the longest line, and what it holds of one line says nothing of the next.
+pub fn read_line(alloc: Global, scratch: &mut Scratch, line: &[u8]) -> Result<Request, LineErr>
     ensures ok { IfOk result (λ r. LineMeans line.now (Ok r)) }
     ensures within { IfOk result KeepsLimits }
     ensures served { IfOk result IsServed }
     ensures err { IfErr result (λ e. LineMeans line.now (Err e)) }
 {
-    let mut scratch = Scratch::new(alloc);
-    match parse(alloc, line, &mut scratch) {
+    match parse(alloc, line, scratch) {
         Ok(value) => request_of(alloc, &value),
         Err(error) if is_memory(error) => Err(LineErr::Memory),
         Err(_) => Err(LineErr::Form),

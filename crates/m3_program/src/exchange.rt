@@ -7,6 +7,7 @@ ghost use Rattle.m3_program.specs.Exchanges.{is_blank, reply_line};
 ghost use Rattle.m3_program.specs.Streams.{Advances, Drops, stage};
 
 use line_fields::LineErr;
+use m3_json::of_json::Scratch;
 use m3_json::read_line;
 use m3_model::{Answer, Placement, Reply};
 use m3_outside::Disks;
@@ -50,13 +51,14 @@ fn put_reply(
     }
 }
 
-/// Serves a line, which has no newline, and appends what is to be written for it.
+/// Serves a line, which has no newline, and appends what is to be written for it. The scratch is memory to read lines in.
 ///
 /// # Errors
 ///
 /// The meta disk failed, or memory was wanted. Then nothing is appended, and the request may have been served.
 pub fn answer_line<X: Disks>(
     alloc: Global,
+    scratch: &mut Scratch,
     cluster: &mut SavedCluster<X::D>,
     disks: &mut X,
     replies: &mut Vec<u8>,
@@ -76,7 +78,7 @@ pub fn answer_line<X: Disks>(
     if is_blank(line) {
         return Ok(());
     }
-    match read_line(alloc, line) {
+    match read_line(alloc, scratch, line) {
         Ok(request) => match cluster.serve(alloc, disks, request) {
             Ok(reply) => put_reply(alloc, replies, &reply, cluster.place()),
             Err(lost) => Err(lost),
