@@ -3,7 +3,7 @@
 
 usage: tools/oracle.py [COUNT [FIRST]]    runs the scripts FIRST, FIRST + 1, .. (2,000 of them from 0 on), and some that `generate` names
        tools/oracle.py --show NUMBER      prints the script of that number
-       tools/oracle.py --model < SCRIPT   prints the replies that the model answers
+       tools/oracle.py --model < SCRIPT   prints the replies that the model answers, each once its line is there
 
 The model (oracle_lines.py, oracle_places.py, oracle_model.py) was written from that page and from docs/PLACEMENT.md alone, without a look at the program or at its
 definitions, so it shares no mistake with them but by chance: where the two differ, one of the program, the page and the model is
@@ -132,7 +132,9 @@ def hold(count: int, first: int) -> int:
 def main(words: list[str]) -> int:
     match words:
         case ["--model"]:
-            sys.stdout.buffer.writelines(oracle_model.replies(sys.stdin.buffer.read()))
+            for reply in oracle_model.serve(sys.stdin.buffer):
+                sys.stdout.buffer.write(reply)
+                sys.stdout.buffer.flush()
             return 0
         case ["--show", number] if number.isdecimal():
             sys.stdout.buffer.write(oracle_scripts.script(int(number)))

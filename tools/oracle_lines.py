@@ -1,7 +1,9 @@
 """The grammar of request lines, as docs/REQUESTS.md has it. `tools/oracle.py` says what this is for.
 
-It was written from that page alone. `read_line` turns a line into a request, or raises `Refused` with `form` or `later`.
+It was written from that page alone. `read_line` turns a line into a request, or raises `Refused` with `form` or `later`, and says
+in words what is wrong with the line, for `tools/explain`.
 """
+import difflib
 import json
 import re
 from dataclasses import dataclass
@@ -20,19 +22,37 @@ CODES = {"form": 1, "order": 3, "unknown": 4, "limit": 5, "clock": 6, "consisten
 
 
 class Refused(Exception):
-    """A refusal: its reply has the code, the error's name and these fields."""
+    """A refusal: its reply has the code, the error's name and these fields. `why` says of a line what is wrong with it."""
 
-    def __init__(self, error: str, **fields: Any):
+    def __init__(self, error: str, why: str = "", **fields: Any):
         super().__init__(error)
-        self.error, self.fields = error, fields
+        self.error, self.why, self.fields = error, why, fields
 
     def reply(self) -> Request:
         return {"ok": False, "code": CODES[self.error], "error": self.error, **self.fields}
 
 
-def demand(holds: bool) -> None:
+def demand(holds: bool, why: str) -> None:
     if not holds:
-        raise Refused("form")
+        raise Refused("form", why)
+
+
+MOST_SHOWN = 60  # characters of a value
+
+
+def demand_of(value: Any, holds: bool, wanted: str) -> None:
+    """Refuses a value that isn't what is wanted, and shows it."""
+    if not holds:
+        shown = json.dumps(value, ensure_ascii=False)
+        raise Refused("form", f" is {shown if len(shown) <= MOST_SHOWN else shown[:MOST_SHOWN] + '..'}, not {wanted}")
+
+
+def within(part: str, read: Reader, value: Any) -> Any:
+    """Reads a part of a value; a refusal says which part it is of."""
+    try:
+        return read(value)
+    except Refused as refused:
+        raise Refused(refused.error, part + refused.why) from None
 
 
 # ---- JSON
@@ -45,17 +65,17 @@ def whole_or_not(digits: str) -> int | float:
 
 def finite(digits: str) -> float:
     number = float(digits)
-    demand(abs(number) != float("inf"))
+    demand(abs(number) != float("inf"), f"isn't JSON: {digits:.20} is beyond a 64-bit float's range")
     return number
 
 
-def no_constant(_: str) -> None:
-    raise Refused("form")
+def no_constant(word: str) -> None:
+    raise Refused("form", f"isn't JSON: it has the word {word}")
 
 
 def last_values(pairs: list[tuple[str, Any]]) -> dict[str, Any]:
     for key, value in pairs:
-        demand(is_text(key) and is_text(value))
+        demand(is_text(key) and is_text(value), "isn't JSON: a text has half a pair of surrogates")
     return dict(pairs)
 
 
@@ -82,25 +102,38 @@ def is_flat(text: str) -> bool:
 def read_json(line: bytes) -> Any:
     try:
         text = line.decode("utf-8")
-        demand(is_flat(text))
+        demand(is_flat(text), f"isn't JSON here: arrays and objects stand more than {MOST_DEPTH} deep in each other")
         return json.loads(text, object_pairs_hook=last_values, parse_int=whole_or_not, parse_float=finite,
                           parse_constant=no_constant)
-    except ValueError:
-        raise Refused("form") from None
+    except UnicodeDecodeError as error:
+        raise Refused("form", f"isn't UTF-8 from its byte {error.start + 1} on") from None
+    except json.JSONDecodeError as error:
+        mark = line.startswith(b"\xef\xbb\xbf")
+        why = "begins with a byte order mark: save the file without it" if mark else f"isn't JSON: {error.msg.removesuffix(' at')}, at column {error.colno}"
+        raise Refused("form", why) from None
 
 
 # ---- values
 
-def whole(least: int, end: int) -> Reader:
+def spelled(bound: int) -> str:
+    """A bound, by its power of two where it is great."""
+    if abs(bound) < 2**32 - 1:
+        return str(bound)
+    return f"-2^{(-bound).bit_length() - 1}" if bound < 0 else f"2^{bound.bit_length()} - 1"
+
+
+def whole(least: int, end: int, advice: str = "") -> Reader:
     """A whole number from `least` on, below `end`."""
+    wanted = f"a whole number from {spelled(least)} to {spelled(end - 1)}{advice and f' ({advice})'}"
+
     def read(value: Any) -> int:
-        demand(type(value) is int and least <= value < end)
+        demand_of(value, type(value) is int and least <= value < end, wanted)
         return value
     return read
 
 
 def text(value: Any) -> str:
-    demand(isinstance(value, str))
+    demand_of(value, isinstance(value, str), "a text")
     return value
 
 
@@ -108,24 +141,26 @@ NAME = re.compile(r"[A-Za-z0-9_-]{1,32}")
 
 
 def name(value: Any) -> str:
-    demand(NAME.fullmatch(text(value)) is not None)
+    demand_of(value, NAME.fullmatch(text(value)) is not None, "a name of 1 to 32 letters, digits, _ or -")
     return value
 
 
 def one_of(*words: str) -> Reader:
     def read(value: Any) -> str:
-        demand(value in words and isinstance(value, str))
+        demand_of(value, value in words and isinstance(value, str), f"one of {', '.join(words)}")
         return value
     return read
 
 
 def many(least: int, most: int, *fields: Reader) -> Reader:
     """An array of `least` to `most` arrays with these fields."""
+    def read_item(item: Any) -> tuple:
+        demand_of(item, isinstance(item, list) and len(item) == len(fields), f"an array of {len(fields)}")
+        return tuple(within(f", part {at}", *both) for at, both in enumerate(zip(fields, item), 1))
+
     def read(value: Any) -> list[tuple]:
-        demand(isinstance(value, list) and least <= len(value) <= most)
-        for item in value:
-            demand(isinstance(item, list) and len(item) == len(fields))
-        return [tuple(field(part) for field, part in zip(fields, item)) for item in value]
+        demand_of(value, isinstance(value, list) and least <= len(value) <= most, f"an array of {least} to {most} arrays")
+        return [within(f", item {at}", read_item, item) for at, item in enumerate(value, 1)]
     return read
 
 
@@ -152,13 +187,17 @@ def tags_of(identifier: str) -> dict[str, str] | None:
     return None
 
 
+IDENTIFIER = ('an identifier of 1 to 512 bytes (a text that doesn\'t begin with {, or tags as {dc="x",host="h1"}, '
+              'whose names ascend)')
+
+
 def identifier(value: Any) -> str:
-    demand(tags_of(text(value)) is not None)
+    demand_of(value, tags_of(text(value)) is not None, IDENTIFIER)
     return value
 
 
 def tag_name(value: Any) -> str:
-    demand(TAG_NAME.fullmatch(text(value)) is not None)
+    demand_of(value, TAG_NAME.fullmatch(text(value)) is not None, "a tag's name: a letter or _, then letters, digits or _")
     return value
 
 
@@ -171,15 +210,16 @@ class Row:
     may: dict[str, Reader]
 
 
+FRACTIONS = "scale what has a fraction"
 time = whole(0, TIME_END)
-duration = whole(0, DURATION_END)
+duration = whole(0, DURATION_END, "count in seconds or milliseconds")
 write_level = one_of("one", "majority", "all")
 read_level = one_of("one", "majority", "all", "unstrict")
 ROWS = {
     "init": Row({"rf": whole(1, 6), "shards": whole(1, 65), "seed": whole(0, SEED_END), "nodes": many(1, 16, name, name)}, {}),
     "namespace": Row({"name": name, "block": duration, "past": duration, "future": duration, "retention": duration}, {}),
     "now": Row({"now": time}, {}),
-    "write": Row({"ns": name, "id": identifier, "t": time, "v": whole(-2**63, 2**63)}, {"level": write_level, "version": time}),
+    "write": Row({"ns": name, "id": identifier, "t": time, "v": whole(-2**63, 2**63, FRACTIONS)}, {"level": write_level, "version": time}),
     "fetch": Row({"ns": name, "id": identifier, "from": time, "to": time}, {"level": read_level, "version": time}),
     "match": Row({"ns": name, "where": many(0, 16, tag_name, one_of("=", "!="), text), "from": time, "to": time},
                  {"level": read_level, "version": time}),
@@ -207,12 +247,15 @@ def check_whole(request: Request) -> None:
     """What the grammar asks of several fields together."""
     match request["op"]:
         case "init":
-            demand(are_different([node for node, _ in request["nodes"]]))
+            demand(are_different([node for node, _ in request["nodes"]]), "`nodes` names a node twice")
         case "namespace":
             block = request["block"]
-            demand(1 <= block <= request["retention"] and request["past"] < block and request["future"] < block)
+            demand(block >= 1, "`block` is 0, where at least 1 is wanted")
+            demand(block <= request["retention"], "`retention` is below `block`")
+            for key in ("past", "future"):
+                demand(request[key] < block, f"`{key}` isn't below `block`")
         case "fates":
-            demand(are_different([fate[:3] for fate in request["list"]]))
+            demand(are_different([fate[:3] for fate in request["list"]]), "`list` has two fates of one client, call and node")
 
 
 def are_different(items: list) -> bool:
@@ -223,17 +266,33 @@ def is_later(request: Request) -> bool:
     return request["op"] in LATER
 
 
+def served_op(value: Any) -> str:
+    op = text(value)
+    if op in LATER_WHATEVER_ELSE:
+        raise Refused("later", f" is {op}, which isn't served yet")
+    if op not in ROWS:
+        near = difflib.get_close_matches(op.lower(), ROWS, 1, 0.8)
+        demand_of(op, False, "an op" + (f"; `{near[0]}` is one" if near else ""))
+    return op
+
+
+def row_of(value: Any) -> Row:
+    """The row of the op that a line names."""
+    demand(isinstance(value, dict), "isn't an object")
+    demand("op" in value, "has no field `op`")
+    return ROWS[within("`op`", served_op, value["op"])]
+
+
 def read_line(line: bytes) -> Request:
     value = read_json(line)
-    demand(isinstance(value, dict) and isinstance(value.get("op"), str))
-    if value["op"] in LATER_WHATEVER_ELSE:
-        raise Refused("later")
-    demand(value["op"] in ROWS)
-    row = ROWS[value["op"]]
+    row = row_of(value)
     readers = {"op": text, **row.must, **row.may}
-    demand(all(key in readers for key in value) and all(key in value for key in row.must))
-    request = {key: readers[key](field) for key, field in value.items()}
+    for key in value:
+        demand(key in readers, f"`{value['op']}` has no field `{key:.{MOST_SHOWN}}`")
+    for key in row.must:
+        demand(key in value, f"`{value['op']}` lacks the field `{key}`")
+    request = {key: within(f"`{key}`", readers[key], field) for key, field in value.items()}
     check_whole(request)
     if is_later(request):
-        raise Refused("later")
+        raise Refused("later", f"`op` is {request['op']}, which isn't served yet")
     return request

@@ -5,7 +5,7 @@ that the program must print.
 """
 import json
 from dataclasses import dataclass, field
-from typing import Any, Iterable
+from typing import Any, Iterable, Iterator
 
 from oracle_lines import Refused, Request, read_line, tags_of
 from oracle_places import JOINING, MOST_VERSIONS, Place, ended, first_place, next_place
@@ -474,7 +474,17 @@ def reply_to(cluster: Cluster, line: bytes) -> bytes:
     return json.dumps(reply, ensure_ascii=False, separators=(",", ":"), sort_keys=True).encode() + b"\n"
 
 
+def is_blank(line: bytes) -> bool:
+    """Whether a line is passed over."""
+    return not line.strip(b" \t\r\n")
+
+
+def serve(lines: Iterable[bytes]) -> Iterator[bytes]:
+    """The replies to lines, each once its line is there."""
+    cluster = Cluster()
+    return (reply_to(cluster, line.removesuffix(b"\n")) for line in lines if not is_blank(line))
+
+
 def replies(script: bytes) -> list[bytes]:
     """The replies to the lines of a script, without those that are passed over."""
-    cluster = Cluster()
-    return [reply_to(cluster, line) for line in script.split(b"\n") if line.strip(b" \t\r")]
+    return list(serve(script.split(b"\n")))
