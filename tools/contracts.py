@@ -25,8 +25,8 @@ def functions(name):
         for line in file.read_text().splitlines():
             it = line.strip()
             if line.startswith(("impl", "}")):
-                of = re.search(r"(\w+)(?:<[^>]*>)? \{", line)
-                owner = f"{of[1]}::" if of else ""
+                named = re.search(r"(\w+)(?:<[^>]*>)? \{", line) if line.startswith("impl") else None  # no tuple is
+                owner = f"{named[1]}::" if named else ""
             if it in ("{", "{}") or it.endswith(" {") and not clause:
                 head, own = "", None
             elif own is not None and (clause or re.match(r"(requires|ensures)\b", it)):
