@@ -2,7 +2,7 @@
 ghost use Rattle.std.specs.Prelude.{◌≢◌};
 ghost use Rattle.m3_outside.specs.Slots.{Out};
 ghost use Rattle.m3_outside.specs.declared.slot.DiskSlot.{DiskSlot};
-ghost use Rattle.cluster_tracks.specs.first_cluster.Depots.{IsForReplicas};
+ghost use Rattle.line_tracks.specs.first_cluster.Depots.{IsForReplicas};
 ghost use Rattle.served_cluster.specs.Owned.{MayServeCluster};
 
 use cluster_words::{act_of, spell_placement, spell_reply};

@@ -22,7 +22,7 @@ use Rattle.saved_cluster.specs.first_cluster.Lending.{HasReturned, HasTaken, IsL
 use Rattle.saved_cluster.proofs.first_cluster_proofs.SlotLists.{in_or_out}
 use Rattle.saved_cluster.specs.cluster_placements.Lending.{HaveGained, HaveReturned, IsUntakenAt}
 use Rattle.saved_cluster.specs.cluster_placements.Steps.{IsChanged}
-use Rattle.saved_cluster.specs.cluster_tracks.Acts.{IsInitAnswer, IsServedBy, IsStepAnswer}
+use Rattle.saved_cluster.specs.line_tracks.Acts.{IsInitAnswer, IsServedBy, IsStepAnswer}
 use Rattle.saved_cluster.specs.served_cluster.Acts.{Serves}
 use Rattle.saved_cluster.specs.served_cluster.declared.cluster.Cluster.{Cluster}
 use Rattle.saved_cluster.proofs.served_cluster_proofs.OwnLemmas.{refused_returned}

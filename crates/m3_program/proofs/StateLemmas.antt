@@ -19,8 +19,8 @@ use Rattle.transcripts.specs.Rules.{rules_after, rules_by, start_rules}
 use Rattle.saved_cluster.specs.cluster_members.Steps.{IsMoved, IsSpaceAdded}
 use Rattle.saved_cluster.specs.cluster_members.declared.members.Members.{Members}
 use Rattle.saved_cluster.specs.cluster_placements.Steps.{IsChanged}
-use Rattle.saved_cluster.specs.cluster_tracks.cluster_joins.Boots.{IsBooted}
-use Rattle.saved_cluster.specs.cluster_tracks.Acts.{IsInitAnswer, IsServedBy, IsStepAnswer, OnMembers}
+use Rattle.saved_cluster.specs.line_tracks.cluster_joins.Boots.{IsBooted}
+use Rattle.saved_cluster.specs.line_tracks.Acts.{IsInitAnswer, IsServedBy, IsStepAnswer, OnMembers}
 use Rattle.saved_cluster.specs.served_cluster.Acts.{Serves}
 use Rattle.saved_cluster.specs.served_cluster.Owned.{place_of}
 use Rattle.saved_cluster.specs.served_cluster.Plans.{state_of}

@@ -9,10 +9,10 @@ use Rattle.m3_model.specs.declared.rules.MetaState.{MetaState}
 use Rattle.m3_model.specs.declared.rules.Space.{Space}
 use Rattle.placement_core.specs.Lawful.{IsLawful}
 use Rattle.placement_core.proofs.ListLemmas.{at_within}
-use Rattle.act_lines.specs.replica_exchange.declared.slot.Slot.{Slot}
-use Rattle.act_lines.specs.first_cluster.Slots.{slots_of}
-use Rattle.act_lines.proofs.first_cluster_proofs.PlacedSlots.{shard_low}
-use Rattle.act_lines.proofs.first_cluster_proofs.SlotLists.{slot_instance, slots_apart}
+use Rattle.line_tracks.specs.replica_exchange.declared.slot.Slot.{Slot}
+use Rattle.line_tracks.specs.first_cluster.Slots.{slots_of}
+use Rattle.line_tracks.proofs.first_cluster_proofs.PlacedSlots.{shard_low}
+use Rattle.line_tracks.proofs.first_cluster_proofs.SlotLists.{slot_instance, slots_apart}
 use Rattle.cluster_placements.specs.Slots.{AreSlotsIn}
 use Rattle.cluster_placements.proofs.FewLemmas.{few_slots}
 use Rattle.meta_bytes.specs.States.{IsMetaState, IsSpaceOf}

@@ -7,11 +7,11 @@ use Rattle.m3_outside.specs.Depots.{Depot}
 use Rattle.m3_outside.specs.DiskState.{DiskState}
 use Rattle.m3_outside.specs.Slots.{Held, Out}
 use Rattle.m3_outside.specs.declared.slot.DiskSlot.{DiskSlot}
-use Rattle.act_lines.specs.replica_exchange.declared.member.Member.{Member}
-use Rattle.act_lines.specs.replica_exchange.declared.slot.Slot.{Slot}
-use Rattle.act_lines.specs.replica_calls.Slots.{MemberMap, slot_cmp}
-use Rattle.act_lines.specs.first_cluster.Depots.{disk_slot_of}
-use Rattle.act_lines.specs.first_cluster.Lending.{IsFree}
+use Rattle.line_tracks.specs.replica_exchange.declared.member.Member.{Member}
+use Rattle.line_tracks.specs.replica_exchange.declared.slot.Slot.{Slot}
+use Rattle.line_tracks.specs.replica_calls.Slots.{MemberMap, slot_cmp}
+use Rattle.line_tracks.specs.first_cluster.Depots.{disk_slot_of}
+use Rattle.line_tracks.specs.first_cluster.Lending.{IsFree}
 use Rattle.cluster_placements.specs.Lending.{AreLent, HaveGained, HaveReturned}
 
 none_at : {D : Type 0} (members : MemberMap D) → members ≡ empty → (s : Slot) → get members s ≡ None

@@ -12,34 +12,34 @@ use Rattle.m3_outside.specs.Slots.{Out}
 use Rattle.m3_outside.specs.declared.disk.Disk.{Ghosts}
 use Rattle.m3_outside.specs.declared.slot.DiskSlot.{DiskSlot}
 use Rattle.net_plan.specs.Fates.{fate_of}
-use Rattle.act_lines.specs.cluster_core.Earlier.{last_clock, last_place}
-use Rattle.act_lines.specs.cluster_core.Lists.{At}
-use Rattle.act_lines.specs.cluster_core.declared.event.Event.{Event}
-use Rattle.act_lines.specs.cluster_core.declared.event.Event.TheVariants as event
-use Rattle.act_lines.specs.cluster_core.declared.event.StepCall.{StepCall}
-use Rattle.act_lines.specs.cluster_core.declared.event.StepReply.{StepReply}
-use Rattle.act_lines.proofs.cluster_core_proofs.ListLemmas.{in_at}
-use Rattle.act_lines.specs.told_by.Hears.{HasReplica}
-use Rattle.act_lines.specs.replica_exchange.declared.slot.Slot.{Slot}
-use Rattle.act_lines.specs.replica_calls.Calls.{first_member}
-use Rattle.act_lines.specs.replica_calls.Slots.{slot_cmp}
-use Rattle.act_lines.specs.session_net.Ready.{IsReady}
-use Rattle.act_lines.specs.session_net.Runs.{slot_at, steps_of}
-use Rattle.act_lines.specs.transcripts.Placements.{placements}
-use Rattle.act_lines.specs.cluster_members.Kept.{IsKept}
-use Rattle.act_lines.specs.cluster_members.declared.members.Members.{Members}
-use Rattle.act_lines.specs.first_cluster.Depots.{AreOut, IsForReplicas, disk_slot_of}
-use Rattle.act_lines.specs.first_cluster.First.{opening_of}
-use Rattle.act_lines.specs.first_cluster.Slots.{slots_of}
-use Rattle.act_lines.proofs.first_cluster_proofs.FirstLemmas.{node_slot}
-use Rattle.act_lines.proofs.first_cluster_proofs.SlotLists.{in_or_out}
-use Rattle.act_lines.specs.call_lines.Left.{AreStoppedBy, HoldsBack, NetIsLeftBy}
+use Rattle.line_tracks.specs.cluster_core.Earlier.{last_clock, last_place}
+use Rattle.line_tracks.specs.cluster_core.Lists.{At}
+use Rattle.line_tracks.specs.cluster_core.declared.event.Event.{Event}
+use Rattle.line_tracks.specs.cluster_core.declared.event.Event.TheVariants as event
+use Rattle.line_tracks.specs.cluster_core.declared.event.StepCall.{StepCall}
+use Rattle.line_tracks.specs.cluster_core.declared.event.StepReply.{StepReply}
+use Rattle.line_tracks.proofs.cluster_core_proofs.ListLemmas.{in_at}
+use Rattle.line_tracks.specs.told_by.Hears.{HasReplica}
+use Rattle.line_tracks.specs.replica_exchange.declared.slot.Slot.{Slot}
+use Rattle.line_tracks.specs.replica_calls.Calls.{first_member}
+use Rattle.line_tracks.specs.replica_calls.Slots.{slot_cmp}
+use Rattle.line_tracks.specs.session_net.Ready.{IsReady}
+use Rattle.line_tracks.specs.session_net.Runs.{slot_at, steps_of}
+use Rattle.line_tracks.specs.transcripts.Placements.{placements}
+use Rattle.line_tracks.specs.cluster_members.Kept.{IsKept}
+use Rattle.line_tracks.specs.cluster_members.declared.members.Members.{Members}
+use Rattle.line_tracks.specs.first_cluster.Depots.{AreOut, IsForReplicas, disk_slot_of}
+use Rattle.line_tracks.specs.first_cluster.First.{opening_of}
+use Rattle.line_tracks.specs.first_cluster.Slots.{slots_of}
+use Rattle.line_tracks.proofs.first_cluster_proofs.FirstLemmas.{node_slot}
+use Rattle.line_tracks.proofs.first_cluster_proofs.SlotLists.{in_or_out}
+use Rattle.line_tracks.specs.calls.Left.{AreStoppedBy, HoldsBack, NetIsLeftBy}
 use Rattle.cluster_placements.specs.Slots.{AreSlotsIn}
 use Rattle.cluster_placements.specs.Steps.{MayChange}
 use Rattle.meta_bytes.specs.States.{IsMetaState}
-use Rattle.act_lines.specs.Stands.{AreKept, HasSlots, ClusterStands}
-use Rattle.act_lines.proofs.KnownLemmas.{known_first}
-use Rattle.act_lines.proofs.StartLemmas.{delivers_all, named_at, place_at, runs_at, slot_tenure, tenure_slot}
+use Rattle.line_tracks.specs.acts.Stands.{AreKept, HasSlots, ClusterStands}
+use Rattle.line_tracks.proofs.acts.KnownLemmas.{known_first}
+use Rattle.line_tracks.proofs.acts.StartLemmas.{delivers_all, named_at, place_at, runs_at, slot_tenure, tenure_slot}
 use Rattle.opened_cluster.specs.Reopened.{IsReopened}
 use Rattle.opened_cluster.proofs.FieldLemmas.{slot_low, slots_in}
 

@@ -7,9 +7,9 @@ use Rattle.m3_outside.specs.Depots.{Depot}
 use Rattle.m3_outside.specs.DiskState.{DiskState}
 use Rattle.m3_outside.specs.declared.disk.Disk.{Ghosts}
 use Rattle.net_plan.specs.Fates.{fates_of}
-use Rattle.act_lines.specs.cluster_members.declared.members.Members.{Members}
-use Rattle.act_lines.specs.first_cluster.First.{opening_of}
-use Rattle.act_lines.specs.first_cluster.Slots.{slots_of}
+use Rattle.line_tracks.specs.cluster_members.declared.members.Members.{Members}
+use Rattle.line_tracks.specs.first_cluster.First.{opening_of}
+use Rattle.line_tracks.specs.first_cluster.Slots.{slots_of}
 use Rattle.cluster_placements.specs.Lending.{HaveGained}
 use Rattle.opened_cluster.specs.declared.plan.Plan.{Plan}
 

@@ -3,8 +3,8 @@ ghost use Rattle.std.specs.Prelude.{IfOk};
 ghost use Rattle.placement_core.specs.Lawful.{IsLawful};
 ghost use Rattle.opened_cluster.specs.Reopened.{IsPlan};
 
-use act_lines::of_replica_exchange::Slot;
 use cluster_placements::{slots_of, with_nodes};
+use line_tracks::of_replica_exchange::Slot;
 use m3_model::{Memory, Placement};
 use net_plan::Bag;
 use std::alloc::Global;

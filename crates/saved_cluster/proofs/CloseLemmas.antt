@@ -4,13 +4,13 @@ use Rattle.std.specs.Prelude.{Option, Some, None}
 use Rattle.m3_outside.specs.Slots.{Held, Here, OthersStay, Out}
 use Rattle.m3_outside.specs.declared.disk.Disk.{Ghosts}
 use Rattle.m3_outside.specs.declared.slot.DiskSlot.{DiskSlot}
-use Rattle.cluster_tracks.specs.replica_exchange.declared.slot.Slot.{Slot}
-use Rattle.cluster_tracks.specs.session_net.Runs.{slot_at}
-use Rattle.cluster_tracks.specs.cluster_members.declared.members.Members.{Members}
-use Rattle.cluster_tracks.specs.first_cluster.Depots.{AreOut, IsForReplicas, OwnedBy, disk_slot_of, meta_slot}
-use Rattle.cluster_tracks.specs.Ends.{replica_at}
-use Rattle.cluster_tracks.proofs.first_cluster_proofs.SlotCases.{other_disk_slot}
-use Rattle.cluster_tracks.proofs.first_cluster_proofs.SlotLists.{slot_or_other}
+use Rattle.line_tracks.specs.replica_exchange.declared.slot.Slot.{Slot}
+use Rattle.line_tracks.specs.session_net.Runs.{slot_at}
+use Rattle.line_tracks.specs.cluster_members.declared.members.Members.{Members}
+use Rattle.line_tracks.specs.first_cluster.Depots.{AreOut, IsForReplicas, OwnedBy, disk_slot_of, meta_slot}
+use Rattle.line_tracks.specs.tracks.Ends.{replica_at}
+use Rattle.line_tracks.proofs.first_cluster_proofs.SlotCases.{other_disk_slot}
+use Rattle.line_tracks.proofs.first_cluster_proofs.SlotLists.{slot_or_other}
 use Rattle.served_cluster.specs.Owned.{AreReady, MayServeCluster}
 use Rattle.served_cluster.specs.declared.cluster.Cluster.{Cluster}
 use Rattle.saved_cluster.proofs.OutLemmas.{meta_at}

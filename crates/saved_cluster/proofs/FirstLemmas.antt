@@ -19,13 +19,13 @@ use Rattle.placement_log.specs.States.{MayBeState}
 use Rattle.placement_plan.specs.First.{RefusesInitial}
 use Rattle.placement_plan.specs.declared.plan_err.PlaceErr.{PlaceErr}
 use Rattle.placement_plan.specs.declared.plan_err.PlaceErr.TheVariants as refused
-use Rattle.cluster_tracks.proofs.first_cluster_proofs.GiveAll.{returned_none}
-use Rattle.cluster_tracks.specs.session_net.Ready.{IsReady}
-use Rattle.cluster_tracks.specs.cluster_members.declared.members.Members.{Members}
-use Rattle.cluster_tracks.specs.first_cluster.Depots.{IsForReplicas, OwnedBy}
-use Rattle.cluster_tracks.specs.first_cluster.First.{IsRefusedInit}
-use Rattle.cluster_tracks.specs.Acts.{IsInitAnswer}
-use Rattle.cluster_tracks.specs.Lines.{EachMember}
+use Rattle.line_tracks.proofs.first_cluster_proofs.GiveAll.{returned_none}
+use Rattle.line_tracks.specs.session_net.Ready.{IsReady}
+use Rattle.line_tracks.specs.cluster_members.declared.members.Members.{Members}
+use Rattle.line_tracks.specs.first_cluster.Depots.{IsForReplicas, OwnedBy}
+use Rattle.line_tracks.specs.first_cluster.First.{IsRefusedInit}
+use Rattle.line_tracks.specs.tracks.Acts.{IsInitAnswer}
+use Rattle.line_tracks.specs.tracks.Lines.{EachMember}
 use Rattle.served_cluster.specs.Acts.{Serves}
 use Rattle.served_cluster.specs.Plans.{state_of}
 use Rattle.saved_cluster.specs.Saved.{AnswersSaved, IsSaved, MayServeSaved}

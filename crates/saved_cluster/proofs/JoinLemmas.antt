@@ -21,14 +21,14 @@ use Rattle.placement_plan.specs.Plans.{IsAvailable}
 use Rattle.meta_bytes.specs.States.{IsMetaState}
 use Rattle.placement_log.specs.MetaHolds.{KeepsLast, MaySave, MetaStands}
 use Rattle.placement_log.specs.States.{MayBeState}
-use Rattle.cluster_tracks.specs.transcripts.Waiting.{is_covering}
-use Rattle.cluster_tracks.specs.cluster_members.declared.members.Members.{Members}
-use Rattle.cluster_tracks.specs.cluster_joins.Boots.{IsToMark}
-use Rattle.cluster_tracks.specs.cluster_joins.declared.marking.Marked.{Marked}
-use Rattle.cluster_tracks.specs.cluster_joins.declared.marking.Marking.{Marking}
-use Rattle.cluster_tracks.specs.cluster_placements.Steps.{kept_in}
-use Rattle.cluster_tracks.specs.peer_streams.Joins.{Join, Opened}
-use Rattle.cluster_tracks.specs.told_joins.Lines.{done_by, joined_of}
+use Rattle.line_tracks.specs.transcripts.Waiting.{is_covering}
+use Rattle.line_tracks.specs.cluster_members.declared.members.Members.{Members}
+use Rattle.line_tracks.specs.cluster_joins.Boots.{IsToMark}
+use Rattle.line_tracks.specs.cluster_joins.declared.marking.Marked.{Marked}
+use Rattle.line_tracks.specs.cluster_joins.declared.marking.Marking.{Marking}
+use Rattle.line_tracks.specs.cluster_placements.Steps.{kept_in}
+use Rattle.line_tracks.specs.peer_streams.Joins.{Join, Opened}
+use Rattle.line_tracks.specs.told_joins.Lines.{done_by, joined_of}
 use Rattle.served_cluster.specs.Acts.{Answers, Serves}
 use Rattle.served_cluster.specs.Joins.{EndsSources, HasJoined, HasMarked, MayEndSources, MayMark, by_marking}
 use Rattle.served_cluster.specs.Owned.{MayServeCluster, StillServes}

@@ -14,15 +14,15 @@ use Rattle.m3_model.specs.declared.rules.MetaState.{MetaState}
 use Rattle.m3_outside.specs.Depots.{Depot}
 use Rattle.m3_outside.specs.DiskState.{DiskState}
 use Rattle.m3_outside.specs.declared.disk.Disk.{Ghosts}
-use Rattle.cluster_tracks.specs.replica_exchange.declared.call_id.CallId.{CallId}
-use Rattle.cluster_tracks.specs.cluster_core.declared.event.StepCall.{StepCall}
-use Rattle.cluster_tracks.specs.cluster_core.declared.event.StepCall.TheVariants as call
-use Rattle.cluster_tracks.specs.cluster_members.Calls.{IsFetchAnswer, IsMissing, IsWritten, NamedPoint}
-use Rattle.cluster_tracks.specs.cluster_members.declared.calls.Range.{Range}
-use Rattle.cluster_tracks.specs.cluster_members.declared.members.Members.{Members}
-use Rattle.cluster_tracks.specs.node_calls.Nodes.{IsDeliverAnswer, IsFated, IsRestarted, IsStopped}
-use Rattle.cluster_tracks.specs.cluster_upkeep.Upkeep.{IsSwept, IsTold}
-use Rattle.cluster_tracks.specs.Acts.{Does, IsServedBy, MayCall, OnMembers, next_call}
+use Rattle.line_tracks.specs.replica_exchange.declared.call_id.CallId.{CallId}
+use Rattle.line_tracks.specs.cluster_core.declared.event.StepCall.{StepCall}
+use Rattle.line_tracks.specs.cluster_core.declared.event.StepCall.TheVariants as call
+use Rattle.line_tracks.specs.cluster_members.Calls.{IsFetchAnswer, IsMissing, IsWritten, NamedPoint}
+use Rattle.line_tracks.specs.cluster_members.declared.calls.Range.{Range}
+use Rattle.line_tracks.specs.cluster_members.declared.members.Members.{Members}
+use Rattle.line_tracks.specs.node_calls.Nodes.{IsDeliverAnswer, IsFated, IsRestarted, IsStopped}
+use Rattle.line_tracks.specs.cluster_upkeep.Upkeep.{IsSwept, IsTold}
+use Rattle.line_tracks.specs.tracks.Acts.{Does, IsServedBy, MayCall, OnMembers, next_call}
 use Rattle.served_cluster.specs.Acts.{Serves}
 use Rattle.served_cluster.specs.Plans.{state_of}
 use Rattle.served_cluster.specs.declared.cluster.Cluster.{Cluster}

@@ -12,17 +12,17 @@ use Rattle.m3_outside.specs.declared.slot.DiskSlot.{DiskSlot}
 use Rattle.placement_log.specs.Damage.{MayBeDamaged}
 use Rattle.placement_log.specs.declared.open_err.OpenErr.{OpenErr}
 use Rattle.placement_log.specs.declared.open_err.OpenErr.TheVariants as failures
-use Rattle.cluster_tracks.specs.replica_exchange.declared.slot.Slot.{Slot}
-use Rattle.cluster_tracks.specs.session_net.Runs.{slot_at}
-use Rattle.cluster_tracks.specs.cluster_members.declared.members.Members.{Members}
-use Rattle.cluster_tracks.specs.first_cluster.Depots.{IsForReplicas, disk_slot_of, meta_slot}
-use Rattle.cluster_tracks.specs.first_cluster.Lending.{AreAsTheyWere, IsLeftAt}
-use Rattle.cluster_tracks.specs.first_cluster.Slots.{slots_of}
-use Rattle.cluster_tracks.proofs.first_cluster_proofs.SlotCases.{other_disk_slot}
-use Rattle.cluster_tracks.proofs.first_cluster_proofs.SlotLists.{in_or_out, slot_or_other}
-use Rattle.cluster_tracks.proofs.first_cluster_proofs.TakeAll.{rose_from, rose_to}
-use Rattle.cluster_tracks.specs.cluster_placements.Lending.{HaveReturned}
-use Rattle.cluster_tracks.specs.cluster_placements.Steps.{MayChange}
+use Rattle.line_tracks.specs.replica_exchange.declared.slot.Slot.{Slot}
+use Rattle.line_tracks.specs.session_net.Runs.{slot_at}
+use Rattle.line_tracks.specs.cluster_members.declared.members.Members.{Members}
+use Rattle.line_tracks.specs.first_cluster.Depots.{IsForReplicas, disk_slot_of, meta_slot}
+use Rattle.line_tracks.specs.first_cluster.Lending.{AreAsTheyWere, IsLeftAt}
+use Rattle.line_tracks.specs.first_cluster.Slots.{slots_of}
+use Rattle.line_tracks.proofs.first_cluster_proofs.SlotCases.{other_disk_slot}
+use Rattle.line_tracks.proofs.first_cluster_proofs.SlotLists.{in_or_out, slot_or_other}
+use Rattle.line_tracks.proofs.first_cluster_proofs.TakeAll.{rose_from, rose_to}
+use Rattle.line_tracks.specs.cluster_placements.Lending.{HaveReturned}
+use Rattle.line_tracks.specs.cluster_placements.Steps.{MayChange}
 use Rattle.served_cluster.specs.Owned.{MayServeCluster}
 use Rattle.served_cluster.specs.declared.cluster.Cluster.{Cluster}
 use Rattle.served_cluster.proofs.KeptLemmas.{first_serves, ready_still}

@@ -10,17 +10,17 @@ use Rattle.m3_outside.specs.Depots.{Depot}
 use Rattle.m3_outside.specs.DiskState.{DiskState, IsEmpty}
 use Rattle.m3_outside.specs.Slots.{MayGive, Out}
 use Rattle.m3_outside.specs.declared.disk.Disk.{Ghosts}
-use Rattle.cluster_tracks.specs.replica_exchange.declared.slot.Slot.{Slot}
-use Rattle.cluster_tracks.specs.replica_calls.Slots.{MemberMap}
-use Rattle.cluster_tracks.specs.session_net.Runs.{slot_at}
-use Rattle.cluster_tracks.specs.cluster_members.declared.members.Members.{Members}
-use Rattle.cluster_tracks.specs.first_cluster.Depots.{meta_slot}
-use Rattle.cluster_tracks.specs.first_cluster.First.{IsFirst}
-use Rattle.cluster_tracks.specs.first_cluster.Lending.{AreAsTheyWere, HasReturned, HasTaken, IsLeftAt}
-use Rattle.cluster_tracks.proofs.first_cluster_proofs.SlotLists.{in_or_out}
-use Rattle.cluster_tracks.specs.cluster_placements.Lending.{HaveGained, HaveReturned, IsUntakenAt}
-use Rattle.cluster_tracks.specs.cluster_placements.Steps.{IsChanged}
-use Rattle.cluster_tracks.specs.Acts.{IsInitAnswer, IsServedBy, IsStepAnswer}
+use Rattle.line_tracks.specs.replica_exchange.declared.slot.Slot.{Slot}
+use Rattle.line_tracks.specs.replica_calls.Slots.{MemberMap}
+use Rattle.line_tracks.specs.session_net.Runs.{slot_at}
+use Rattle.line_tracks.specs.cluster_members.declared.members.Members.{Members}
+use Rattle.line_tracks.specs.first_cluster.Depots.{meta_slot}
+use Rattle.line_tracks.specs.first_cluster.First.{IsFirst}
+use Rattle.line_tracks.specs.first_cluster.Lending.{AreAsTheyWere, HasReturned, HasTaken, IsLeftAt}
+use Rattle.line_tracks.proofs.first_cluster_proofs.SlotLists.{in_or_out}
+use Rattle.line_tracks.specs.cluster_placements.Lending.{HaveGained, HaveReturned, IsUntakenAt}
+use Rattle.line_tracks.specs.cluster_placements.Steps.{IsChanged}
+use Rattle.line_tracks.specs.tracks.Acts.{IsInitAnswer, IsServedBy, IsStepAnswer}
 use Rattle.served_cluster.specs.Acts.{Serves}
 use Rattle.served_cluster.specs.declared.cluster.Cluster.{Cluster}
 use Rattle.served_cluster.proofs.OwnLemmas.{refused_returned}

@@ -8,9 +8,9 @@ use Rattle.m3_model.specs.declared.rules.MetaState.{MetaState}
 use Rattle.m3_model.specs.declared.rules.Rules.{Rules}
 use Rattle.m3_outside.specs.declared.disk.Disk.{Ghosts}
 use Rattle.placement_acts.specs.Acts.{is_step_act}
-use Rattle.cluster_tracks.specs.cluster_members.declared.members.Members.{Members}
-use Rattle.cluster_tracks.specs.cluster_placements.Steps.{IsChange, kept_in}
-use Rattle.cluster_tracks.specs.cluster_placements.declared.plan.Change.{Change}
+use Rattle.line_tracks.specs.cluster_members.declared.members.Members.{Members}
+use Rattle.line_tracks.specs.cluster_placements.Steps.{IsChange, kept_in}
+use Rattle.line_tracks.specs.cluster_placements.declared.plan.Change.{Change}
 use Rattle.meta_bytes.specs.States.{IsMetaState}
 use Rattle.served_cluster.specs.Plans.{IsPlannedOn, by_plan}
 use Rattle.served_cluster.specs.declared.plan.Plan.{Plan}

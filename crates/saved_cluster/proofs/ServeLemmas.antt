@@ -23,17 +23,17 @@ use Rattle.m3_outside.specs.declared.slot.DiskSlot.{DiskSlot}
 use Rattle.placement_log.specs.MetaHolds.{KeepsLast, MetaEnd}
 use Rattle.placement_log.specs.States.{MayBeState}
 use Rattle.meta_bytes.specs.States.{AreSpaces, IsMetaState, IsSpaceOf}
-use Rattle.cluster_tracks.specs.placement_core.Lawful.{IsLawful}
-use Rattle.cluster_tracks.specs.session_net.Ready.{IsReady}
-use Rattle.cluster_tracks.specs.cluster_members.declared.members.Members.{Members}
-use Rattle.cluster_tracks.specs.first_cluster.Depots.{IsForReplicas, OwnedBy}
-use Rattle.cluster_tracks.specs.first_cluster.First.{opening_of}
-use Rattle.cluster_tracks.specs.first_cluster.Lending.{HasReturned}
-use Rattle.cluster_tracks.specs.first_cluster.Slots.{starts_of}
-use Rattle.cluster_tracks.proofs.first_cluster_proofs.FirstLemmas.{first_out}
-use Rattle.cluster_tracks.specs.cluster_placements.Steps.{kept_in}
-use Rattle.cluster_tracks.specs.Acts.{IsInitAnswer}
-use Rattle.cluster_tracks.specs.Lines.{EachMember}
+use Rattle.line_tracks.specs.placement_core.Lawful.{IsLawful}
+use Rattle.line_tracks.specs.session_net.Ready.{IsReady}
+use Rattle.line_tracks.specs.cluster_members.declared.members.Members.{Members}
+use Rattle.line_tracks.specs.first_cluster.Depots.{IsForReplicas, OwnedBy}
+use Rattle.line_tracks.specs.first_cluster.First.{opening_of}
+use Rattle.line_tracks.specs.first_cluster.Lending.{HasReturned}
+use Rattle.line_tracks.specs.first_cluster.Slots.{starts_of}
+use Rattle.line_tracks.proofs.first_cluster_proofs.FirstLemmas.{first_out}
+use Rattle.line_tracks.specs.cluster_placements.Steps.{kept_in}
+use Rattle.line_tracks.specs.tracks.Acts.{IsInitAnswer}
+use Rattle.line_tracks.specs.tracks.Lines.{EachMember}
 use Rattle.served_cluster.specs.Acts.{Serves, is_init}
 use Rattle.served_cluster.specs.Owned.{AreReady, MayServeCluster}
 use Rattle.served_cluster.specs.Plans.{IsPlannedBy, IsPlannedOn, RefusesOn, by_plan, changes_state, state_after, state_of}

@@ -13,9 +13,9 @@ use Rattle.m3_model.specs.declared.limits.TheConstants.{MOST_NAMESPACES, TIME_EN
 use Rattle.m3_model.specs.declared.placement.Placement.{Placement}
 use Rattle.m3_model.specs.declared.rules.MetaState.{MetaState}
 use Rattle.m3_model.specs.declared.rules.Space.{Space}
-use Rattle.cluster_tracks.specs.placement_core.Lawful.{IsLawful}
-use Rattle.cluster_tracks.specs.cluster_members.Steps.{MayName, at_moment, with_space}
-use Rattle.cluster_tracks.proofs.first_cluster_proofs.ListLemmas.{ascends_append}
+use Rattle.line_tracks.specs.placement_core.Lawful.{IsLawful}
+use Rattle.line_tracks.specs.cluster_members.Steps.{MayName, at_moment, with_space}
+use Rattle.line_tracks.proofs.first_cluster_proofs.ListLemmas.{ascends_append}
 use Rattle.meta_bytes.specs.States.{AreSpaces, IsMetaState, IsSpaceOf}
 
 -- a name that no namespace has is none of theirs

@@ -1,3 +1,3 @@
-pub use Rattle.cluster_tracks.proofs.first_cluster_proofs.BareLemmas
-pub use Rattle.cluster_tracks.proofs.first_cluster_proofs.SlotCases
-pub use Rattle.cluster_tracks.proofs.first_cluster_proofs.SlotLists
+pub use Rattle.line_tracks.proofs.first_cluster_proofs.BareLemmas
+pub use Rattle.line_tracks.proofs.first_cluster_proofs.SlotCases
+pub use Rattle.line_tracks.proofs.first_cluster_proofs.SlotLists

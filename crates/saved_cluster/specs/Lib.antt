@@ -3,7 +3,7 @@ pub mod Saved
 pub mod Openings
 pub mod cluster_members
 pub mod cluster_placements
-pub mod cluster_tracks
+pub mod line_tracks
 pub mod first_cluster
 pub mod replica_calls
 pub mod replica_exchange

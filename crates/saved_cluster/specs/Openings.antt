@@ -8,11 +8,11 @@ use Rattle.m3_outside.specs.Files.{Stays}
 use Rattle.m3_outside.specs.Slots.{Here, MayGive, Out, OthersStay}
 use Rattle.m3_outside.specs.declared.disk.Disk.{Ghosts}
 use Rattle.m3_outside.specs.declared.slot.DiskSlot.{DiskSlot}
-use Rattle.cluster_tracks.specs.cluster_members.declared.members.Members.{Members}
-use Rattle.cluster_tracks.specs.first_cluster.Lending.{IsLeftAt}
-use Rattle.cluster_tracks.specs.replica_exchange.declared.slot.Slot.{Slot}
-use Rattle.cluster_tracks.specs.first_cluster.Depots.{IsForReplicas, disk_slot_of, meta_slot}
-use Rattle.cluster_tracks.specs.first_cluster.Bare.{AreBare}
+use Rattle.line_tracks.specs.cluster_members.declared.members.Members.{Members}
+use Rattle.line_tracks.specs.first_cluster.Lending.{IsLeftAt}
+use Rattle.line_tracks.specs.replica_exchange.declared.slot.Slot.{Slot}
+use Rattle.line_tracks.specs.first_cluster.Depots.{IsForReplicas, disk_slot_of, meta_slot}
+use Rattle.line_tracks.specs.first_cluster.Bare.{AreBare}
 use Rattle.opened_cluster.specs.Reopened.{IsReopened}
 use Rattle.placement_log.specs.Damage.{MayBeDamaged}
 use Rattle.placement_log.specs.MetaHolds.{MetaHolds}

@@ -15,7 +15,7 @@ use Rattle.m3_outside.specs.declared.disk.Disk.{Ghosts}
 use Rattle.m3_outside.specs.declared.slot.DiskSlot.{DiskSlot}
 use Rattle.placement_log.specs.MetaHolds.{IsReadyToSave, KeepsLast, MaySave, MetaEnd, MetaHolds, MetaStands}
 use Rattle.placement_log.specs.States.{MayBeState}
-use Rattle.cluster_tracks.specs.first_cluster.Depots.{meta_slot}
+use Rattle.line_tracks.specs.first_cluster.Depots.{meta_slot}
 use Rattle.served_cluster.specs.Acts.{Serves, ServesRequest}
 use Rattle.served_cluster.specs.Owned.{MayServeCluster, TracksTurns}
 use Rattle.served_cluster.specs.Plans.{state_of}

@@ -18,10 +18,10 @@ use Rattle.placement_plan.specs.First.{IsInitial}
 use Rattle.placement_plan.specs.Plans.{IsAvailable}
 use Rattle.placement_plan.specs.declared.plan_err.PlaceErr.{PlaceErr}
 use Rattle.placement_plan.specs.declared.plan_err.PlaceErr.TheVariants as refused
-use Rattle.cluster_tracks.specs.transcripts.Waiting.{is_covering}
-use Rattle.cluster_tracks.specs.cluster_members.Names.{node_named}
-use Rattle.cluster_tracks.specs.cluster_members.Steps.{at_moment, with_space}
-use Rattle.cluster_tracks.specs.cluster_members.declared.members.Members.{Members}
+use Rattle.line_tracks.specs.transcripts.Waiting.{is_covering}
+use Rattle.line_tracks.specs.cluster_members.Names.{node_named}
+use Rattle.line_tracks.specs.cluster_members.Steps.{at_moment, with_space}
+use Rattle.line_tracks.specs.cluster_members.declared.members.Members.{Members}
 use Rattle.served_cluster.specs.Plans.{changes_state}
 use Rattle.served_cluster.specs.declared.cluster.Cluster.{Cluster}
 use Rattle.saved_cluster.specs.declared.lost.Lost.{Lost}

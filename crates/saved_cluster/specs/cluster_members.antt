@@ -1,2 +1,2 @@
-pub use Rattle.cluster_tracks.specs.cluster_members.Steps
-pub use Rattle.cluster_tracks.specs.cluster_members.declared
+pub use Rattle.line_tracks.specs.cluster_members.Steps
+pub use Rattle.line_tracks.specs.cluster_members.declared

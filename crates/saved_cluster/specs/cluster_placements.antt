@@ -1,2 +1,2 @@
-pub use Rattle.cluster_tracks.specs.cluster_placements.Lending
-pub use Rattle.cluster_tracks.specs.cluster_placements.Steps
+pub use Rattle.line_tracks.specs.cluster_placements.Lending
+pub use Rattle.line_tracks.specs.cluster_placements.Steps

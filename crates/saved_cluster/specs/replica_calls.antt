@@ -1,1 +1,1 @@
-pub use Rattle.cluster_tracks.specs.replica_calls.Slots
+pub use Rattle.line_tracks.specs.replica_calls.Slots

@@ -1,1 +1,1 @@
-pub use Rattle.cluster_tracks.specs.replica_exchange.declared
+pub use Rattle.line_tracks.specs.replica_exchange.declared

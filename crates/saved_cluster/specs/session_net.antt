@@ -1,1 +1,1 @@
-pub use Rattle.cluster_tracks.specs.session_net.Runs
+pub use Rattle.line_tracks.specs.session_net.Runs

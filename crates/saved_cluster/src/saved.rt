@@ -16,17 +16,17 @@ ghost use Rattle.placement_log.specs.MetaHolds.{IsReadyToSave, KeepsLast, MaySav
 ghost use Rattle.meta_bytes.specs.States.{IsMetaState};
 ghost use Rattle.m3_outside.specs.Slots.{Held, Here, Out};
 ghost use Rattle.m3_outside.specs.declared.slot.DiskSlot.{DiskSlot as AtSlot};
-ghost use Rattle.cluster_tracks.specs.transcripts.Placements.{placement_after};
-ghost use Rattle.cluster_tracks.specs.transcripts.Record.{IsAnsweredBy, inner_turns};
-ghost use Rattle.cluster_tracks.specs.session_net.Ready.{IsReady};
-ghost use Rattle.cluster_tracks.specs.Acts.{IsInitAnswer};
-ghost use Rattle.cluster_tracks.specs.Ends.{replica_at};
-ghost use Rattle.cluster_tracks.specs.Lines.{EachMember};
-ghost use Rattle.cluster_tracks.specs.replica_exchange.declared.slot.Slot.{Slot};
-ghost use Rattle.cluster_tracks.specs.first_cluster.Depots.{IsForReplicas, RisesBy, count_at, depot_by, disk_slot_of, meta_slot};
+ghost use Rattle.line_tracks.specs.transcripts.Placements.{placement_after};
+ghost use Rattle.line_tracks.specs.transcripts.Record.{IsAnsweredBy, inner_turns};
+ghost use Rattle.line_tracks.specs.session_net.Ready.{IsReady};
+ghost use Rattle.line_tracks.specs.tracks.Acts.{IsInitAnswer};
+ghost use Rattle.line_tracks.specs.tracks.Ends.{replica_at};
+ghost use Rattle.line_tracks.specs.tracks.Lines.{EachMember};
+ghost use Rattle.line_tracks.specs.replica_exchange.declared.slot.Slot.{Slot};
+ghost use Rattle.line_tracks.specs.first_cluster.Depots.{IsForReplicas, RisesBy, count_at, depot_by, disk_slot_of, meta_slot};
 ghost use Rattle.served_cluster.specs.Owned.{TracksTurns, held_at, place_of};
-ghost use Rattle.cluster_tracks.specs.first_cluster.First.{IsLent, IsSomeLent};
-ghost use Rattle.cluster_tracks.specs.first_cluster.Lending.{AreAsTheyWere};
+ghost use Rattle.line_tracks.specs.first_cluster.First.{IsLent, IsSomeLent};
+ghost use Rattle.line_tracks.specs.first_cluster.Lending.{AreAsTheyWere};
 ghost use Rattle.served_cluster.specs.Acts.{is_init};
 ghost use Rattle.served_cluster.specs.Joins.{EndsSources, MayEndSources};
 ghost use Rattle.served_cluster.specs.Plans.{changes_state, state_of};
@@ -35,8 +35,8 @@ ghost use Rattle.saved_cluster.specs.States.{is_init_request, kept_of, saves, sa
 ghost use Rattle.saved_cluster.specs.declared.lost.Lost.TheVariants as lost;
 
 use crate::lost::Lost;
-use cluster_tracks::of_cluster_joins::{Booting, Marked};
-use cluster_tracks::of_first_cluster::{Lent, begin_first, give_back, lend_first, plan_first};
+use line_tracks::of_cluster_joins::{Booting, Marked};
+use line_tracks::of_first_cluster::{Lent, begin_first, give_back, lend_first, plan_first};
 use m3_model::{Act, Answer, MetaState, Placement, Reply, Request, Seq, Text};
 use m3_outside::{Disk, DiskErr, DiskSlot, Disks};
 use placement_log::MetaLog;

@@ -10,12 +10,12 @@ use Rattle.m3_model.specs.declared.answer.Answer.TheVariants as answer
 use Rattle.m3_model.specs.declared.limits.TheConstants.{MOST_CLIENTS}
 use Rattle.m3_outside.specs.DiskState.{DiskState}
 use Rattle.m3_outside.specs.declared.disk.Disk.{Ghosts}
-use Rattle.cluster_tracks.specs.replica_exchange.declared.call_id.CallId.{CallId}
-use Rattle.cluster_tracks.specs.cluster_members.declared.members.Members.{Members}
-use Rattle.cluster_tracks.specs.node_calls.Nodes.{IsFated}
-use Rattle.cluster_tracks.specs.Numbers.{after_call, last_number, numbers_by}
-use Rattle.cluster_tracks.specs.Acts.{Does, OnMembers, next_call}
-use Rattle.cluster_tracks.specs.Slots.{is_bootstrap}
+use Rattle.line_tracks.specs.replica_exchange.declared.call_id.CallId.{CallId}
+use Rattle.line_tracks.specs.cluster_members.declared.members.Members.{Members}
+use Rattle.line_tracks.specs.node_calls.Nodes.{IsFated}
+use Rattle.line_tracks.specs.tracks.Numbers.{after_call, last_number, numbers_by}
+use Rattle.line_tracks.specs.tracks.Acts.{Does, OnMembers, next_call}
+use Rattle.line_tracks.specs.tracks.Slots.{is_bootstrap}
 use Rattle.served_cluster.specs.Acts.{Answers, sets_fates}
 use Rattle.served_cluster.specs.declared.cluster.Cluster.{Cluster}
 

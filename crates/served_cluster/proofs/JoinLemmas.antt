@@ -10,15 +10,15 @@ use Rattle.m3_outside.specs.DiskState.{DiskState}
 use Rattle.m3_outside.specs.Slots.{Held}
 use Rattle.m3_outside.specs.declared.disk.Disk.{Ghosts}
 use Rattle.m3_outside.specs.declared.slot.DiskSlot.{DiskSlot}
-use Rattle.cluster_tracks.specs.cluster_members.declared.members.Members.{Members}
-use Rattle.cluster_tracks.specs.cluster_joins.Boots.{IsBooted, IsBooting, IsToMark, MayBeLeft}
-use Rattle.cluster_tracks.specs.cluster_joins.Marks.{HasEnded, IsMarked}
-use Rattle.cluster_tracks.specs.cluster_joins.declared.marking.Booting.{Booting}
-use Rattle.cluster_tracks.specs.cluster_joins.declared.marking.Booting.TheVariants as booting
-use Rattle.cluster_tracks.specs.cluster_joins.declared.marking.Marked.{Marked}
-use Rattle.cluster_tracks.specs.cluster_joins.declared.marking.Marking.{Marking}
-use Rattle.cluster_tracks.specs.cluster_placements.Steps.{MayChange}
-use Rattle.cluster_tracks.specs.Acts.{Does, OnMembers, next_call}
+use Rattle.line_tracks.specs.cluster_members.declared.members.Members.{Members}
+use Rattle.line_tracks.specs.cluster_joins.Boots.{IsBooted, IsBooting, IsToMark, MayBeLeft}
+use Rattle.line_tracks.specs.cluster_joins.Marks.{HasEnded, IsMarked}
+use Rattle.line_tracks.specs.cluster_joins.declared.marking.Booting.{Booting}
+use Rattle.line_tracks.specs.cluster_joins.declared.marking.Booting.TheVariants as booting
+use Rattle.line_tracks.specs.cluster_joins.declared.marking.Marked.{Marked}
+use Rattle.line_tracks.specs.cluster_joins.declared.marking.Marking.{Marking}
+use Rattle.line_tracks.specs.cluster_placements.Steps.{MayChange}
+use Rattle.line_tracks.specs.tracks.Acts.{Does, OnMembers, next_call}
 use Rattle.served_cluster.specs.Acts.{Answers}
 use Rattle.served_cluster.specs.Joins.{EndsSources, HasJoined, HasMarked, OpensNode, StandsWith, by_marking}
 use Rattle.served_cluster.specs.Plans.{state_of}

@@ -17,26 +17,26 @@ use Rattle.m3_outside.specs.Slots.{Held}
 use Rattle.m3_outside.specs.declared.slot.DiskSlot.{DiskSlot}
 use Rattle.m3_outside.specs.declared.disk.Disk.{Ghosts}
 use Rattle.cluster_core.proofs.ExtendLemmas.{any_more}
-use Rattle.cluster_tracks.specs.replica_exchange.declared.call_id.CallId.{CallId}
-use Rattle.cluster_tracks.specs.replica_calls.Calls.{Tracked}
-use Rattle.cluster_tracks.specs.session_net.Ready.{IsReady, Places}
-use Rattle.cluster_tracks.specs.session_net.Runs.{slot_at, steps_of}
-use Rattle.cluster_tracks.specs.cluster_members.Kept.{PastServes}
-use Rattle.cluster_tracks.specs.cluster_members.declared.members.Members.{Members}
-use Rattle.cluster_tracks.specs.node_calls.Halts.{AreManned}
-use Rattle.cluster_tracks.specs.node_calls.Nodes.{IsFated, KeepsButFates}
-use Rattle.cluster_tracks.specs.first_cluster.Depots.{OwnedBy}
-use Rattle.cluster_tracks.specs.first_cluster.First.{IsFirst}
-use Rattle.cluster_tracks.specs.first_cluster.Slots.{AreApart}
-use Rattle.cluster_tracks.proofs.first_cluster_proofs.PlacedSlots.{node_low, shard_low, no_meta}
-use Rattle.cluster_tracks.proofs.first_cluster_proofs.SlotLists.{slots_apart}
-use Rattle.cluster_tracks.specs.cluster_placements.Slots.{AreSlotsIn}
-use Rattle.cluster_tracks.specs.cluster_placements.Steps.{MayChange}
-use Rattle.cluster_tracks.specs.Acts.{Does}
-use Rattle.cluster_tracks.specs.Slots.{KeepsSlots, is_bootstrap}
-use Rattle.cluster_tracks.proofs.FailureLemmas.{steps_append}
-use Rattle.cluster_tracks.proofs.FirstLemmas.{first_unstepped}
-use Rattle.cluster_tracks.proofs.SlotLemmas.{acts_keep_slots}
+use Rattle.line_tracks.specs.replica_exchange.declared.call_id.CallId.{CallId}
+use Rattle.line_tracks.specs.replica_calls.Calls.{Tracked}
+use Rattle.line_tracks.specs.session_net.Ready.{IsReady, Places}
+use Rattle.line_tracks.specs.session_net.Runs.{slot_at, steps_of}
+use Rattle.line_tracks.specs.cluster_members.Kept.{PastServes}
+use Rattle.line_tracks.specs.cluster_members.declared.members.Members.{Members}
+use Rattle.line_tracks.specs.node_calls.Halts.{AreManned}
+use Rattle.line_tracks.specs.node_calls.Nodes.{IsFated, KeepsButFates}
+use Rattle.line_tracks.specs.first_cluster.Depots.{OwnedBy}
+use Rattle.line_tracks.specs.first_cluster.First.{IsFirst}
+use Rattle.line_tracks.specs.first_cluster.Slots.{AreApart}
+use Rattle.line_tracks.proofs.first_cluster_proofs.PlacedSlots.{node_low, shard_low, no_meta}
+use Rattle.line_tracks.proofs.first_cluster_proofs.SlotLists.{slots_apart}
+use Rattle.line_tracks.specs.cluster_placements.Slots.{AreSlotsIn}
+use Rattle.line_tracks.specs.cluster_placements.Steps.{MayChange}
+use Rattle.line_tracks.specs.tracks.Acts.{Does}
+use Rattle.line_tracks.specs.tracks.Slots.{KeepsSlots, is_bootstrap}
+use Rattle.line_tracks.proofs.tracks.FailureLemmas.{steps_append}
+use Rattle.line_tracks.proofs.tracks.FirstLemmas.{first_unstepped}
+use Rattle.line_tracks.proofs.tracks.SlotLemmas.{acts_keep_slots}
 use Rattle.served_cluster.specs.Owned.{AreReady, HasItsSlots, MayServeCluster, StillServes}
 use Rattle.served_cluster.specs.declared.cluster.Cluster.{Cluster}
 

@@ -5,4 +5,4 @@ pub mod TrackLemmas
 pub mod PlaceLemmas
 pub mod PlanLemmas
 pub mod JoinLemmas
-pub use Rattle.cluster_tracks.proofs.EndLemmas
+pub use Rattle.line_tracks.proofs.tracks.EndLemmas

@@ -14,22 +14,22 @@ use Rattle.m3_outside.specs.DiskState.{DiskState}
 use Rattle.m3_outside.specs.Slots.{Held, Out}
 use Rattle.m3_outside.specs.declared.disk.Disk.{Ghosts}
 use Rattle.m3_outside.specs.declared.slot.DiskSlot.{DiskSlot}
-use Rattle.cluster_tracks.specs.replica_exchange.declared.member.Member.{Member}
-use Rattle.cluster_tracks.specs.replica_exchange.declared.slot.Slot.{Slot}
-use Rattle.cluster_tracks.specs.replica_calls.Slots.{MemberMap}
-use Rattle.cluster_tracks.specs.session_net.Runs.{slot_at}
-use Rattle.cluster_tracks.specs.cluster_members.declared.members.Members.{Members}
+use Rattle.line_tracks.specs.replica_exchange.declared.member.Member.{Member}
+use Rattle.line_tracks.specs.replica_exchange.declared.slot.Slot.{Slot}
+use Rattle.line_tracks.specs.replica_calls.Slots.{MemberMap}
+use Rattle.line_tracks.specs.session_net.Runs.{slot_at}
+use Rattle.line_tracks.specs.cluster_members.declared.members.Members.{Members}
 use Rattle.placement_acts.specs.Acts.{is_step_act}
-use Rattle.cluster_tracks.specs.first_cluster.First.{IsRefusedInit}
-use Rattle.cluster_tracks.specs.first_cluster.Depots.{AreOut, OwnedBy, disk_slot_of, IsForReplicas}
-use Rattle.cluster_tracks.specs.first_cluster.Lending.{HasGivenBack, HasReturned, IsBack, IsGivenBack, IsKept, IsUntouched}
-use Rattle.cluster_tracks.proofs.first_cluster_proofs.GiveAll.{returned_none}
-use Rattle.cluster_tracks.specs.cluster_placements.Steps.{IsChanged, kept_in}
-use Rattle.cluster_tracks.specs.Acts.{Does, IsServedBy, IsStepAnswer, OnMembers, next_call}
-use Rattle.cluster_tracks.proofs.first_cluster_proofs.PlacedSlots.{no_meta}
-use Rattle.cluster_tracks.proofs.first_cluster_proofs.SlotLists.{in_or_out}
-use Rattle.cluster_tracks.specs.Slots.{KeepsSlots, is_bootstrap}
-use Rattle.cluster_tracks.proofs.SlotLemmas.{acts_keep_slots}
+use Rattle.line_tracks.specs.first_cluster.First.{IsRefusedInit}
+use Rattle.line_tracks.specs.first_cluster.Depots.{AreOut, OwnedBy, disk_slot_of, IsForReplicas}
+use Rattle.line_tracks.specs.first_cluster.Lending.{HasGivenBack, HasReturned, IsBack, IsGivenBack, IsKept, IsUntouched}
+use Rattle.line_tracks.proofs.first_cluster_proofs.GiveAll.{returned_none}
+use Rattle.line_tracks.specs.cluster_placements.Steps.{IsChanged, kept_in}
+use Rattle.line_tracks.specs.tracks.Acts.{Does, IsServedBy, IsStepAnswer, OnMembers, next_call}
+use Rattle.line_tracks.proofs.first_cluster_proofs.PlacedSlots.{no_meta}
+use Rattle.line_tracks.proofs.first_cluster_proofs.SlotLists.{in_or_out}
+use Rattle.line_tracks.specs.tracks.Slots.{KeepsSlots, is_bootstrap}
+use Rattle.line_tracks.proofs.tracks.SlotLemmas.{acts_keep_slots}
 use Rattle.served_cluster.specs.Acts.{Answers, Serves, is_init}
 use Rattle.served_cluster.specs.Owned.{held_at}
 use Rattle.served_cluster.specs.declared.cluster.Cluster.{Cluster}

@@ -21,25 +21,25 @@ use Rattle.placement_acts.specs.Acts.{is_step_act}
 use Rattle.cluster_core.specs.declared.event.Event.{Event}
 use Rattle.cluster_core.specs.declared.event.StepCall.{StepCall}
 use Rattle.cluster_core.specs.declared.event.StepCall.TheVariants as call
-use Rattle.cluster_tracks.specs.told_by.Steps.{IsUnmoved}
-use Rattle.cluster_tracks.proofs.told_runs_proofs.StepLemmas.{nowhere_unmoved}
-use Rattle.cluster_tracks.specs.replica_exchange.declared.call_id.CallId.{CallId}
-use Rattle.cluster_tracks.specs.session_net.Reads.{Wish}
-use Rattle.cluster_tracks.specs.session_net.declared.net.Net.{Net}
-use Rattle.cluster_tracks.specs.transcripts.Placements.{later_placement, newer, printed}
-use Rattle.cluster_tracks.specs.cluster_members.Calls.{IsFetchAnswer, IsMissing, IsReadAnswer, IsWriteAnswer, IsWritten, NamedPoint, placed, wish}
-use Rattle.cluster_tracks.specs.cluster_members.Kept.{IsNumberOf, IsUnkept}
-use Rattle.cluster_tracks.specs.cluster_members.Steps.{IsMoved, IsSpaceAdded}
-use Rattle.cluster_tracks.specs.cluster_members.declared.calls.Range.{Range}
-use Rattle.cluster_tracks.specs.cluster_members.declared.members.Members.{Members}
-use Rattle.cluster_tracks.specs.node_calls.Nodes.{IsDeliverAnswer, IsFated, IsRestarted, IsStopped}
-use Rattle.cluster_tracks.specs.cluster_upkeep.Upkeep.{IsSwept, IsTold}
-use Rattle.cluster_tracks.specs.first_cluster.First.{IsRefusedInit}
-use Rattle.cluster_tracks.specs.cluster_joins.Boots.{IsBooted, IsEndedBy}
-use Rattle.cluster_tracks.specs.cluster_placements.Steps.{IsChanged, kept_in}
-use Rattle.cluster_tracks.specs.told_joins.Lines as lines
-use Rattle.cluster_tracks.proofs.StandLemmas.{newer_next, newer_same}
-use Rattle.cluster_tracks.specs.Acts.{Does, IsInitAnswer, IsServedBy, IsStepAnswer, MayCall, OnMembers, next_call}
+use Rattle.line_tracks.specs.told_by.Steps.{IsUnmoved}
+use Rattle.line_tracks.proofs.told_runs_proofs.StepLemmas.{nowhere_unmoved}
+use Rattle.line_tracks.specs.replica_exchange.declared.call_id.CallId.{CallId}
+use Rattle.line_tracks.specs.session_net.Reads.{Wish}
+use Rattle.line_tracks.specs.session_net.declared.net.Net.{Net}
+use Rattle.line_tracks.specs.transcripts.Placements.{later_placement, newer, printed}
+use Rattle.line_tracks.specs.cluster_members.Calls.{IsFetchAnswer, IsMissing, IsReadAnswer, IsWriteAnswer, IsWritten, NamedPoint, placed, wish}
+use Rattle.line_tracks.specs.cluster_members.Kept.{IsNumberOf, IsUnkept}
+use Rattle.line_tracks.specs.cluster_members.Steps.{IsMoved, IsSpaceAdded}
+use Rattle.line_tracks.specs.cluster_members.declared.calls.Range.{Range}
+use Rattle.line_tracks.specs.cluster_members.declared.members.Members.{Members}
+use Rattle.line_tracks.specs.node_calls.Nodes.{IsDeliverAnswer, IsFated, IsRestarted, IsStopped}
+use Rattle.line_tracks.specs.cluster_upkeep.Upkeep.{IsSwept, IsTold}
+use Rattle.line_tracks.specs.first_cluster.First.{IsRefusedInit}
+use Rattle.line_tracks.specs.cluster_joins.Boots.{IsBooted, IsEndedBy}
+use Rattle.line_tracks.specs.cluster_placements.Steps.{IsChanged, kept_in}
+use Rattle.line_tracks.specs.told_joins.Lines as lines
+use Rattle.line_tracks.proofs.acts.StandLemmas.{newer_next, newer_same}
+use Rattle.line_tracks.specs.tracks.Acts.{Does, IsInitAnswer, IsServedBy, IsStepAnswer, MayCall, OnMembers, next_call}
 use Rattle.served_cluster.specs.Acts.{Serves}
 use Rattle.served_cluster.specs.Owned.{place_of}
 use Rattle.served_cluster.specs.declared.cluster.Cluster.{Cluster}

@@ -14,14 +14,14 @@ use Rattle.m3_outside.specs.declared.disk.Disk.{Ghosts}
 use Rattle.m3_outside.specs.Slots.{Held}
 use Rattle.m3_outside.specs.declared.slot.DiskSlot.{DiskSlot}
 use Rattle.placement_acts.specs.Acts.{LeadsNowhere, is_step_act}
-use Rattle.cluster_tracks.specs.session_net.Ready.{IsReady}
-use Rattle.cluster_tracks.specs.cluster_members.Steps.{IsMoved, IsSpaceAdded, MaySetRules, RefusesMove, RefusesSpace, SetsRules}
-use Rattle.cluster_tracks.specs.cluster_members.declared.members.Members.{Members}
-use Rattle.cluster_tracks.proofs.cluster_members_proofs.PlanLemmas.{move_refused, space_refused}
-use Rattle.cluster_tracks.specs.cluster_placements.Steps.{IsChange, IsChanged, MakesPlanned, MayChange, kept_in}
-use Rattle.cluster_tracks.specs.cluster_placements.declared.plan.Change.{Change}
-use Rattle.cluster_tracks.specs.Acts.{Does, IsServedBy, IsStepAnswer, next_call}
-use Rattle.cluster_tracks.specs.Slots.{is_bootstrap}
+use Rattle.line_tracks.specs.session_net.Ready.{IsReady}
+use Rattle.line_tracks.specs.cluster_members.Steps.{IsMoved, IsSpaceAdded, MaySetRules, RefusesMove, RefusesSpace, SetsRules}
+use Rattle.line_tracks.specs.cluster_members.declared.members.Members.{Members}
+use Rattle.line_tracks.proofs.cluster_members_proofs.PlanLemmas.{move_refused, space_refused}
+use Rattle.line_tracks.specs.cluster_placements.Steps.{IsChange, IsChanged, MakesPlanned, MayChange, kept_in}
+use Rattle.line_tracks.specs.cluster_placements.declared.plan.Change.{Change}
+use Rattle.line_tracks.specs.tracks.Acts.{Does, IsServedBy, IsStepAnswer, next_call}
+use Rattle.line_tracks.specs.tracks.Slots.{is_bootstrap}
 use Rattle.served_cluster.specs.Acts.{Serves}
 use Rattle.served_cluster.specs.Plans.{IsPlannedBy, IsPlannedOn, MakesOn, RefusesOn, changes_state, is_placed, state_after}
 use Rattle.served_cluster.specs.declared.cluster.Cluster.{Cluster}

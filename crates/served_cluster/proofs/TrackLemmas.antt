@@ -13,17 +13,17 @@ use Rattle.m3_outside.specs.DiskState.{DiskState, IsLawfulDisk}
 use Rattle.m3_outside.specs.Slots.{Held}
 use Rattle.m3_outside.specs.declared.disk.Disk.{Ghosts}
 use Rattle.m3_outside.specs.declared.slot.DiskSlot.{DiskSlot}
-use Rattle.cluster_tracks.specs.event_trail.Trails.{IsLegalOver}
-use Rattle.cluster_tracks.specs.replica_calls.Calls.{AreMembersOf}
-use Rattle.cluster_tracks.specs.transcripts.Placements.{placement_after}
-use Rattle.cluster_tracks.specs.transcripts.Record.{inner_turns, line_of}
-use Rattle.cluster_tracks.specs.cluster_members.declared.members.Members.{Members}
-use Rattle.cluster_tracks.specs.first_cluster.Depots.{OwnedBy}
-use Rattle.cluster_tracks.specs.cluster_placements.Steps.{MayChange}
-use Rattle.cluster_tracks.proofs.StandLemmas.{no_placement}
-use Rattle.cluster_tracks.specs.Tracks.{MayStandSo, events_of}
-use Rattle.cluster_tracks.specs.Lines.{EachMember, IsLeft}
-use Rattle.cluster_tracks.proofs.LineLemmas.{lines_are_tracked}
+use Rattle.line_tracks.specs.event_trail.Trails.{IsLegalOver}
+use Rattle.line_tracks.specs.replica_calls.Calls.{AreMembersOf}
+use Rattle.line_tracks.specs.transcripts.Placements.{placement_after}
+use Rattle.line_tracks.specs.transcripts.Record.{inner_turns, line_of}
+use Rattle.line_tracks.specs.cluster_members.declared.members.Members.{Members}
+use Rattle.line_tracks.specs.first_cluster.Depots.{OwnedBy}
+use Rattle.line_tracks.specs.cluster_placements.Steps.{MayChange}
+use Rattle.line_tracks.proofs.acts.StandLemmas.{no_placement}
+use Rattle.line_tracks.specs.tracks.Tracks.{MayStandSo, events_of}
+use Rattle.line_tracks.specs.tracks.Lines.{EachMember, IsLeft}
+use Rattle.line_tracks.proofs.tracks.LineLemmas.{lines_are_tracked}
 use Rattle.served_cluster.specs.Acts.{Serves}
 use Rattle.served_cluster.specs.Owned.{AreReady, MayServeCluster, TracksTurns, place_of}
 use Rattle.served_cluster.specs.declared.cluster.Cluster.{Cluster}

@@ -11,8 +11,8 @@ use Rattle.m3_model.specs.declared.turn.Request.TheVariants as request
 use Rattle.m3_outside.specs.Depots.{Depot}
 use Rattle.m3_outside.specs.DiskState.{DiskState}
 use Rattle.m3_outside.specs.declared.disk.Disk.{Ghosts}
-use Rattle.cluster_tracks.specs.Numbers.{numbers_by}
-use Rattle.cluster_tracks.specs.Acts.{Does, IsServedBy, OnMembers, next_call}
+use Rattle.line_tracks.specs.tracks.Numbers.{numbers_by}
+use Rattle.line_tracks.specs.tracks.Acts.{Does, IsServedBy, OnMembers, next_call}
 use Rattle.served_cluster.specs.declared.cluster.Cluster.{Cluster}
 
 -- the numbers of the next calls where none was made: those of the lines outside `par`, and of each client

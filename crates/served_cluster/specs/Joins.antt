@@ -6,13 +6,13 @@ use Rattle.m3_model.specs.declared.answer.Answer.TheVariants as answer
 use Rattle.m3_model.specs.declared.rules.MetaState.{MetaState}
 use Rattle.m3_outside.specs.DiskState.{DiskState}
 use Rattle.m3_outside.specs.declared.disk.Disk.{Ghosts}
-use Rattle.cluster_tracks.specs.cluster_members.declared.members.Members.{Members}
-use Rattle.cluster_tracks.specs.cluster_joins.Boots.{IsToMark}
-use Rattle.cluster_tracks.specs.cluster_joins.Marks.{HasEnded, IsMarked, MayBeMarked, MayEnd}
-use Rattle.cluster_tracks.specs.cluster_joins.declared.marking.Booting.{Booting}
-use Rattle.cluster_tracks.specs.cluster_joins.declared.marking.Booting.TheVariants as booting
-use Rattle.cluster_tracks.specs.cluster_joins.declared.marking.Marked.{Marked}
-use Rattle.cluster_tracks.specs.cluster_joins.declared.marking.Marking.{Marking}
+use Rattle.line_tracks.specs.cluster_members.declared.members.Members.{Members}
+use Rattle.line_tracks.specs.cluster_joins.Boots.{IsToMark}
+use Rattle.line_tracks.specs.cluster_joins.Marks.{HasEnded, IsMarked, MayBeMarked, MayEnd}
+use Rattle.line_tracks.specs.cluster_joins.declared.marking.Booting.{Booting}
+use Rattle.line_tracks.specs.cluster_joins.declared.marking.Booting.TheVariants as booting
+use Rattle.line_tracks.specs.cluster_joins.declared.marking.Marked.{Marked}
+use Rattle.line_tracks.specs.cluster_joins.declared.marking.Marking.{Marking}
 use Rattle.served_cluster.specs.Acts.{Answers}
 use Rattle.served_cluster.specs.Owned.{StillServes}
 use Rattle.served_cluster.specs.Plans.{state_of}

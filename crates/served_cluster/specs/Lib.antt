@@ -2,5 +2,5 @@ pub mod Owned
 pub mod Plans
 pub mod Joins
 pub mod Acts
-pub use Rattle.cluster_tracks.specs.Ends
-pub use Rattle.cluster_tracks.specs.Tracks
+pub use Rattle.line_tracks.specs.tracks.Ends
+pub use Rattle.line_tracks.specs.tracks.Tracks

@@ -8,16 +8,16 @@ use Rattle.m3_outside.specs.Slots.{Held, Here}
 use Rattle.m3_outside.specs.declared.disk.Disk.{Ghosts}
 use Rattle.m3_outside.specs.declared.slot.DiskSlot.{DiskSlot}
 use Rattle.m3_model.specs.declared.turn.Turn.{Turn}
-use Rattle.cluster_tracks.specs.replica_exchange.declared.member.Member.{Member}
-use Rattle.cluster_tracks.specs.replica_exchange.declared.slot.Slot.{Slot}
-use Rattle.cluster_tracks.specs.session_net.Ready.{IsReady}
-use Rattle.cluster_tracks.specs.session_net.Runs.{steps_of}
-use Rattle.cluster_tracks.specs.cluster_members.Kept.{PastServes}
-use Rattle.cluster_tracks.specs.cluster_members.declared.members.Members.{Members}
-use Rattle.cluster_tracks.specs.node_calls.Halts.{AreManned}
-use Rattle.cluster_tracks.specs.first_cluster.Depots.{OwnedBy, disk_slot_of}
-use Rattle.cluster_tracks.specs.cluster_placements.Slots.{AreSlotsIn}
-use Rattle.cluster_tracks.specs.Tracks.{Tracks}
+use Rattle.line_tracks.specs.replica_exchange.declared.member.Member.{Member}
+use Rattle.line_tracks.specs.replica_exchange.declared.slot.Slot.{Slot}
+use Rattle.line_tracks.specs.session_net.Ready.{IsReady}
+use Rattle.line_tracks.specs.session_net.Runs.{steps_of}
+use Rattle.line_tracks.specs.cluster_members.Kept.{PastServes}
+use Rattle.line_tracks.specs.cluster_members.declared.members.Members.{Members}
+use Rattle.line_tracks.specs.node_calls.Halts.{AreManned}
+use Rattle.line_tracks.specs.first_cluster.Depots.{OwnedBy, disk_slot_of}
+use Rattle.line_tracks.specs.cluster_placements.Slots.{AreSlotsIn}
+use Rattle.line_tracks.specs.tracks.Tracks.{Tracks}
 use Rattle.served_cluster.specs.declared.cluster.Cluster.{Cluster}
 
 -- calls may be made, and each slot has a replica

@@ -9,9 +9,9 @@ use Rattle.m3_outside.specs.Depots.{Depot}
 use Rattle.m3_outside.specs.DiskState.{DiskState}
 use Rattle.m3_outside.specs.declared.disk.Disk.{Ghosts}
 use Rattle.placement_acts.specs.Acts.{LeadsNowhere, is_step_act}
-use Rattle.cluster_tracks.specs.cluster_members.Steps.{IsMovePlanned, IsMoved, IsSpaceAdded, IsSpacePlanned, RefusesMove, RefusesSpace}
-use Rattle.cluster_tracks.specs.cluster_members.declared.members.Members.{Members}
-use Rattle.cluster_tracks.specs.cluster_placements.Steps.{IsChange, IsChanged, kept_in}
+use Rattle.line_tracks.specs.cluster_members.Steps.{IsMovePlanned, IsMoved, IsSpaceAdded, IsSpacePlanned, RefusesMove, RefusesSpace}
+use Rattle.line_tracks.specs.cluster_members.declared.members.Members.{Members}
+use Rattle.line_tracks.specs.cluster_placements.Steps.{IsChange, IsChanged, kept_in}
 use Rattle.served_cluster.specs.declared.cluster.Cluster.{Cluster}
 use Rattle.served_cluster.specs.declared.plan.Plan.{Plan}
 use Rattle.served_cluster.specs.declared.plan.Plan.TheVariants as plan

@@ -5,7 +5,7 @@ ghost use Rattle.served_cluster.specs.Owned.{AreReady, StillServes};
 ghost use Rattle.served_cluster.specs.Plans.{state_of};
 
 use crate::cluster::Cluster;
-use cluster_tracks::of_cluster_joins::{Booting, Marked, Marking, end_sources, mark, open_node};
+use line_tracks::of_cluster_joins::{Booting, Marked, Marking, end_sources, mark, open_node};
 use m3_model::{Answer, Duplicate, Memory, MetaState, Text};
 use m3_outside::Disk;
 use std::alloc::Global;

@@ -1,10 +1,10 @@
 use Rattle.std.proofs.Common.{◌<◌, ◌≤◌, ap, arith, subst, sym, ◌∙◌}
 use Rattle.m3_model.specs.Members.{IsIn}
-use Rattle.act_lines.specs.cluster_core.Replicas.{replica}
-use Rattle.act_lines.specs.first_cluster.Depots.{depot_by, disk_slot_of}
-use Rattle.act_lines.specs.first_cluster.Slots.{AreApart, slots_of}
-use Rattle.act_lines.proofs.first_cluster_proofs.PlacedSlots.{no_meta}
-use Rattle.act_lines.proofs.first_cluster_proofs.SlotLists.{slots_apart}
+use Rattle.line_tracks.specs.cluster_core.Replicas.{replica}
+use Rattle.line_tracks.specs.first_cluster.Depots.{depot_by, disk_slot_of}
+use Rattle.line_tracks.specs.first_cluster.Slots.{AreApart, slots_of}
+use Rattle.line_tracks.proofs.first_cluster_proofs.PlacedSlots.{no_meta}
+use Rattle.line_tracks.proofs.first_cluster_proofs.SlotLists.{slots_apart}
 use Rattle.cluster_placements.specs.Lending.{HaveReturned, MayNotTake}
 use Rattle.opened_cluster.specs.Reopened.{IsReopened}
 use Rattle.opened_cluster.proofs.FieldLemmas.{slot_low}

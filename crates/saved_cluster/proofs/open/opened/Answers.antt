@@ -1,10 +1,10 @@
 use Rattle.std.proofs.Common.{◌≡◌, [], refl, sym, ap, subst, ◌∙◌}
 use Rattle.std.specs.Prelude.{Some, None, option_map}
 use Rattle.placement_log.specs.States.{MayBeState}
-use Rattle.cluster_tracks.specs.act_lines.Stands.{ClusterStands}
-use Rattle.cluster_tracks.specs.first_cluster.Depots.{OwnedBy, depot_by}
-use Rattle.cluster_tracks.specs.cluster_placements.Lending.{MayNotTake}
-use Rattle.cluster_tracks.specs.Lines.{EachMember}
+use Rattle.line_tracks.specs.acts.Stands.{ClusterStands}
+use Rattle.line_tracks.specs.first_cluster.Depots.{OwnedBy, depot_by}
+use Rattle.line_tracks.specs.cluster_placements.Lending.{MayNotTake}
+use Rattle.line_tracks.specs.tracks.Lines.{EachMember}
 use Rattle.served_cluster.specs.Owned.{AreReady}
 use Rattle.served_cluster.proofs.OwnLemmas.{not_some}
 use Rattle.saved_cluster.specs.Openings.{OpensWith}

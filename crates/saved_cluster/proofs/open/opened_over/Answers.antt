@@ -1,9 +1,9 @@
 use Rattle.std.proofs.Common.{[], sym, ap, subst}
 use Rattle.std.specs.Prelude.{Err}
 use Rattle.placement_log.specs.States.{MayBeState}
-use Rattle.cluster_tracks.specs.act_lines.Stands.{ClusterStands}
-use Rattle.cluster_tracks.specs.first_cluster.Depots.{depot_by}
-use Rattle.cluster_tracks.specs.Lines.{EachMember}
+use Rattle.line_tracks.specs.acts.Stands.{ClusterStands}
+use Rattle.line_tracks.specs.first_cluster.Depots.{depot_by}
+use Rattle.line_tracks.specs.tracks.Lines.{EachMember}
 use Rattle.saved_cluster.specs.Openings.{OpensWith}
 use Rattle.saved_cluster.specs.Saved.{IsSaved}
 use Rattle.saved_cluster.proofs.DiskLemmas.{saved_by_reads}

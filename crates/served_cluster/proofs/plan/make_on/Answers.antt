@@ -1,5 +1,5 @@
 use Rattle.std.proofs.Common.{subst}
-use Rattle.cluster_tracks.specs.first_cluster.Depots.{depot_by}
+use Rattle.line_tracks.specs.first_cluster.Depots.{depot_by}
 use Rattle.served_cluster.specs.Plans.{IsPlannedOn}
 use Rattle.served_cluster.proofs.PlanLemmas.{next_of, rules_may, step_makes}
 use Rattle.served_cluster.proofs.plan.make_on.Goals as goal

@@ -1,8 +1,8 @@
 use Rattle.std.proofs.Common.{refl, sym, ap, subst, ◌∙◌}
 use Rattle.std.specs.Prelude.{Some, None, option_map}
 use Rattle.m3_model.specs.declared.answer.Answer.TheVariants as answer
-use Rattle.cluster_tracks.specs.session_net.Ready.{IsReady}
-use Rattle.cluster_tracks.specs.Lines.{EachMember}
+use Rattle.line_tracks.specs.session_net.Ready.{IsReady}
+use Rattle.line_tracks.specs.tracks.Lines.{EachMember}
 use Rattle.saved_cluster.proofs.DiskLemmas.{counts_as, saved_now}
 use Rattle.saved_cluster.proofs.saved.SavedCluster.begin.Goals as goal
 

@@ -1,7 +1,7 @@
 use Rattle.std.proofs.Common.{refl, sym, ap, arith, subst, ◌∙◌}
 use Rattle.std.specs.Prelude.{◌-◌}
 use Rattle.m3_outside.specs.Causes.{RoseBy}
-use Rattle.cluster_tracks.specs.first_cluster.Depots.{count_at, depot_by, meta_slot}
+use Rattle.line_tracks.specs.first_cluster.Depots.{count_at, depot_by, meta_slot}
 use Rattle.saved_cluster.proofs.CloseLemmas.{all_back, none_at_meta}
 use Rattle.saved_cluster.proofs.OutLemmas.{meta_at}
 use Rattle.saved_cluster.proofs.saved.SavedCluster.close.Goals as goal

@@ -1,6 +1,6 @@
 use Rattle.std.proofs.Common.{refl, sym, ap, ◌∙◌, inl}
 use Rattle.std.specs.Prelude.{Err}
-use Rattle.cluster_tracks.specs.first_cluster.Depots.{depot_by}
+use Rattle.line_tracks.specs.first_cluster.Depots.{depot_by}
 use Rattle.saved_cluster.specs.Openings.{HasMetaDisk, IsMetaDisk}
 use Rattle.saved_cluster.proofs.OpenLemmas.{back_none_out, given_back, not_opened_so, not_taken, opens_out}
 use Rattle.saved_cluster.proofs.OutLemmas.{left_out, meta_at}

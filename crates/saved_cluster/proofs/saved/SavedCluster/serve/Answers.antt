@@ -4,9 +4,9 @@ use Rattle.m3_model.specs.declared.answer.Answer.{Answer}
 use Rattle.m3_model.specs.declared.turn.Reply.{Reply}
 use Rattle.m3_model.specs.declared.turn.Reply.TheVariants as reply
 use Rattle.served_acts.specs.NotYet.{IsServed}
-use Rattle.cluster_tracks.specs.first_cluster.Depots.{depot_by}
-use Rattle.cluster_tracks.specs.transcripts.Placements.{placement_after}
-use Rattle.cluster_tracks.specs.transcripts.Record.{inner_turns}
+use Rattle.line_tracks.specs.first_cluster.Depots.{depot_by}
+use Rattle.line_tracks.specs.transcripts.Placements.{placement_after}
+use Rattle.line_tracks.specs.transcripts.Record.{inner_turns}
 use Rattle.served_cluster.specs.Acts.{Serves, ServesRequest}
 use Rattle.served_cluster.specs.Owned.{place_of}
 use Rattle.served_cluster.specs.Plans.{state_of}

@@ -1,6 +1,6 @@
 use Rattle.std.proofs.Common.{◌≡◌, refl, sym, ap, subst, ◌∙◌}
 use Rattle.m3_model.specs.declared.turn.Reply.TheVariants as reply
-use Rattle.cluster_tracks.specs.first_cluster.Depots.{depot_by}
+use Rattle.line_tracks.specs.first_cluster.Depots.{depot_by}
 use Rattle.placement_log.specs.States.{MayBeState}
 use Rattle.served_cluster.specs.Acts.{ServesRequest}
 use Rattle.saved_cluster.specs.Saved.{IsSaved}

@@ -4,7 +4,7 @@ use Rattle.m3_model.specs.declared.answer.Answer.TheVariants as answer
 use Rattle.m3_model.specs.declared.rules.MetaState.{MetaState}
 use Rattle.m3_outside.proofs.Moments.{counts_none}
 use Rattle.m3_outside.specs.declared.disk_err.DiskErr.TheVariants as disk_err
-use Rattle.cluster_tracks.specs.first_cluster.Depots.{depot_by}
+use Rattle.line_tracks.specs.first_cluster.Depots.{depot_by}
 use Rattle.served_cluster.specs.Acts.{Serves}
 use Rattle.served_cluster.specs.Owned.{MayServeCluster}
 use Rattle.served_cluster.specs.Plans.{IsPlannedBy, by_plan, state_after, state_of}

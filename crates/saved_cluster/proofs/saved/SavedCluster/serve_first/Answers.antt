@@ -4,11 +4,11 @@ use Rattle.std.specs.FinMap.{empty}
 use Rattle.m3_model.specs.declared.act.Act.TheVariants as act
 use Rattle.m3_model.specs.declared.answer.Answer.TheVariants as answer
 use Rattle.m3_outside.proofs.Moments.{counts_none}
-use Rattle.cluster_tracks.specs.session_net.Ready.{IsReady}
-use Rattle.cluster_tracks.specs.first_cluster.Depots.{OwnedBy, depot_by}
-use Rattle.cluster_tracks.proofs.first_cluster_proofs.GiveAll.{returned_none}
-use Rattle.cluster_tracks.specs.Acts.{IsInitAnswer}
-use Rattle.cluster_tracks.specs.Lines.{EachMember}
+use Rattle.line_tracks.specs.session_net.Ready.{IsReady}
+use Rattle.line_tracks.specs.first_cluster.Depots.{OwnedBy, depot_by}
+use Rattle.line_tracks.proofs.first_cluster_proofs.GiveAll.{returned_none}
+use Rattle.line_tracks.specs.tracks.Acts.{IsInitAnswer}
+use Rattle.line_tracks.specs.tracks.Lines.{EachMember}
 use Rattle.meta_bytes.specs.States.{IsMetaState}
 use Rattle.placement_log.specs.MetaHolds.{IsReadyToSave}
 use Rattle.served_cluster.specs.Acts.{Serves}

@@ -1,7 +1,7 @@
 use Rattle.std.proofs.Common.{refl, sym, ◌∙◌}
 use Rattle.m3_model.specs.declared.act.Act.TheVariants as act
 use Rattle.m3_model.specs.declared.answer.Answer.TheVariants as answer
-use Rattle.cluster_tracks.specs.first_cluster.Depots.{depot_by}
+use Rattle.line_tracks.specs.first_cluster.Depots.{depot_by}
 use Rattle.served_cluster.proofs.OwnLemmas.{none_stood}
 use Rattle.saved_cluster.proofs.SaveLemmas.{answered_same}
 use Rattle.saved_cluster.proofs.ServeLemmas.{stands_by}

@@ -1,7 +1,7 @@
 use Rattle.std.proofs.Common.{sym, ap, subst}
 use Rattle.m3_model.specs.Limits.{MeetsLimits}
 use Rattle.m3_model.specs.declared.turn.Request.TheVariants as request
-use Rattle.cluster_tracks.specs.first_cluster.Depots.{depot_by}
+use Rattle.line_tracks.specs.first_cluster.Depots.{depot_by}
 use Rattle.served_cluster.specs.Acts.{is_init}
 use Rattle.saved_cluster.specs.Saved.{AnswersSaved, IsUnbegun}
 use Rattle.saved_cluster.proofs.ServeLemmas.{no_init, no_init_so, no_want}

@@ -1,5 +1,5 @@
 use Rattle.std.proofs.Common.{sym, subst}
-use Rattle.cluster_tracks.specs.first_cluster.Depots.{depot_by}
+use Rattle.line_tracks.specs.first_cluster.Depots.{depot_by}
 use Rattle.saved_cluster.specs.Saved.{AnswersSaved}
 use Rattle.saved_cluster.proofs.ServeLemmas.{changes_by}
 use Rattle.saved_cluster.proofs.saved.SavedCluster.serve_standing.Goals as goal

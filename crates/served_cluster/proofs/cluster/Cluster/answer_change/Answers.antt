@@ -1,5 +1,5 @@
 use Rattle.std.proofs.Common.{subst}
-use Rattle.cluster_tracks.specs.Acts.{next_call}
+use Rattle.line_tracks.specs.tracks.Acts.{next_call}
 use Rattle.served_cluster.specs.Owned.{AreReady}
 use Rattle.served_cluster.proofs.ActLemmas.{changed}
 use Rattle.served_cluster.proofs.KeptLemmas.{ready_on}

@@ -1,6 +1,6 @@
 use Rattle.std.proofs.Common.{refl, subst}
 use Rattle.m3_model.specs.declared.answer.Answer.TheVariants as answer
-use Rattle.cluster_tracks.specs.first_cluster.Depots.{OwnedBy, depot_by}
+use Rattle.line_tracks.specs.first_cluster.Depots.{OwnedBy, depot_by}
 use Rattle.served_cluster.specs.Owned.{AreReady}
 use Rattle.served_cluster.proofs.KeptLemmas.{may_change, ready_still}
 use Rattle.served_cluster.proofs.OwnLemmas.{changed_so, none_changed, not_some, serves_step}

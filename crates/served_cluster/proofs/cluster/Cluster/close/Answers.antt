@@ -1,6 +1,6 @@
 use Rattle.std.proofs.Common.{◌≡◌, subst, sym, ◌<◌, ◌≤◌, arith}
-use Rattle.cluster_tracks.specs.first_cluster.Depots.{AreOut, OwnedBy, depot_by, disk_slot_of}
-use Rattle.cluster_tracks.specs.Ends.{replica_at}
+use Rattle.line_tracks.specs.first_cluster.Depots.{AreOut, OwnedBy, depot_by, disk_slot_of}
+use Rattle.line_tracks.specs.tracks.Ends.{replica_at}
 use Rattle.served_cluster.proofs.OwnLemmas.{held_back, none_given_back, meta_stays}
 use Rattle.std.specs.Prelude.{Some}
 use Rattle.m3_model.specs.Members.{IsIn}

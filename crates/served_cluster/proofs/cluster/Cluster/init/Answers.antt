@@ -1,5 +1,5 @@
 use Rattle.std.proofs.Common.{refl, sym, subst}
-use Rattle.cluster_tracks.specs.first_cluster.Depots.{OwnedBy, depot_by}
+use Rattle.line_tracks.specs.first_cluster.Depots.{OwnedBy, depot_by}
 use Rattle.served_cluster.proofs.KeptLemmas.{first_ready, first_serves}
 use Rattle.served_cluster.specs.Owned.{AreReady}
 use Rattle.served_cluster.proofs.OwnLemmas.{none_returned, none_stood, refused_returned}

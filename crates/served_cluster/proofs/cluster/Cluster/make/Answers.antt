@@ -1,5 +1,5 @@
 use Rattle.std.proofs.Common.{refl}
-use Rattle.cluster_tracks.specs.first_cluster.Depots.{depot_by}
+use Rattle.line_tracks.specs.first_cluster.Depots.{depot_by}
 use Rattle.served_cluster.proofs.PlanLemmas.{made_serves, planned_changes, planned_here}
 use Rattle.served_cluster.proofs.cluster.Cluster.make.Goals as goal
 

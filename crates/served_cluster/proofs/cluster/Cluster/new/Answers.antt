@@ -1,6 +1,6 @@
 use Rattle.std.proofs.Common.{refl}
 use Rattle.std.specs.Prelude.{None}
-use Rattle.cluster_tracks.proofs.StepLemmas.{tracks_at_first}
+use Rattle.line_tracks.proofs.tracks.StepLemmas.{tracks_at_first}
 use Rattle.served_cluster.proofs.cluster.Cluster.new.Goals as goal
 
 pub returns-clause-tracks : goal.returns-clause-tracks

@@ -1,5 +1,5 @@
 use Rattle.std.proofs.Common.{refl, sym, subst}
-use Rattle.cluster_tracks.specs.first_cluster.Depots.{depot_by}
+use Rattle.line_tracks.specs.first_cluster.Depots.{depot_by}
 use Rattle.served_cluster.specs.Acts.{Serves}
 use Rattle.served_cluster.proofs.ActLemmas.{no_bootstrap_so}
 use Rattle.served_cluster.proofs.OwnLemmas.{serves_so}

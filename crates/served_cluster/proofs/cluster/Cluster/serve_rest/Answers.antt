@@ -1,5 +1,5 @@
 use Rattle.std.proofs.Common.{sym, ◌∙◌}
-use Rattle.cluster_tracks.specs.first_cluster.Depots.{depot_by}
+use Rattle.line_tracks.specs.first_cluster.Depots.{depot_by}
 use Rattle.served_cluster.proofs.OwnLemmas.{owned_after, serves_so}
 use Rattle.served_cluster.proofs.cluster.Cluster.serve_rest.Goals as goal
 

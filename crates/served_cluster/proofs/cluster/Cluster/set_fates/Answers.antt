@@ -1,6 +1,6 @@
 use Rattle.std.proofs.Common.{sym, subst}
 use Rattle.std.specs.Prelude.{Some}
-use Rattle.cluster_tracks.specs.Acts.{next_call}
+use Rattle.line_tracks.specs.tracks.Acts.{next_call}
 use Rattle.served_cluster.specs.Owned.{AreReady}
 use Rattle.served_cluster.proofs.ActLemmas.{fated, same_unfated, unfated}
 use Rattle.served_cluster.proofs.KeptLemmas.{fated_ready}

@@ -1,8 +1,0 @@
-use Rattle.act_lines.proofs.DueLemmas.{calls_are_due as it, deliveries_are_due}
-use Rattle.act_lines.proofs.due.calls_are_due.Goals as goal
-
-pub returns-clause-calls : goal.returns-clause-calls
-returns-clause-calls c = it
-
-pub returns-clause-deliveries : goal.returns-clause-deliveries
-returns-clause-deliveries c = deliveries_are_due

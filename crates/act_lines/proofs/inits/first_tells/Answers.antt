@@ -1,9 +1,0 @@
-use Rattle.act_lines.proofs.InitLemmas.{first_tells}
-use Rattle.act_lines.proofs.InitStands.{first_stands}
-use Rattle.act_lines.proofs.inits.first_tells.Goals as goal
-
-pub returns-clause-tells : goal.returns-clause-tells
-returns-clause-tells g c = first_tells g.D.Disk.state (g.met.D.Disk g.world.𝓛 g.world.𝓜 g.world.𝓡 ((λ s x. x), (λ x. x), (λ x. x), (λ x. x))).lawful c.args.members.now
-
-pub returns-clause-stands : goal.returns-clause-stands
-returns-clause-stands g c = first_stands g.D.Disk.state c.args.members.now

@@ -1,2 +1,0 @@
-pub use Rattle.node_calls.proofs.ListLemmas
-pub use Rattle.node_calls.proofs.RunLemmas

@@ -1,5 +1,0 @@
-use Rattle.act_lines.proofs.OpenLemmas.{begins_still}
-use Rattle.act_lines.proofs.nodes.first_begins_stay.Goals as goal
-
-pub returns : goal.returns
-returns g c = begins_still g.D.Disk.state c.args.members.now

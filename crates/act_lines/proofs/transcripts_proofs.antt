@@ -1,1 +1,0 @@
-pub use Rattle.transcripts.proofs.SweepLemmas

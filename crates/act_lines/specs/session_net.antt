@@ -1,6 +1,0 @@
-pub use Rattle.node_calls.specs.session_net.Calls
-pub use Rattle.node_calls.specs.session_net.Reads
-pub use Rattle.node_calls.specs.session_net.Ready
-pub use Rattle.node_calls.specs.session_net.Runs
-pub use Rattle.node_calls.specs.session_net.Writes
-pub use Rattle.node_calls.specs.session_net.declared

@@ -1,1 +1,0 @@
-pub use Rattle.call_lines.specs.told_causes.Faults

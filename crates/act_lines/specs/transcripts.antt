@@ -1,9 +1,0 @@
-pub use Rattle.transcripts.specs.Caused
-pub use Rattle.transcripts.specs.Deliveries
-pub use Rattle.transcripts.specs.Fates
-pub use Rattle.transcripts.specs.Faults
-pub use Rattle.transcripts.specs.Placements
-pub use Rattle.transcripts.specs.Reasons
-pub use Rattle.transcripts.specs.Record
-pub use Rattle.transcripts.specs.Rules
-pub use Rattle.transcripts.specs.Sweeps

@@ -1,8 +1,0 @@
-use Rattle.call_lines.proofs.DeliverLemmas.{nothing_serves, nothing_tells}
-use Rattle.call_lines.proofs.laws.nothing_tells.Goals as goal
-
-pub returns-clause-tells : goal.returns-clause-tells
-returns-clause-tells c = nothing_tells
-
-pub returns-clause-serves : goal.returns-clause-serves
-returns-clause-serves c = nothing_serves

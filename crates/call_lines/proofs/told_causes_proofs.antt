@@ -1,2 +1,0 @@
-pub use Rattle.told_runs.proofs.told_causes_proofs.FaultLemmas
-pub use Rattle.told_runs.proofs.told_causes_proofs.WaitLemmas

@@ -1,9 +1,0 @@
-pub use Rattle.told_runs.specs.told_by.Clocks
-pub use Rattle.told_runs.specs.told_by.Hears
-pub use Rattle.told_runs.specs.told_by.Lines
-pub use Rattle.told_runs.specs.told_by.Makes
-pub use Rattle.told_runs.specs.told_by.Openings
-pub use Rattle.told_runs.specs.told_by.Spans
-pub use Rattle.told_runs.specs.told_by.Steps
-pub use Rattle.told_runs.specs.told_by.Told
-pub use Rattle.told_runs.specs.told_by.Writes

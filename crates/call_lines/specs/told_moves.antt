@@ -1,1 +1,0 @@
-pub use Rattle.told_runs.specs.told_moves.Order

@@ -1,1 +1,0 @@
-pub use Rattle.placement_tracks.proofs.cluster_members_proofs.PlanLemmas

@@ -1,8 +1,0 @@
-pub use Rattle.placement_tracks.proofs.first_cluster_proofs.BareLemmas
-pub use Rattle.placement_tracks.proofs.first_cluster_proofs.FirstLemmas
-pub use Rattle.placement_tracks.proofs.first_cluster_proofs.GiveAll
-pub use Rattle.placement_tracks.proofs.first_cluster_proofs.ListLemmas
-pub use Rattle.placement_tracks.proofs.first_cluster_proofs.PlacedSlots
-pub use Rattle.placement_tracks.proofs.first_cluster_proofs.SlotCases
-pub use Rattle.placement_tracks.proofs.first_cluster_proofs.SlotLists
-pub use Rattle.placement_tracks.proofs.first_cluster_proofs.TakeAll

@@ -1,8 +1,0 @@
-use Rattle.cluster_tracks.proofs.QuietLemmas.{quiet_lines_stand_on, quiet_turns_make_none}
-use Rattle.cluster_tracks.proofs.laws.quiet_lines.Goals as goal
-
-pub returns-clause-none : goal.returns-clause-none
-returns-clause-none g c = quiet_turns_make_none
-
-pub returns-clause-on : goal.returns-clause-on
-returns-clause-on g c = quiet_lines_stand_on g.D.Disk.state (g.met.D.Disk g.world.𝓛 g.world.𝓜 g.world.𝓡 ((λ s x. x), (λ x. x), (λ x. x), (λ x. x))).lawful c.args.members.now

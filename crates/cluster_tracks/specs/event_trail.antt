@@ -1,1 +1,0 @@
-pub use Rattle.placement_tracks.specs.event_trail.Trails

@@ -1,2 +1,0 @@
-pub use Rattle.placement_tracks.specs.node_calls.Halts
-pub use Rattle.placement_tracks.specs.node_calls.Nodes

@@ -1,1 +1,0 @@
-pub use Rattle.join_tracks.specs.peer_streams.Joins

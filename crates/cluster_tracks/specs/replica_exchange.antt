@@ -1,1 +1,0 @@
-pub use Rattle.placement_tracks.specs.replica_exchange.declared

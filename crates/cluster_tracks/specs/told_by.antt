@@ -1,1 +1,0 @@
-pub use Rattle.placement_tracks.specs.told_by.Steps

@@ -1,1 +1,0 @@
-pub use Rattle.join_tracks.specs.told_joins.Lines

@@ -1,0 +1,15 @@
+pub mod ToldLemmas
+pub mod HeardLemmas
+pub mod ShardLemmas
+pub mod MemberLemmas
+pub mod ServeLemmas
+pub mod IdleLemmas
+pub mod WriteLemmas
+pub mod DeliverLemmas
+pub mod StandLemmas
+pub mod ActLemmas
+pub mod ReadLemmas
+pub mod FoundLemmas
+pub mod ShortLemmas
+pub mod KeepLemmas
+pub mod SampleLemmas

@@ -1,0 +1,1 @@
+pub use Rattle.node_calls.proofs.cluster_members_proofs.PlanLemmas

@@ -1,0 +1,3 @@
+mod MadeLemmas
+pub mod ServeLemmas
+pub mod StandLemmas

@@ -1,0 +1,1 @@
+pub use Rattle.told_runs.proofs.StepLemmas

@@ -1,0 +1,10 @@
+pub mod Due
+pub mod Quiet
+pub mod Stands
+pub mod Stays
+pub mod Settings
+pub mod Opens
+pub mod Nodes
+pub mod Keeps
+pub mod Inits
+pub mod Upkeep

@@ -1,0 +1,5 @@
+pub mod Left
+pub mod Laws
+pub mod ReadLaws
+pub mod Keeps
+pub mod Sample

@@ -1,0 +1,1 @@
+pub use Rattle.node_calls.specs.replica_exchange.declared

@@ -1,1 +1,0 @@
-pub use Rattle.cluster_placements.proofs.PlacedLemmas

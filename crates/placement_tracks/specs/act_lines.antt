@@ -1,9 +1,0 @@
-pub use Rattle.act_lines.specs.Due
-pub use Rattle.act_lines.specs.Inits
-pub use Rattle.act_lines.specs.Keeps
-pub use Rattle.act_lines.specs.Nodes
-pub use Rattle.act_lines.specs.Opens
-pub use Rattle.act_lines.specs.Quiet
-pub use Rattle.act_lines.specs.Settings
-pub use Rattle.act_lines.specs.Stands
-pub use Rattle.act_lines.specs.Stays

@@ -1,1 +1,0 @@
-pub use Rattle.placement_acts.specs.Acts

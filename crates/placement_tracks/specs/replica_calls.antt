@@ -1,2 +1,0 @@
-pub use Rattle.act_lines.specs.replica_calls.Calls
-pub use Rattle.act_lines.specs.replica_calls.Slots

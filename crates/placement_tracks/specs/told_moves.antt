@@ -1,1 +1,0 @@
-pub use Rattle.act_lines.specs.told_moves.Order

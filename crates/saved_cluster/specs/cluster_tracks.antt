@@ -1,2 +1,0 @@
-pub use Rattle.cluster_tracks.specs.Acts
-pub mod cluster_joins

@@ -1,1 +1,0 @@
-pub use Rattle.cluster_tracks.specs.cluster_joins.Boots
