@@ -1,5 +1,6 @@
 ghost use Rattle.std.specs.Prelude.{◌≡◌};
-ghost use Rattle.m3_program.specs.Codes.{code_of};
+ghost use Rattle.std.specs.Option.{option_copied};
+ghost use Rattle.m3_program.specs.Codes.{code_of, message_of};
 ghost use Rattle.m3_program.specs.Openings.{ended_by, ended_for};
 
 use placement_log::OpenErr;
@@ -65,7 +66,9 @@ impl Status {
     }
 
     /// What is written on standard error, if anything.
-    pub fn message(self) -> Option<&'static str> {
+    pub fn message(self) -> Option<&'static str>
+        ensures { option_copied result ≡ message_of self }
+    {
         match self {
             Status::Done => None,
             Status::Usage => Some("usage: m3 run or m3 generate N"),

@@ -1,9 +1,5 @@
-//! Tests of what words ask for, of scripts that a number names, and of how a run ends whose source or sink fails.
+//! Tests of what words ask for.
 #![tactic(auto)]
 
-#[cfg(test)]
-mod generated;
-#[cfg(test)]
-mod statuses;
 #[cfg(test)]
 mod words;

@@ -1,6 +1,5 @@
 // What words ask for.
 use command_words::{Task, WordsErr, task_of};
-use line_runs::{INIT, Status, ended};
 use std::alloc::Global;
 use std::test::Fail;
 
@@ -34,7 +33,7 @@ fn words_of_scripts(rt: HostRuntime) -> Result<(), Fail> {
     Ok(())
 }
 
-// Nothing is read or written for them.
+// `m3_trials` runs the program with each of them.
 #[test]
 fn words_of_no_task(rt: HostRuntime) -> Result<(), Fail> {
     let cases: [&[&str]; 23] = [
@@ -64,22 +63,17 @@ fn words_of_no_task(rt: HostRuntime) -> Result<(), Fail> {
     ];
     for words in cases {
         assert_eq!(rt; asked(rt.alloc(), words)?, Err(WordsErr::Usage));
-        let (status, written) = ended(rt.alloc(), words, INIT, &[0], &[0])?;
-        assert_eq!(rt; status, Status::Usage);
-        assert_eq!(rt; written.as_str(), "");
     }
     Ok(())
 }
 
-// What is written on standard error is the text of the error.
+// The texts of the errors, which are what is written on standard error.
 #[test]
 fn texts_of_errors(rt: HostRuntime) -> Result<(), Fail> {
     let alloc = rt.alloc();
     let usage = format!(in alloc; "{}", WordsErr::Usage)?;
     assert_eq!(rt; usage.as_str(), "usage: m3 run or m3 generate N");
-    assert_eq!(rt; Status::Usage.message(), Some(usage.as_str()));
     let memory = format!(in alloc; "{}", WordsErr::Memory)?;
     assert_eq!(rt; memory.as_str(), "m3: out of memory");
-    assert_eq!(rt; Status::Memory.message(), Some(memory.as_str()));
     Ok(())
 }

@@ -1,0 +1,17 @@
+//! Inputs of cases: parts, each a head with the lines below it; the scripts that these lines spell; what the words of a head say; outcomes
+//! with stars; and streams in memory that give and take pieces of sizes, fail at calls, and note each call.
+#![tactic(auto)]
+
+pub mod case_err;
+pub mod heads;
+pub mod outcomes;
+pub mod parts;
+pub mod scripts;
+pub mod streams;
+
+pub use case_err::CaseErr;
+pub use heads::{check_words, has_word, number, numbers, slot, span, value_of, with_number};
+pub use outcomes::fits;
+pub use parts::{Part, parts_of};
+pub use scripts::script;
+pub use streams::{TrialSink, TrialSource, line_sizes};
