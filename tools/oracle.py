@@ -2,29 +2,35 @@
 """Holds the program against a small model of docs/REQUESTS.md, over random scripts.
 
 usage: tools/oracle.py [COUNT [FIRST]]    runs the scripts FIRST, FIRST + 1, .. (2,000 of them from 0 on), and some that `generate` names
+       tools/oracle.py --runs [COUNT [FIRST]]    the same scripts but for the first few, each cut in up to four runs over the same disks, by m3_trials
+       tools/oracle.py --drawn            runs quarters of days, a day with a move, and courses of lines that make placements: their seeds stay the same
        tools/oracle.py --show NUMBER      prints the script of that number
        tools/oracle.py --model < SCRIPT   prints the replies that the model answers, each once its line is there
 
 The model (oracle_lines.py, oracle_places.py, oracle_model.py) was written from that page and from docs/PLACEMENT.md alone, without a look at the program or at its
 definitions, so it shares no mistake with them but by chance: where the two differ, one of the program, the page and the model is
-wrong. oracle_scripts.py makes the scripts. Of the first few that differ the smallest part is printed that differs still, with
-both replies; the status is 1 then. Faults of disks and want of memory come in no script, and of the ends of a run only those
-are tried that can be brought about from outside.
+wrong. oracle_scripts.py makes the scripts, oracle_days.py and oracle_courses.py those that are drawn by the dice of oracle_dice.py. Of the
+first few random ones that differ the smallest part is printed that differs still, with both replies, and of others the first reply; the status is
+1 then. Faults of disks and want of memory come in no script, and of the ends of a run only those are tried that can be brought about from outside.
 """
 import json
 import os
 import subprocess
 import sys
-from concurrent.futures import ThreadPoolExecutor
+from concurrent.futures import ProcessPoolExecutor, ThreadPoolExecutor
+from itertools import zip_longest
 from pathlib import Path
 from typing import IO
 
 sys.dont_write_bytecode = True
+import oracle_courses  # noqa: E402
+import oracle_days  # noqa: E402
 import oracle_model  # noqa: E402
 import oracle_scripts  # noqa: E402
 
 TOP = Path(__file__).resolve().parent.parent
 PROGRAM = [str(TOP / "m3"), "run"]
+TRIALS = [str(TOP / "tools/build_crates"), "m3_trials", "--", str(TOP / "crates/m3_trials/out/m3_trials")]
 GENERATED = [0, 7, 8, 2**31, 2**32 - 1]
 USAGE = b"usage: m3 run or m3 generate N\n"
 MOST_SHOWN = 5
@@ -129,6 +135,52 @@ def hold(count: int, first: int) -> int:
     return 1 if wrong or ends or summaries else 0
 
 
+def first_other(script: bytes) -> bytes:
+    """The first line of the script that is answered otherwise, the model's reply to it and the program's; nothing where there is none."""
+    for lines in zip_longest(script.splitlines(keepends=True), oracle_model.replies(script), run(script), fillvalue=b"nothing\n"):
+        if lines[1] != lines[2]:
+            return b"".join(lines)
+    return b""
+
+
+def hold_drawn() -> int:
+    """Holds the program against the model on the scripts of the seeds, and says where the courses met other kinds of answers than they are to."""
+    subprocess.run(PROGRAM, stdin=subprocess.DEVNULL)  # builds it where it isn't built yet
+    scripts = {f"quarter {seed}": oracle_days.quarter(seed) for seed in oracle_days.QUARTERS} | {"day with a move": oracle_days.moved_day()}
+    courses = {f"course {seed}": oracle_courses.course(seed) for seed in oracle_courses.SEEDS}
+    scripts |= {name: b"".join(it.lines) for name, it in courses.items()}
+    with ProcessPoolExecutor(os.cpu_count()) as pool:
+        found = dict(zip(scripts, pool.map(first_other, scripts.values())))
+    wrong = [name for name in found if found[name]]
+    for name in wrong[:MOST_SHOWN]:
+        print(f"{name} differs: a line, the model's reply and the program's", flush=True)
+        sys.stdout.buffer.write(found[name])
+        sys.stdout.flush()
+    met = oracle_courses.kinds_met(list(courses.values()))
+    others = [op for op in met if met[op] != oracle_courses.KINDS[op]]
+    for op in others:
+        print(f"the courses meet {sorted(met[op])} of {op}, and are to meet {sorted(oracle_courses.KINDS[op])}")
+    print(f"oracle: {len(scripts)} drawn scripts, {len(wrong)} differ; {len(others)} ops met other kinds of answers", *wrong[:20])
+    return 1 if wrong or others else 0
+
+
+def hold_runs(count: int, first: int) -> int:
+    """Holds several runs over the same disks against the model."""
+    scripts = {b"%d" % number: oracle_scripts.runs(number) for number in range(first, first + count)}
+    asked = b"".join(b"@case %s\n" % name + b"".join(b"@run\n%%hex %s\n" % it.hex().encode() for it in its) for name, its in scripts.items())
+    told = dict(it.split(b"\n", 1) for it in subprocess.run(TRIALS, input=asked, capture_output=True).stdout.split(b"@case ")[1:])
+    wrong = []
+    for name, its in scripts.items():
+        wanted = b"".join(b"> ended Done faults=0\n" + b"".join(replies) for replies in oracle_model.replies_of_runs(its))
+        if told.get(name) != wanted:
+            wrong.append(name.decode())
+            pairs = zip_longest(wanted.splitlines(), told.get(name, b"").splitlines(), fillvalue=b"nothing")
+            one, other = next(pair for pair in pairs if pair[0] != pair[1])
+            sys.stdout.buffer.write(b"the runs of %s differ: the model answers\n%s\nand the program\n%s\n" % (name, one, other))
+    print(f"oracle: runs of {count} scripts, {len(wrong)} differ", *wrong[:20])
+    return 1 if wrong else 0
+
+
 def main(words: list[str]) -> int:
     match words:
         case ["--model"]:
@@ -136,6 +188,11 @@ def main(words: list[str]) -> int:
                 sys.stdout.buffer.write(reply)
                 sys.stdout.buffer.flush()
             return 0
+        case ["--drawn"]:
+            return hold_drawn()
+        case ["--runs", *numbers] if len(numbers) <= 2 and all(map(str.isdecimal, numbers)):
+            count, first = [*map(int, numbers), *[2000, 0][len(numbers):]]
+            return hold_runs(count, first)
         case ["--show", number] if number.isdecimal():
             sys.stdout.buffer.write(oracle_scripts.script(int(number)))
             return 0

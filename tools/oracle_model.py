@@ -179,7 +179,7 @@ class LateWrite:
 class Cluster:
     def __init__(self) -> None:
         self.seed = 0
-        self.places: list[Place] = []  # those that are kept, of versions from 1 on
+        self.places: list[Place] = []  # those that are kept, by their versions: in a first run from 1 on
         self.replicas: list[dict[str, Replica]] = []  # by shard, and then by node
         self.stopped: set[str] = set()
         self.namespaces: dict[str, Namespace] = {}
@@ -208,10 +208,11 @@ class Cluster:
 
     def place_at(self, request: Request) -> Place:
         """The placement by which a call goes."""
-        version = request.get("version", self.place().version)
-        if not 1 <= version <= len(self.places):
+        first, last = self.places[0].version, self.place().version
+        version = request.get("version", last)
+        if not first <= version <= last:
             raise Refused("unknown", name=str(version))
-        return self.places[version - 1]
+        return self.places[version - first]
 
     def known(self, node: str) -> str:
         if not self.place().is_listed(node):
@@ -313,7 +314,7 @@ class Cluster:
 
     def change(self, request: Request) -> Request:
         """A line that makes a placement: new replicas wait for a bootstrap."""
-        self.stand_by(next_place(self.place(), request))
+        self.stand_by(next_place(self.place(), request, len(self.places)))
         for shard, replicas in zip(self.place().shards, self.replicas):
             for node in shard:
                 replicas.setdefault(node, Replica("boot", tenure=None, begun=0, fence=0, segments=0, filled=0))
@@ -380,7 +381,7 @@ class Cluster:
             raise Refused("state", node=node)
         joined = {shard: peers for shard in shards if (peers := self.open(node, shard)) is not None}
         if joined:
-            if self.place().version == MOST_VERSIONS:
+            if len(self.places) == MOST_VERSIONS:
                 raise Refused("limit", limit=MOST_VERSIONS)
             self.stand_by(ended(self.place(), node, list(joined)))
         return {"available": [[shard, peers] for shard, peers in joined.items()], **self.place().printed()}
@@ -449,6 +450,16 @@ class Cluster:
         return {"now": self.now, "replicas": [self.report(*member) for member in self.members()], "version": self.place().version}
 
 
+    # ---- runs
+
+    def go_on(self) -> None:
+        """A further run begins over the same disks: the placement that stands is kept alone, and each replica waits for a bootstrap."""
+        self.places = self.places[-1:]
+        for replica in (it for shard in self.replicas for it in shard.values()):
+            replica.standing = "boot"
+        self.stopped, self.fates, self.calls, self.late = set(), {}, 0, []
+
+
 CALLS = {"write": Cluster.write, "fetch": Cluster.fetch, "match": Cluster.match}
 ACTS = {"init": Cluster.init, "namespace": Cluster.namespace, "now": Cluster.set_now, "fates": Cluster.set_fates,
         "deliver": Cluster.deliver, "stop": Cluster.stop, "restart": Cluster.restart, "bootstrap": Cluster.bootstrap,
@@ -479,12 +490,21 @@ def is_blank(line: bytes) -> bool:
     return not line.strip(b" \t\r\n")
 
 
-def serve(lines: Iterable[bytes]) -> Iterator[bytes]:
-    """The replies to lines, each once its line is there."""
-    cluster = Cluster()
+def serve(lines: Iterable[bytes], cluster: Cluster | None = None) -> Iterator[bytes]:
+    """The replies to lines, each once its line is there: of this cluster, or of a new one."""
+    cluster = cluster or Cluster()
     return (reply_to(cluster, line.removesuffix(b"\n")) for line in lines if not is_blank(line))
 
 
 def replies(script: bytes) -> list[bytes]:
     """The replies to the lines of a script, without those that are passed over."""
     return list(serve(script.split(b"\n")))
+
+
+def replies_of_runs(scripts: list[bytes]) -> list[list[bytes]]:
+    """The same of runs over the same disks, one after the other, each of its script."""
+    cluster, found = Cluster(), []
+    for script in scripts:
+        found.append(list(serve(script.split(b"\n"), cluster)))
+        cluster.go_on()
+    return found

@@ -1,6 +1,6 @@
 """Placements and the lines that make them, as docs/PLACEMENT.md has them. `tools/oracle.py` says what this is for.
 
-It was written from that page alone. `next_place` answers the placement to which a line leads, or raises `Refused`.
+It was written from that page alone. `next_place` answers the placement to which a line leads where so many are kept, or raises `Refused`.
 """
 from __future__ import annotations
 
@@ -102,8 +102,8 @@ def first_place(rf: int, shards: int, nodes: list[tuple[str, str]]) -> Place:
 
 # ---- what is in the way
 
-def demand_order(place: Place, request: Request) -> None:
-    """A node that is to be listed isn't, and one that is to be there is."""
+def demand_order(place: Place, request: Request, kept: int) -> None:
+    """A node that is to be listed isn't, and one that is to be there is; and so many placements are kept that there is room for one more."""
     new = {"add": "node", "replace": "by"}.get(request["op"])
     if new and place.is_listed(request[new]):
         raise Refused("order")
@@ -111,7 +111,7 @@ def demand_order(place: Place, request: Request) -> None:
         raise Refused("unknown", name=request["node"])
     if new and request[new] not in place.nodes and len(place.nodes) == MOST_NODES:
         raise Refused("limit", limit=MOST_NODES)
-    if place.version == MOST_VERSIONS:
+    if kept == MOST_VERSIONS:
         raise Refused("limit", limit=MOST_VERSIONS)
 
 
@@ -184,8 +184,8 @@ def remove(place: Place, request: Request) -> None:
 PLANS = {"add": add, "drain": drain, "cancel": cancel, "remove": remove, "replace": replace}
 
 
-def next_place(place: Place, request: Request) -> Place:
-    demand_order(place, request)
+def next_place(place: Place, request: Request, kept: int) -> Place:
+    demand_order(place, request, kept)
     made = deepcopy(place)
     made.version += 1
     PLANS[request["op"]](made, request)

@@ -454,6 +454,17 @@ def script(number: int) -> bytes:
     return b"\n".join(lines) + made.dice.choice([b"\n", b"\n", b"\n", b""])
 
 
+def runs(number: int) -> list[bytes]:
+    """The scripts of up to four runs over the same disks: lines of this number, cut; behind each cut most nodes are bootstrapped first."""
+    made = Script(number)
+    lines = made.lines(made.dice.choice([0.0, 0.02, 0.1]))
+    cuts = sorted(made.dice.choices(range(len(lines) + 1), k=made.dice.choice([1, 1, 2, 3])))
+    parts = [lines[begin:end] for begin, end in zip([0, *cuts], [*cuts, len(lines)])]
+    for part in parts[1:]:
+        part[:0] = [made.spelt({"op": "bootstrap", "node": node}) for node in made.nodes if made.dice.random() < 0.9]
+    return [b"".join(line + b"\n" for line in part) for part in parts]
+
+
 def generated(number: int) -> bytes:
     """The script that `generate` and this number name, a line for each request."""
     state = number
