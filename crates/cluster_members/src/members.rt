@@ -10,7 +10,6 @@ use session_writes::of_session_net::Net;
 
 /// A cluster that stands: what its calls meet, the placements that it keeps, the slots that have a replica by shard, and which of its
 /// nodes are stopped.
-#[derive(Drop)]
 pub struct Members<D: Disk> {
     pub net: Net<D>,
     /// The placements before the one that stands, by version, from the oldest that is kept on.
@@ -25,4 +24,15 @@ pub struct Members<D: Disk> {
     ghost few_slots: { length slots.items ≤ MOST_NODES * MOST_SHARDS },
     ghost few_past: { length past.items < MOST_VERSIONS },
     ghost one_each: { length stopped.items ≡ length net.state.place.instances },
+}
+
+impl<D: Disk> Drop for Members<D> {
+    fn drop(self) {
+        let Members {
+            net: _,
+            past: _,
+            slots: _,
+            stopped: _,
+        } = self;
+    }
 }

@@ -26,11 +26,20 @@ fn opening(first: &Placement, rules: &Rules) -> Past
 
 /// The events of a run over disks of this kind, so far. Contracts see their list, which is legal as far as the disks tell. The program
 /// keeps only how many they are.
-#[derive(Drop)]
 pub struct Trail<D: Disk> {
     len: u64,
     past: Past,
     of: PhantomData<D>,
+}
+
+impl<D: Disk> Drop for Trail<D> {
+    fn drop(self) {
+        let Trail {
+            len: _,
+            past: _,
+            of: _,
+        } = self;
+    }
 }
 
 impl<D: Disk> Model for Trail<D> {

@@ -14,9 +14,14 @@ use std::marker::Model;
 use std::snapshot::Snapshot;
 
 /// A call of a replica. Contracts see the call.
-#[derive(Drop)]
 pub struct CallView {
     parts: CallParts,
+}
+
+impl Drop for CallView {
+    fn drop(self) {
+        let CallView { parts: _ } = self;
+    }
 }
 
 #[derive(Drop)]
@@ -189,9 +194,14 @@ impl CallView {
 }
 
 /// What a replica answered. Contracts see the reply.
-#[derive(Drop)]
 pub struct ReplyView {
     parts: ReplyParts,
+}
+
+impl Drop for ReplyView {
+    fn drop(self) {
+        let ReplyView { parts: _ } = self;
+    }
 }
 
 #[derive(Drop)]
@@ -280,9 +290,14 @@ impl ReplyView {
 }
 
 /// An event. Contracts see the event.
-#[derive(Drop)]
 pub struct EventView {
     parts: EventParts,
+}
+
+impl Drop for EventView {
+    fn drop(self) {
+        let EventView { parts: _ } = self;
+    }
 }
 
 #[derive(Drop)]

@@ -32,7 +32,6 @@ use tag_index::Index;
 /// and beside that the key for which there is room: at it the next `put` takes no memory.
 ///
 /// See M3DB's page "Storage Engine".
-#[derive(Drop)]
 pub struct HeldPoints {
     alloc: Global,
     buffer: CountedBuffer,
@@ -40,6 +39,17 @@ pub struct HeldPoints {
     index: Index,
     // Whether the point for which there is room is the first of its identifier.
     newly: bool,
+}
+
+impl Drop for HeldPoints {
+    fn drop(self) {
+        let HeldPoints {
+            alloc: _,
+            buffer: _,
+            index: _,
+            newly: _,
+        } = self;
+    }
 }
 
 impl Model for HeldPoints {

@@ -30,7 +30,6 @@ pub struct Assignment {
 }
 
 /// A node. One that was removed stays, with `listed` false, so that node numbers last.
-#[derive(Drop)]
 pub struct Instance {
     pub name: Text,
     /// Its isolation group.
@@ -40,10 +39,20 @@ pub struct Instance {
     pub drained: bool,
 }
 
+impl Drop for Instance {
+    fn drop(self) {
+        let Instance {
+            name: _,
+            group: _,
+            listed: _,
+            drained: _,
+        } = self;
+    }
+}
+
 /// Which node has which shard.
 ///
 /// See M3DB's page "Placement".
-#[derive(Drop)]
 pub struct Placement {
     /// 1 for the first placement, one higher with each step.
     pub version: u64,
@@ -52,6 +61,17 @@ pub struct Placement {
     /// The nodes in the order in which they were first named.
     pub instances: Seq<Instance>,
     pub shards: Seq<Seq<Assignment>>,
+}
+
+impl Drop for Placement {
+    fn drop(self) {
+        let Placement {
+            version: _,
+            rf: _,
+            instances: _,
+            shards: _,
+        } = self;
+    }
 }
 
 impl Duplicate for ShardState {

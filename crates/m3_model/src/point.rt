@@ -25,11 +25,20 @@ pub struct Series {
 }
 
 /// A test of one tag: that it has this value, or that it hasn't.
-#[derive(Drop)]
 pub struct Matcher {
     pub name: Text,
     pub equal: bool,
     pub value: Text,
+}
+
+impl Drop for Matcher {
+    fn drop(self) {
+        let Matcher {
+            name: _,
+            equal: _,
+            value: _,
+        } = self;
+    }
 }
 
 /// Which series a read asks for.

@@ -8,7 +8,6 @@ use std::alloc::Global;
 /// A namespace. Durations are below 2^40, in the unit of moments and timestamps.
 ///
 /// See M3DB's page "Namespace Configuration".
-#[derive(Drop)]
 pub struct Space {
     pub name: Text,
     /// The size of a block, at least 1.
@@ -21,19 +20,45 @@ pub struct Space {
     pub retention: u64,
 }
 
+impl Drop for Space {
+    fn drop(self) {
+        let Space {
+            name: _,
+            block: _,
+            past: _,
+            future: _,
+            retention: _,
+        } = self;
+    }
+}
+
 /// The moment and the namespaces in the order in which they were made.
-#[derive(Drop)]
 pub struct Rules {
     pub now: u64,
     pub spaces: Seq<Space>,
 }
 
+impl Drop for Rules {
+    fn drop(self) {
+        let Rules { now: _, spaces: _ } = self;
+    }
+}
+
 /// What the meta disk holds of a cluster.
-#[derive(Drop)]
 pub struct MetaState {
     pub rules: Rules,
     pub seed: u32,
     pub place: Placement,
+}
+
+impl Drop for MetaState {
+    fn drop(self) {
+        let MetaState {
+            rules: _,
+            seed: _,
+            place: _,
+        } = self;
+    }
 }
 
 impl Duplicate for Space {

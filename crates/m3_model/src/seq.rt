@@ -6,9 +6,15 @@ use std::alloc::Global;
 use std::marker::Model;
 
 /// A list of values, which contracts see as the list.
-#[derive(Debug, Drop)]
+#[derive(Debug)]
 pub struct Seq<T> {
     vec: Vec<T>,
+}
+
+impl<T: Drop> Drop for Seq<T> {
+    fn drop(self) {
+        let Seq { vec: _ } = self;
+    }
 }
 
 impl<T> Model for Seq<T> {

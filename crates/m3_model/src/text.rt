@@ -7,9 +7,15 @@ use std::cmp::Ordering;
 use std::marker::Model;
 
 /// A text, which contracts see as its bytes.
-#[derive(Debug, Drop)]
+#[derive(Debug)]
 pub struct Text {
     string: String,
+}
+
+impl Drop for Text {
+    fn drop(self) {
+        let Text { string: _ } = self;
+    }
 }
 
 impl Model for Text {

@@ -34,10 +34,15 @@ use std::snapshot::Snapshot;
 /// A call of a replica adds an Ask and the step that answers it, with the machine's own reply; a report adds its step alone. It isn't made
 /// where the slot has no replica, nor where the list has no room for these events. Each call takes time in proportion to the logarithm
 /// of the number of replicas, beside what it does at the machine; none copies what it is given.
-#[derive(Drop)]
 pub struct Replicas<D: Disk> {
     map: BTreeMap<Slot, Member<D>>,
     trail: Trail<D>,
+}
+
+impl<D: Disk> Drop for Replicas<D> {
+    fn drop(self) {
+        let Replicas { map: _, trail: _ } = self;
+    }
 }
 
 impl<D: Disk> Model for Replicas<D> {

@@ -57,11 +57,20 @@ use store_log::of_snapshot_steps::Counts;
 /// isn't known.
 ///
 /// See M3DB's pages "Storage Engine" and "Commit Logs and Snapshot Files".
-#[derive(Drop)]
 pub struct Store<D: Disk> {
     alloc: Global,
     disk: D,
     opened: Option<Opened>,
+}
+
+impl<D: Disk> Drop for Store<D> {
+    fn drop(self) {
+        let Store {
+            alloc: _,
+            disk: _,
+            opened: _,
+        } = self;
+    }
 }
 
 impl<D: Disk> Model for Store<D> {
@@ -485,7 +494,11 @@ impl<D: Disk> Store<D> {
     pub fn into_disk(self) -> D
         ensures { result ≡ self.disk }
     {
-        let Store { disk, opened, .. } = self;
+        let Store {
+            alloc: _,
+            disk,
+            opened,
+        } = self;
         drop(opened);
         disk
     }

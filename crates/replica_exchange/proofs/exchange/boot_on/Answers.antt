@@ -12,7 +12,7 @@ answer-requires-clause-answers g c κs lives =
     is_answer g.D.Disk.state c.args.slot c.args.trail.now c.ask.new.trail c.args.member.now c.boot-said.new.self (call.Begin c.args.tenure) c.begin-call.result c.begin-call.result (reply_by (λ began. reply.Began began.fence began.points) c.boot-said.result) c.began_view-reply.result c.ask.ensures c.begin-call.ensures c.begin-call.ensures c.began_view-reply.ensures
     c.requires.opened c.requires.tenure c.requires.is c.boot-said.ensures.step (λ e. cc)
 
-both : (g : Over) (c : goal.Joined-call g) → Went g.D.Disk.state c.args.slot (AddsBoth c.args.slot) (call.Begin c.args.tenure) (reply_by (λ began. reply.Began began.fence began.points) c.boot-said.result) c.args.trail.now c.answer.new.trail (record c.args.member.now { machine = c.boot-said.new.self })
+both : (g : Over) (c : goal.After-drop-call g) → Went g.D.Disk.state c.args.slot (AddsBoth c.args.slot) (call.Begin c.args.tenure) (reply_by (λ began. reply.Began began.fence began.points) c.boot-said.result) c.args.trail.now c.answer.new.trail (record c.args.member.now { machine = c.boot-said.new.self })
 both g c = went g.D.Disk.state c.args.slot c.args.trail.now c.ask.new.trail c.answer.new.trail c.args.member.now (record c.args.member.now { machine = c.boot-said.new.self }) (call.Begin c.args.tenure) c.begin-call.result c.begin-call.result (reply_by (λ began. reply.Began began.fence began.points) c.boot-said.result) c.began_view-reply.result c.ask.ensures c.answer.ensures c.begin-call.ensures c.begin-call.ensures c.began_view-reply.ensures c.requires.is c.boot-said.ensures.step refl
 
 pub returns-clause-is : goal.returns-clause-is

@@ -13,7 +13,7 @@ answer-requires-clause-answers g c κs lives =
     is_answer g.D.Disk.state c.args.slot c.args.trail.now c.ask.new.trail c.args.member.now c.end.new.self call.End c.end-call.result c.end-call.result (reply_by (λ _. reply.Done) (Ok (tt {0}))) c.done-reply.result c.ask.ensures c.end-call.ensures c.end-call.ensures c.done-reply.ensures
     c.requires.opened tt c.requires.is c.end.ensures.step (λ e. cc)
 
-both : (g : Over) (c : goal.Joined-call g) → Went g.D.Disk.state c.args.slot (AddsBoth c.args.slot) call.End (reply_by (λ _. reply.Done) (Ok (tt {0}))) c.args.trail.now c.answer.new.trail (record c.args.member.now { machine = c.end.new.self })
+both : (g : Over) (c : goal.After-drop-call g) → Went g.D.Disk.state c.args.slot (AddsBoth c.args.slot) call.End (reply_by (λ _. reply.Done) (Ok (tt {0}))) c.args.trail.now c.answer.new.trail (record c.args.member.now { machine = c.end.new.self })
 both g c = went g.D.Disk.state c.args.slot c.args.trail.now c.ask.new.trail c.answer.new.trail c.args.member.now (record c.args.member.now { machine = c.end.new.self }) call.End c.end-call.result c.end-call.result (reply_by (λ _. reply.Done) (Ok (tt {0}))) c.done-reply.result c.ask.ensures c.answer.ensures c.end-call.ensures c.end-call.ensures c.done-reply.ensures c.requires.is c.end.ensures.step refl
 
 pub returns-clause-is : goal.returns-clause-is

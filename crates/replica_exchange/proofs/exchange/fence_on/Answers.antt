@@ -12,7 +12,7 @@ answer-requires-clause-answers g c κs lives =
     is_answer g.D.Disk.state c.args.slot c.args.trail.now c.ask.new.trail c.args.member.now c.fence-said.new.self (call.Fence c.args.version) c.fence-call.result c.fence-call.result (reply_by (λ _. reply.Done) c.fence-said.result) c.done_view-reply.result c.ask.ensures c.fence-call.ensures c.fence-call.ensures c.done_view-reply.ensures
     c.requires.opened tt c.requires.is c.fence-said.ensures.step (λ e. cc)
 
-both : (g : Over) (c : goal.Joined-call g) → Went g.D.Disk.state c.args.slot (AddsBoth c.args.slot) (call.Fence c.args.version) (reply_by (λ _. reply.Done) c.fence-said.result) c.args.trail.now c.answer.new.trail (record c.args.member.now { machine = c.fence-said.new.self })
+both : (g : Over) (c : goal.After-drop-call g) → Went g.D.Disk.state c.args.slot (AddsBoth c.args.slot) (call.Fence c.args.version) (reply_by (λ _. reply.Done) c.fence-said.result) c.args.trail.now c.answer.new.trail (record c.args.member.now { machine = c.fence-said.new.self })
 both g c = went g.D.Disk.state c.args.slot c.args.trail.now c.ask.new.trail c.answer.new.trail c.args.member.now (record c.args.member.now { machine = c.fence-said.new.self }) (call.Fence c.args.version) c.fence-call.result c.fence-call.result (reply_by (λ _. reply.Done) c.fence-said.result) c.done_view-reply.result c.ask.ensures c.answer.ensures c.fence-call.ensures c.fence-call.ensures c.done_view-reply.ensures c.requires.is c.fence-said.ensures.step refl
 
 pub returns-clause-is : goal.returns-clause-is

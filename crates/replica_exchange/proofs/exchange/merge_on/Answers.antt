@@ -12,7 +12,7 @@ answer-requires-clause-answers g c κs lives =
     is_answer g.D.Disk.state c.args.slot c.args.trail.now c.ask.new.trail c.args.member.now c.merge-said.new.self (call.Merge c.args.page.now) c.merge-call.result c.merge-call.result (reply_by (λ n. reply.Count n) c.merge-said.result) c.count_view-reply.result c.ask.ensures c.merge-call.ensures c.merge-call.ensures c.count_view-reply.ensures
     c.requires.opened c.requires.given c.requires.is c.merge-said.ensures.step (λ e. cc)
 
-both : (g : Over) (c : goal.Joined-call g) → Went g.D.Disk.state c.args.slot (AddsBoth c.args.slot) (call.Merge c.args.page.now) (reply_by (λ n. reply.Count n) c.merge-said.result) c.args.trail.now c.answer.new.trail (record c.args.member.now { machine = c.merge-said.new.self })
+both : (g : Over) (c : goal.After-drop-call g) → Went g.D.Disk.state c.args.slot (AddsBoth c.args.slot) (call.Merge c.args.page.now) (reply_by (λ n. reply.Count n) c.merge-said.result) c.args.trail.now c.answer.new.trail (record c.args.member.now { machine = c.merge-said.new.self })
 both g c = went g.D.Disk.state c.args.slot c.args.trail.now c.ask.new.trail c.answer.new.trail c.args.member.now (record c.args.member.now { machine = c.merge-said.new.self }) (call.Merge c.args.page.now) c.merge-call.result c.merge-call.result (reply_by (λ n. reply.Count n) c.merge-said.result) c.count_view-reply.result c.ask.ensures c.answer.ensures c.merge-call.ensures c.merge-call.ensures c.count_view-reply.ensures c.requires.is c.merge-said.ensures.step refl
 
 pub returns-clause-is : goal.returns-clause-is

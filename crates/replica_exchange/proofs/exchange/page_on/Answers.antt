@@ -13,7 +13,7 @@ answer-requires-clause-answers g c κs lives =
     is_answer g.D.Disk.state c.args.slot c.args.trail.now c.ask.new.trail c.args.member.now c.page-said.new.self (call.Page (option_copied c.args.after)) c.page-call.result c.page-call.result (reply_by (λ page. reply.Paged page) c.page-said.result) c.paged_view-reply.result c.ask.ensures c.page-call.ensures c.page-call.ensures c.paged_view-reply.ensures
     c.requires.opened tt c.requires.is c.page-said.ensures.step (λ e. cc)
 
-both : (g : Over) (c : goal.Joined-call g) → Went g.D.Disk.state c.args.slot (AddsBoth c.args.slot) (call.Page (option_copied c.args.after)) (reply_by (λ page. reply.Paged page) c.page-said.result) c.args.trail.now c.answer.new.trail (record c.args.member.now { machine = c.page-said.new.self })
+both : (g : Over) (c : goal.After-drop-call g) → Went g.D.Disk.state c.args.slot (AddsBoth c.args.slot) (call.Page (option_copied c.args.after)) (reply_by (λ page. reply.Paged page) c.page-said.result) c.args.trail.now c.answer.new.trail (record c.args.member.now { machine = c.page-said.new.self })
 both g c = went g.D.Disk.state c.args.slot c.args.trail.now c.ask.new.trail c.answer.new.trail c.args.member.now (record c.args.member.now { machine = c.page-said.new.self }) (call.Page (option_copied c.args.after)) c.page-call.result c.page-call.result (reply_by (λ page. reply.Paged page) c.page-said.result) c.paged_view-reply.result c.ask.ensures c.answer.ensures c.page-call.ensures c.page-call.ensures c.paged_view-reply.ensures c.requires.is c.page-said.ensures.step refl
 
 pub returns-clause-is : goal.returns-clause-is

@@ -12,7 +12,7 @@ answer-requires-clause-answers g c κs lives =
     is_answer g.D.Disk.state c.args.slot c.args.trail.now c.ask.new.trail c.args.member.now c.put-said.new.self (call.Put c.args.id.client c.args.id.number c.args.rules.now c.args.version c.args.point.now) c.put-call.result c.put-call.result (reply_by (λ _. reply.Done) c.put-said.result) c.done_view-reply.result c.ask.ensures c.put-call.ensures c.put-call.ensures c.done_view-reply.ensures
     c.requires.opened (c.requires.clock, c.requires.sent) c.requires.is (c.put-said.ensures.step c.args.id.client c.args.id.number) (λ e. cc)
 
-both : (g : Over) (c : goal.Joined-call g) → Went g.D.Disk.state c.args.slot (AddsBoth c.args.slot) (call.Put c.args.id.client c.args.id.number c.args.rules.now c.args.version c.args.point.now) (reply_by (λ _. reply.Done) c.put-said.result) c.args.trail.now c.answer.new.trail (record c.args.member.now { machine = c.put-said.new.self })
+both : (g : Over) (c : goal.After-drop-call g) → Went g.D.Disk.state c.args.slot (AddsBoth c.args.slot) (call.Put c.args.id.client c.args.id.number c.args.rules.now c.args.version c.args.point.now) (reply_by (λ _. reply.Done) c.put-said.result) c.args.trail.now c.answer.new.trail (record c.args.member.now { machine = c.put-said.new.self })
 both g c = went g.D.Disk.state c.args.slot c.args.trail.now c.ask.new.trail c.answer.new.trail c.args.member.now (record c.args.member.now { machine = c.put-said.new.self }) (call.Put c.args.id.client c.args.id.number c.args.rules.now c.args.version c.args.point.now) c.put-call.result c.put-call.result (reply_by (λ _. reply.Done) c.put-said.result) c.done_view-reply.result c.ask.ensures c.answer.ensures c.put-call.ensures c.put-call.ensures c.done_view-reply.ensures c.requires.is (c.put-said.ensures.step c.args.id.client c.args.id.number) refl
 
 pub returns-clause-is : goal.returns-clause-is

@@ -12,7 +12,7 @@ answer-requires-clause-answers g c κs lives =
     is_answer g.D.Disk.state c.args.slot c.args.trail.now c.ask.new.trail c.args.member.now c.read-said.new.self (call.Read c.args.id.client c.args.id.number c.args.rules.now c.args.version c.args.pick.now c.args.from c.args.to) c.read-call.result c.read-call.result (reply_by (λ series. reply.Found series) c.read-said.result) c.found_view-reply.result c.ask.ensures c.read-call.ensures c.read-call.ensures c.found_view-reply.ensures
     c.requires.opened c.requires.clock c.requires.is (c.read-said.ensures.step c.args.id.client c.args.id.number) (λ e. cc)
 
-both : (g : Over) (c : goal.Joined-call g) → Went g.D.Disk.state c.args.slot (AddsBoth c.args.slot) (call.Read c.args.id.client c.args.id.number c.args.rules.now c.args.version c.args.pick.now c.args.from c.args.to) (reply_by (λ series. reply.Found series) c.read-said.result) c.args.trail.now c.answer.new.trail (record c.args.member.now { machine = c.read-said.new.self })
+both : (g : Over) (c : goal.After-drop-call g) → Went g.D.Disk.state c.args.slot (AddsBoth c.args.slot) (call.Read c.args.id.client c.args.id.number c.args.rules.now c.args.version c.args.pick.now c.args.from c.args.to) (reply_by (λ series. reply.Found series) c.read-said.result) c.args.trail.now c.answer.new.trail (record c.args.member.now { machine = c.read-said.new.self })
 both g c = went g.D.Disk.state c.args.slot c.args.trail.now c.ask.new.trail c.answer.new.trail c.args.member.now (record c.args.member.now { machine = c.read-said.new.self }) (call.Read c.args.id.client c.args.id.number c.args.rules.now c.args.version c.args.pick.now c.args.from c.args.to) c.read-call.result c.read-call.result (reply_by (λ series. reply.Found series) c.read-said.result) c.found_view-reply.result c.ask.ensures c.answer.ensures c.read-call.ensures c.read-call.ensures c.found_view-reply.ensures c.requires.is (c.read-said.ensures.step c.args.id.client c.args.id.number) refl
 
 pub returns-clause-is : goal.returns-clause-is

@@ -12,7 +12,7 @@ answer-requires-clause-answers g c κs lives =
     is_answer g.D.Disk.state c.args.slot c.args.trail.now c.ask.new.trail c.args.member.now c.snapshot-said.new.self call.Snapshot c.snapshot-call.result c.snapshot-call.result (reply_by (λ n. reply.Count n) c.snapshot-said.result) c.count_view-reply.result c.ask.ensures c.snapshot-call.ensures c.snapshot-call.ensures c.count_view-reply.ensures
     c.requires.opened tt c.requires.is c.snapshot-said.ensures.step (λ e. cc)
 
-both : (g : Over) (c : goal.Joined-call g) → Went g.D.Disk.state c.args.slot (AddsBoth c.args.slot) call.Snapshot (reply_by (λ n. reply.Count n) c.snapshot-said.result) c.args.trail.now c.answer.new.trail (record c.args.member.now { machine = c.snapshot-said.new.self })
+both : (g : Over) (c : goal.After-drop-call g) → Went g.D.Disk.state c.args.slot (AddsBoth c.args.slot) call.Snapshot (reply_by (λ n. reply.Count n) c.snapshot-said.result) c.args.trail.now c.answer.new.trail (record c.args.member.now { machine = c.snapshot-said.new.self })
 both g c = went g.D.Disk.state c.args.slot c.args.trail.now c.ask.new.trail c.answer.new.trail c.args.member.now (record c.args.member.now { machine = c.snapshot-said.new.self }) call.Snapshot c.snapshot-call.result c.snapshot-call.result (reply_by (λ n. reply.Count n) c.snapshot-said.result) c.count_view-reply.result c.ask.ensures c.answer.ensures c.snapshot-call.ensures c.snapshot-call.ensures c.count_view-reply.ensures c.requires.is c.snapshot-said.ensures.step refl
 
 pub returns-clause-is : goal.returns-clause-is

@@ -13,7 +13,7 @@ answer-requires-clause-answers g c κs lives =
     is_answer g.D.Disk.state c.args.slot c.args.trail.now c.ask.new.trail c.args.member.now c.stop.new.self call.Stop c.stop-call.result c.stop-call.result (reply_by (λ _. reply.Done) (Ok (tt {0}))) c.done-reply.result c.ask.ensures c.stop-call.ensures c.stop-call.ensures c.done-reply.ensures
     c.requires.opened tt c.requires.is c.stop.ensures.step (λ e. cc)
 
-both : (g : Over) (c : goal.Joined-call g) → Went g.D.Disk.state c.args.slot (AddsBoth c.args.slot) call.Stop (reply_by (λ _. reply.Done) (Ok (tt {0}))) c.args.trail.now c.answer.new.trail (record c.args.member.now { machine = c.stop.new.self })
+both : (g : Over) (c : goal.After-drop-call g) → Went g.D.Disk.state c.args.slot (AddsBoth c.args.slot) call.Stop (reply_by (λ _. reply.Done) (Ok (tt {0}))) c.args.trail.now c.answer.new.trail (record c.args.member.now { machine = c.stop.new.self })
 both g c = went g.D.Disk.state c.args.slot c.args.trail.now c.ask.new.trail c.answer.new.trail c.args.member.now (record c.args.member.now { machine = c.stop.new.self }) call.Stop c.stop-call.result c.stop-call.result (reply_by (λ _. reply.Done) (Ok (tt {0}))) c.done-reply.result c.ask.ensures c.answer.ensures c.stop-call.ensures c.stop-call.ensures c.done-reply.ensures c.requires.is c.stop.ensures.step refl
 
 pub returns-clause-is : goal.returns-clause-is
