@@ -248,17 +248,23 @@ fn refusal(alloc: Global, word: &str) -> Result<Answer, Memory> {
     }
 }
 
-fn print(alloc: Global, reply: &Reply) -> Result<Text, Memory> {
-    let place = place(alloc)?;
-    print_reply(alloc, reply, Some(&place))
+fn printed(alloc: Global, reply: &Reply, place: Option<&Placement>) -> Result<String, Fail> {
+    let mut text = Vec::new(alloc);
+    print_reply(alloc, &mut text, reply, place)?;
+    Ok(String::from_utf8(text)?)
 }
 
-fn print_service(alloc: Global, word: &str) -> Result<Text, Memory> {
+fn print(alloc: Global, reply: &Reply) -> Result<String, Fail> {
+    let place = place(alloc)?;
+    printed(alloc, reply, Some(&place))
+}
+
+fn print_service(alloc: Global, word: &str) -> Result<String, Fail> {
     let reply = Reply::One(service(alloc, word)?);
     print(alloc, &reply)
 }
 
-fn print_refusal(alloc: Global, word: &str) -> Result<Text, Memory> {
+fn print_refusal(alloc: Global, word: &str) -> Result<String, Fail> {
     let reply = Reply::One(refusal(alloc, word)?);
     print(alloc, &reply)
 }
@@ -330,13 +336,13 @@ fn prints_refusals(rt: HostRuntime) -> Result<(), Fail> {
 }
 
 // The replies of one client, where there is no placement yet.
-fn beside(alloc: Global) -> Result<Text, Memory> {
+fn beside(alloc: Global) -> Result<String, Fail> {
     let client = one(alloc, Answer::Later)?;
     let reply = Reply::Par {
         clients: one(alloc, client)?,
         workers: Seq::new(alloc),
     };
-    print_reply(alloc, &reply, None)
+    printed(alloc, &reply, None)
 }
 
 #[test]

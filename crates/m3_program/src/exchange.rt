@@ -22,9 +22,27 @@ fn is_blank(line: &[u8]) -> bool
         .all(|&b| (b == b' ' || b == b'\t') || b == b'\r')
 }
 
-// Appends the text of a reply and a newline, or nothing where memory is wanted.
+/// Memory that is used again for each line: to read it, and to put its reply together. Nothing in it goes from a line to the next.
+#[derive(Drop)]
+pub struct Workspace {
+    scratch: Scratch,
+    text: Vec<u8>,
+}
+
+impl Workspace {
+    pub fn new(alloc: Global) -> Workspace {
+        Workspace {
+            scratch: Scratch::new(alloc),
+            text: Vec::new(alloc),
+        }
+    }
+}
+
+// Appends the text of a reply and a newline, or nothing where memory is wanted. They are put together
+// beside, as the writer makes ready a multiple of what a vector holds.
 fn put_reply(
     alloc: Global,
+    work: &mut Workspace,
     replies: &mut Vec<u8>,
     reply: &Reply,
     place: Option<&Placement>,
@@ -33,32 +51,29 @@ fn put_reply(
     ensures err { OnErr result (replies.new.items ≡ replies.old.items) }
     ensures want { IfErr result (λ e. e ≡ lost.Memory) }
 {
-    let text = match print_reply(alloc, reply, place) {
-        Ok(text) => text,
-        Err(_) => return Err(Lost::Memory),
-    };
-    let len = replies.len();
-    match replies.extend_from_slice(text.as_str().as_bytes()) {
+    work.text.clear();
+    match print_reply(alloc, &mut work.text, reply, place) {
         Ok(()) => {}
         Err(_) => return Err(Lost::Memory),
     }
-    match replies.push(b'\n') {
+    match work.text.push(b'\n') {
+        Ok(()) => {}
+        Err(_) => return Err(Lost::Memory),
+    }
+    match replies.extend_from_slice(work.text.as_slice()) {
         Ok(()) => Ok(()),
-        Err(_) => {
-            replies.truncate(len);
-            Err(Lost::Memory)
-        }
+        Err(_) => Err(Lost::Memory),
     }
 }
 
-/// Serves a line, which has no newline, and appends what is to be written for it. The scratch is memory to read lines in.
+/// Serves a line, which has no newline, and appends what is to be written for it.
 ///
 /// # Errors
 ///
 /// The meta disk failed, or memory was wanted. Then nothing is appended, and the request may have been served.
 pub fn answer_line<X: Disks>(
     alloc: Global,
-    scratch: &mut Scratch,
+    work: &mut Workspace,
     cluster: &mut SavedCluster<X::D>,
     disks: &mut X,
     replies: &mut Vec<u8>,
@@ -78,16 +93,28 @@ pub fn answer_line<X: Disks>(
     if is_blank(line) {
         return Ok(());
     }
-    match read_line(alloc, scratch, line) {
+    match read_line(alloc, &mut work.scratch, line) {
         Ok(request) => match cluster.serve(alloc, disks, request) {
-            Ok(reply) => put_reply(alloc, replies, &reply, cluster.place()),
+            Ok(reply) => put_reply(alloc, work, replies, &reply, cluster.place()),
             Err(lost) => Err(lost),
         },
         Err(LineErr::Form) => {
-            put_reply(alloc, replies, &Reply::One(Answer::Form), cluster.place())
+            put_reply(
+                alloc,
+                work,
+                replies,
+                &Reply::One(Answer::Form),
+                cluster.place(),
+            )
         }
         Err(LineErr::Later) => {
-            put_reply(alloc, replies, &Reply::One(Answer::Later), cluster.place())
+            put_reply(
+                alloc,
+                work,
+                replies,
+                &Reply::One(Answer::Later),
+                cluster.place(),
+            )
         }
         Err(LineErr::Memory) => Err(Lost::Memory),
     }

@@ -7,10 +7,9 @@ ghost use Rattle.m3_program.specs.Streams.{NoNewline, TakesOn, Cuts, stage};
 ghost use Rattle.m3_program.specs.Writing.{Gathers, WritesUntil};
 ghost use Rattle.m3_program.specs.Causes.{EndsLine};
 
-use crate::exchange::answer_line;
+use crate::exchange::{Workspace, answer_line};
 use crate::output::{write_all, write_before_end, write_full};
 use crate::status::Status;
-use m3_json::of_json::Scratch;
 use m3_outside::{Disks, Sink};
 use memchr::memchr;
 use saved_cluster::{Lost, SavedCluster};
@@ -19,7 +18,7 @@ use std::alloc::Global;
 /// Takes the rest of a line, up to its newline, and appends what is to be written for it: `line` is what was taken of it before.
 fn serve_rest<X: Disks>(
     alloc: Global,
-    scratch: &mut Scratch,
+    work: &mut Workspace,
     cluster: &mut SavedCluster<X::D>,
     disks: &mut X,
     replies: &mut Vec<u8>,
@@ -39,13 +38,13 @@ fn serve_rest<X: Disks>(
     ensures meta { CountsFaults (IsErrOf result lost.Meta) (X.D.state cluster.old.meta).faults (X.D.state cluster.new.meta).faults }
 {
     if line.as_slice().is_empty() {
-        return answer_line(alloc, scratch, cluster, disks, replies, rest);
+        return answer_line(alloc, work, cluster, disks, replies, rest);
     }
     match line.extend_from_slice(rest) {
         Ok(()) => {}
         Err(_) => return Err(Lost::Memory),
     }
-    match answer_line(alloc, scratch, cluster, disks, replies, line.as_slice()) {
+    match answer_line(alloc, work, cluster, disks, replies, line.as_slice()) {
         Ok(()) => {
             line.clear();
             Ok(())
@@ -58,7 +57,7 @@ fn serve_rest<X: Disks>(
 /// and written whenever they have 65,536 bytes or more, and before it ends for another cause than the sink.
 fn serve_lines<K: Sink, X: Disks>(
     alloc: Global,
-    scratch: &mut Scratch,
+    work: &mut Workspace,
     cluster: &mut SavedCluster<X::D>,
     disks: &mut X,
     out: &mut K,
@@ -81,7 +80,7 @@ fn serve_lines<K: Sink, X: Disks>(
 {
     let mut rest = piece;
     while let Some(end) = memchr(b'\n', rest) {
-        match serve_rest(alloc, scratch, cluster, disks, replies, line, &rest[..end]) {
+        match serve_rest(alloc, work, cluster, disks, replies, line, &rest[..end]) {
             Ok(()) => {}
             Err(why) => return Err(write_before_end(out, replies.as_slice(), why)),
         }
@@ -100,7 +99,7 @@ fn serve_lines<K: Sink, X: Disks>(
 /// Takes a piece of the input as `serve_lines` does, and writes all replies to its lines.
 pub fn serve_piece<K: Sink, X: Disks>(
     alloc: Global,
-    scratch: &mut Scratch,
+    work: &mut Workspace,
     cluster: &mut SavedCluster<X::D>,
     disks: &mut X,
     out: &mut K,
@@ -120,16 +119,7 @@ pub fn serve_piece<K: Sink, X: Disks>(
     ensures cause { IfErr result (λ s. EndsLine s (K.faulted out.old) (K.faulted out.new) (K.stalled out.old) (K.stalled out.new) (X.D.state cluster.old.meta).faults (X.D.state cluster.new.meta).faults) }
 {
     let mut replies = Vec::new(alloc);
-    match serve_lines(
-        alloc,
-        scratch,
-        cluster,
-        disks,
-        out,
-        &mut replies,
-        line,
-        piece,
-    ) {
+    match serve_lines(alloc, work, cluster, disks, out, &mut replies, line, piece) {
         Ok(()) => write_all(out, replies.as_slice()),
         Err(status) => Err(status),
     }

@@ -15,13 +15,12 @@ ghost use Rattle.m3_program.specs.Runs.{Runs};
 ghost use Rattle.m3_program.specs.Scripts.{Generates};
 ghost use Rattle.m3_program.specs.declared.status.Status.TheVariants as status;
 
-use crate::exchange::answer_line;
+use crate::exchange::{Workspace, answer_line};
 use crate::input::serve_piece;
 use crate::output::write_all;
 use crate::script::generate;
 use crate::status::Status;
 use command_words::{Task, WordsErr, task_of};
-use m3_json::of_json::Scratch;
 use m3_model::limits::INPUT_END;
 use m3_outside::{Disks, Sink, Source};
 use saved_cluster::SavedCluster;
@@ -33,7 +32,7 @@ const PIECE: usize = 65536;
 /// Takes what one read gives, and writes the replies to the lines that it ends; 0 is the end of the input.
 fn serve_read<S: Source, K: Sink, X: Disks>(
     alloc: Global,
-    scratch: &mut Scratch,
+    work: &mut Workspace,
     cluster: &mut SavedCluster<X::D>,
     disks: &mut X,
     line: &mut Vec<u8>,
@@ -61,7 +60,7 @@ fn serve_read<S: Source, K: Sink, X: Disks>(
 {
     match source.read(buf) {
         Err(_) => Err(Status::ReadFault),
-        Ok(count) => match serve_piece(alloc, scratch, cluster, disks, out, line, &buf[..count]) {
+        Ok(count) => match serve_piece(alloc, work, cluster, disks, out, line, &buf[..count]) {
             Ok(()) => Ok(count),
             Err(status) => Err(status),
         },
@@ -71,7 +70,7 @@ fn serve_read<S: Source, K: Sink, X: Disks>(
 /// Takes a last line without a newline, and writes its reply.
 fn serve_last<K: Sink, X: Disks>(
     alloc: Global,
-    scratch: &mut Scratch,
+    work: &mut Workspace,
     cluster: &mut SavedCluster<X::D>,
     disks: &mut X,
     out: &mut K,
@@ -92,7 +91,7 @@ fn serve_last<K: Sink, X: Disks>(
         return Ok(());
     }
     let mut replies = Vec::new(alloc);
-    match answer_line(alloc, scratch, cluster, disks, &mut replies, line) {
+    match answer_line(alloc, work, cluster, disks, &mut replies, line) {
         Ok(()) => write_all(out, replies.as_slice()),
         Err(why) => Err(Status::of_lost(why)),
     }
@@ -127,7 +126,7 @@ fn serve_all<S: Source, K: Sink, X: Disks>(
     ensures later { (X.D.state cluster.old.meta).faults ≤ (X.D.state cluster.new.meta).faults }
     ensures cause { EndsReading result (S.faulted source.old) (S.faulted source.new) (K.faulted out.old) (K.faulted out.new) (K.stalled out.old) (K.stalled out.new) (X.D.state cluster.old.meta).faults (X.D.state cluster.new.meta).faults }
 {
-    let mut scratch = Scratch::new(alloc);
+    let mut work = Workspace::new(alloc);
     let mut line = Vec::new(alloc);
     let mut buf = [0u8; PIECE];
     let mut taken: u64 = 0;
@@ -135,7 +134,7 @@ fn serve_all<S: Source, K: Sink, X: Disks>(
         let room = room_after(taken);
         match serve_read(
             alloc,
-            &mut scratch,
+            &mut work,
             cluster,
             disks,
             &mut line,
@@ -145,7 +144,7 @@ fn serve_all<S: Source, K: Sink, X: Disks>(
         ) {
             Err(status) => return status,
             Ok(0) => {
-                return match serve_last(alloc, &mut scratch, cluster, disks, out, line.as_slice()) {
+                return match serve_last(alloc, &mut work, cluster, disks, out, line.as_slice()) {
                     Ok(()) => Status::Done,
                     Err(status) => status,
                 };

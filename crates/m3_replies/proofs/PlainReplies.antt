@@ -1,8 +1,9 @@
 -- Replies have no float, and nest at most eight deep.
-use Rattle.std.proofs.Common.{◌≡◌, ◌≤◌, ℕ, ℤ, suc, ap, ◌∙◌, Bool, true, false, List, [], ◌∷◌, arith}
+use Rattle.std.proofs.Common.{◌≡◌, ◌≤◌, ℕ, ℤ, suc, ap, subst, Bool, true, false, List, [], ◌∷◌, arith}
 use Rattle.std.specs.Prelude.{Option, Some, None, filter}
 use Rattle.serde_json.specs.Data.{Data, boolean, string, depth}
-use Rattle.serde_json.specs.Read.{max_depth}
+use Rattle.serde_json.specs.Read.{read, max_depth}
+use Rattle.serde_json.specs.Written.{compact_text}
 use Rattle.m3_model.specs.declared.answer.Answer.{Answer}
 use Rattle.m3_model.specs.declared.answer.Answer.TheVariants as answer
 use Rattle.m3_model.specs.declared.answer.RepairLine.{RepairLine}
@@ -183,6 +184,6 @@ reply_plain instances (reply.Par clients workers) =
     (field_plain (plain_list 6 (list_of (answer_data instances)) (answers_plain instances) clients)
     (field_plain (plain_flag 7 true) (field_plain (plain_list 6 (list_of (answer_data instances)) (answers_plain instances) workers) (no_fields_plain 7))))
 
--- what reads as a reply's JSON where that isn't too deep reads so
-pub shallow_read : (instances : List Instance) (r : Reply) (d : Data) (o : Option Data) → (depth d ≤ max_depth → o ≡ Some d) → d ≡ reply_data instances r → o ≡ Some (reply_data instances r)
-shallow_read instances r d o told same = told (omega (arith, ap depth same, (reply_plain instances r).shallow)) ∙ ap Some same
+-- a reply's compact text reads as its JSON where one that isn't too deep does
+pub shallow_read : (instances : List Instance) (r : Reply) (d : Data) → (depth d ≤ max_depth → read (compact_text d) ≡ Some d) → d ≡ reply_data instances r → read (compact_text (reply_data instances r)) ≡ Some (reply_data instances r)
+shallow_read instances r d told same = subst (λ e. read (compact_text e) ≡ Some e) same (told (omega (arith, ap depth same, (reply_plain instances r).shallow)))

@@ -1,4 +1,4 @@
-ghost use Rattle.std.specs.Prelude.{◌≡◌, IfOk, Some, string_bytes};
+ghost use Rattle.std.specs.Prelude.{◌≡◌, ◌++◌, IfOk, OnOk, OnErr, Some, string_bytes};
 ghost use Rattle.std.specs.Option.{option_copied};
 ghost use Rattle.serde_json.specs.Read.{read};
 ghost use Rattle.serde_json.specs.View.{view};
@@ -12,9 +12,9 @@ use crate::success::{
     acks_value, available_value, found_value, outcomes_value, placed_value, repaired_value,
     status_value, swept_value,
 };
-use m3_model::{Answer, Instance, Memory, Placement, Reply, Seq, Text};
+use m3_model::{Answer, Instance, Memory, Placement, Reply, Seq};
 use reply_items::instances_of;
-use reply_texts::{acks_text, found_text};
+use reply_texts::{acks_into, found_into};
 use reply_values::{
     clock_value, corrupt_value, group_value, limit_value, plain_value, put_bool, put_value,
     replica_value, state_value, unknown_value,
@@ -151,28 +151,54 @@ fn built_text(alloc: Global, instances: &[Instance], reply: &Reply) -> Result<St
     value.to_string(alloc)
 }
 
+fn built_into(
+    alloc: Global,
+    text: &mut Vec<u8>,
+    instances: &[Instance],
+    reply: &Reply,
+) -> Result<(), AllocError>
+    ensures text { OnOk result (text.new.items ≡ text.old.items ++ compact_text (reply_data instances.now reply.now)) }
+    ensures nothing { OnErr result (text.new.items ≡ text.old.items) }
+    ensures reads_back { OnOk result (read (compact_text (reply_data instances.now reply.now)) ≡ Some (reply_data instances.now reply.now)) }
+{
+    let built = built_text(alloc, instances, reply)?;
+    text.extend_from_slice(built.as_str().as_bytes())
+}
+
 // What most replies are is written at once; of another one a value is built first.
-fn text_of(alloc: Global, instances: &[Instance], reply: &Reply) -> Result<String, AllocError>
-    ensures text { IfOk result (λ text. string_bytes text ≡ compact_text (reply_data instances.now reply.now)) }
-    ensures reads_back { IfOk result (λ text. read (string_bytes text) ≡ Some (reply_data instances.now reply.now)) }
+fn text_into(
+    alloc: Global,
+    text: &mut Vec<u8>,
+    instances: &[Instance],
+    reply: &Reply,
+) -> Result<(), AllocError>
+    ensures text { OnOk result (text.new.items ≡ text.old.items ++ compact_text (reply_data instances.now reply.now)) }
+    ensures nothing { OnErr result (text.new.items ≡ text.old.items) }
+    ensures reads_back { OnOk result (read (compact_text (reply_data instances.now reply.now)) ≡ Some (reply_data instances.now reply.now)) }
 {
     match reply {
-        Reply::One(Answer::Acks { acks }) => acks_text(alloc, instances, acks.as_slice()),
+        Reply::One(Answer::Acks { acks }) => acks_into(alloc, text, instances, acks.as_slice()),
         Reply::One(Answer::Found { series, short }) => {
-            found_text(alloc, instances, series.as_slice(), *short)
+            found_into(alloc, text, instances, series.as_slice(), *short)
         }
-        _ => built_text(alloc, instances, reply),
+        _ => built_into(alloc, text, instances, reply),
     }
 }
 
-/// The line of a reply: compact JSON with its keys in ascending order, and no newline.
+/// Appends the line of a reply: compact JSON with its keys in ascending order, and no newline.
 ///
 /// Nodes that the reply has as numbers get their names from the placement's instances, and empty
-/// names where there is none. Only want of memory is an error.
-pub fn print_reply(alloc: Global, reply: &Reply, place: Option<&Placement>) -> Result<Text, Memory>
-    ensures text { IfOk result (λ text. text ≡ reply_text (option_copied place.entry) reply.now) }
-    ensures reads_back { IfOk result (λ text. read text ≡ Some (reply_data (instances_of (option_copied place.entry)) reply.now)) }
+/// names where there is none. Only want of memory is an error, and then nothing is appended.
+pub fn print_reply(
+    alloc: Global,
+    text: &mut Vec<u8>,
+    reply: &Reply,
+    place: Option<&Placement>,
+) -> Result<(), Memory>
+    ensures text { OnOk result (text.new.items ≡ text.old.items ++ reply_text (option_copied place.entry) reply.now) }
+    ensures nothing { OnErr result (text.new.items ≡ text.old.items) }
+    ensures reads_back { OnOk result (read (reply_text (option_copied place.entry) reply.now) ≡ Some (reply_data (instances_of (option_copied place.entry)) reply.now)) }
 {
-    let text = text_of(alloc, instances_of(place), reply)?;
-    Ok(Text::from_string(text))
+    text_into(alloc, text, instances_of(place), reply)?;
+    Ok(())
 }

@@ -5,4 +5,4 @@ mod items;
 pub mod texts;
 mod tokens;
 
-pub use texts::{acks_text, found_text};
+pub use texts::{acks_into, found_into};

@@ -1,5 +1,5 @@
 //! The texts of replies to writes and to reads: compact JSON with its keys in ascending order, and no newline.
-ghost use Rattle.std.specs.Prelude.{◌≡◌, ◌≤◌, ◌++◌, [], Some, IfOk, OnOk, string_bytes};
+ghost use Rattle.std.specs.Prelude.{◌≡◌, ◌≤◌, ◌++◌, [], length, Some, OnOk, OnErr};
 ghost use Rattle.json.specs.Lex.{tokens};
 ghost use Rattle.json.specs.Print.{print};
 ghost use Rattle.serde_json.specs.Data.{depth};
@@ -13,18 +13,7 @@ use crate::tokens::{put_list, write_flag};
 use json::Writer;
 use m3_model::{Instance, Series};
 use std::alloc::{AllocError, Global};
-
-// Room for a reply to a write, or for one to a read that has no series.
-const ROOM: usize = 128;
-
-// Room for a series of few points.
-const SERIES_ROOM: usize = 64;
-
-// Of so many series the room is taken at once.
-const FIRST_SERIES: usize = 64;
-
-// Bytes of one point.
-const POINT_ROOM: usize = 24;
+use std::mem;
 
 fn write_acks(acks: &[u8], instances: &[Instance], out: &mut Writer) -> Result<(), AllocError>
     ensures tokens { OnOk result (out.new.tokens ≡ out.old.tokens ++ tokens_of (object_of (acks_fields instances.now acks.now))) }
@@ -54,46 +43,76 @@ fn write_found(
     out.end_object()
 }
 
-fn text_of(out: Writer) -> String
-    requires whole { out.before ≡ [] }
-    ensures text { string_bytes result ≡ print out.tokens }
-    ensures tokens { tokens (string_bytes result) ≡ out.tokens }
+// Writes on behind what `text` holds, which is taken out of it meanwhile.
+fn begun(alloc: Global, text: &mut Vec<u8>) -> Writer
+    ensures before { result.before ≡ text.old.items }
+    ensures tokens { result.tokens ≡ [] }
 {
-    String::from_utf8(out.into_inner()).unwrap()
+    Writer::new(mem::replace(text, Vec::new(alloc)))
 }
 
-/// These nodes took a write.
-pub fn acks_text(alloc: Global, instances: &[Instance], acks: &[u8]) -> Result<String, AllocError>
-    ensures text { IfOk result (λ text. string_bytes text ≡ compact_text (object_of (acks_fields instances.now acks.now))) }
-    ensures reads_back { IfOk result (λ text. depth (object_of (acks_fields instances.now acks.now)) ≤ max_depth → read (string_bytes text) ≡ Some (object_of (acks_fields instances.now acks.now))) }
+// Gives back what was written, or only the bytes of before where memory was wanted.
+fn ended(
+    text: &mut Vec<u8>,
+    len: usize,
+    out: Writer,
+    written: Result<(), AllocError>,
+) -> Result<(), AllocError>
+    requires front { len ≡ length out.before }
+    ensures ok { OnOk result (text.new.items ≡ out.before ++ print out.tokens) }
+    ensures err { OnErr result (text.new.items ≡ out.before) }
+    ensures reads { tokens (print out.tokens) ≡ out.tokens }
+    ensures same { result ≡ written }
 {
-    let mut out = Writer::new(Vec::with_capacity(alloc, ROOM)?);
-    write_acks(acks, instances, &mut out)?;
-    Ok(text_of(out))
+    drop(mem::replace(text, out.into_inner()));
+    match written {
+        Ok(()) => Ok(()),
+        Err(error) => {
+            text.truncate(len);
+            Err(error)
+        }
+    }
 }
 
-// Room for a reply to a read of these series, if they are few and short.
-fn room_for(series: &[Series]) -> usize
-    ensures { ROOM ≤ result }
-{
-    let points = match series.first() {
-        Some(first) => first.points.len().min(FIRST_SERIES),
-        None => 0,
-    };
-    ROOM + (SERIES_ROOM + POINT_ROOM * points) * series.len().min(FIRST_SERIES)
-}
-
-/// These series were read.
-pub fn found_text(
+/// Appends the text of a reply: these nodes took a write.
+///
+/// # Errors
+///
+/// Memory was wanted, and nothing is appended.
+pub fn acks_into(
     alloc: Global,
+    text: &mut Vec<u8>,
+    instances: &[Instance],
+    acks: &[u8],
+) -> Result<(), AllocError>
+    ensures text { OnOk result (text.new.items ≡ text.old.items ++ compact_text (object_of (acks_fields instances.now acks.now))) }
+    ensures nothing { OnErr result (text.new.items ≡ text.old.items) }
+    ensures reads_back { OnOk result (depth (object_of (acks_fields instances.now acks.now)) ≤ max_depth → read (compact_text (object_of (acks_fields instances.now acks.now))) ≡ Some (object_of (acks_fields instances.now acks.now))) }
+{
+    let len = text.len();
+    let mut out = begun(alloc, text);
+    let written = write_acks(acks, instances, &mut out);
+    ended(text, len, out, written)
+}
+
+/// Appends the text of a reply: these series were read.
+///
+/// # Errors
+///
+/// Memory was wanted, and nothing is appended.
+pub fn found_into(
+    alloc: Global,
+    text: &mut Vec<u8>,
     instances: &[Instance],
     series: &[Series],
     short: bool,
-) -> Result<String, AllocError>
-    ensures text { IfOk result (λ text. string_bytes text ≡ compact_text (object_of (found_fields series.now short))) }
-    ensures reads_back { IfOk result (λ text. depth (object_of (found_fields series.now short)) ≤ max_depth → read (string_bytes text) ≡ Some (object_of (found_fields series.now short))) }
+) -> Result<(), AllocError>
+    ensures text { OnOk result (text.new.items ≡ text.old.items ++ compact_text (object_of (found_fields series.now short))) }
+    ensures nothing { OnErr result (text.new.items ≡ text.old.items) }
+    ensures reads_back { OnOk result (depth (object_of (found_fields series.now short)) ≤ max_depth → read (compact_text (object_of (found_fields series.now short))) ≡ Some (object_of (found_fields series.now short))) }
 {
-    let mut out = Writer::new(Vec::with_capacity(alloc, room_for(series))?);
-    write_found(series, short, instances, &mut out)?;
-    Ok(text_of(out))
+    let len = text.len();
+    let mut out = begun(alloc, text);
+    let written = write_found(series, short, instances, &mut out);
+    ended(text, len, out, written)
 }
