@@ -10,12 +10,11 @@ ghost use Rattle.node_calls.specs.Nodes.{MayBoot};
 ghost use Rattle.node_calls.specs.cluster_members.Kept.{PastServes};
 ghost use Rattle.node_calls.specs.session_net.Ready.{IsReady};
 ghost use Rattle.cluster_placements.specs.Steps.{MayChange};
-ghost use Rattle.cluster_joins.specs.Boots.{IsBooted, IsBooting, MayBeLeft};
+ghost use Rattle.cluster_joins.specs.Boots.{IsBooting, MayBeLeft};
 ghost use Rattle.cluster_joins.specs.Marks.{done_of};
 ghost use Rattle.cluster_joins.specs.Opened.{HasRoomFor, IsUnmoved, MayMark, ended_answer};
 
 use crate::marking::{Booting, Marking};
-use crate::marks::{end_sources, mark};
 use crate::parts::marking_of;
 use m3_model::limits::MOST_VERSIONS;
 use m3_model::{Answer, Duplicate, Placement, Reason, Seq, Text};
@@ -149,7 +148,14 @@ fn open_running<D: Disk>(
 /// Has the replicas of a node that runs begin, each with the tenure that the placement gives it: all, or that of one shard. Each that joins its
 /// shard is joined: its former replicas stream to it, by name, behind their fences, until a majority streamed whole. Where some were joined, they are to be
 /// marked by `mark`, and all that this takes is in what is handed on; the list has no Place yet. Then `end_sources` answers the line. Else it is answered
-/// here: with the placement that stands, or with a refusal, as `bootstrap` has them. Where the marking is given up, the line may be answered `Memory`.
+/// here: with the placement that stands, or with a refusal. Where the marking is given up, the line may be answered `Memory`.
+///
+/// Refused: `Unknown` where no node has the name or there is no such shard, and `State` where the node is stopped; nothing changes then. `Disk`, `Corrupt` and
+/// want of memory end it at a replica of the node, `Peers` at a shard of which fewer than a majority of the former replicas streamed whole, each of
+/// the others with its reason, and `Full` where the list of events lacks room for what comes next; `Limit` comes at its end, where as many versions are
+/// kept as may be. Nothing is marked then, and what was done until then stays: replicas are open, and what was merged stays merged.
+///
+/// See M3DB's page "Bootstrapping".
 pub fn open_node<D: Disk>(
     members: &mut Members<D>,
     alloc: Global,
@@ -177,33 +183,4 @@ pub fn open_node<D: Disk>(
         return Booting::Answered(Answer::State { node: name });
     }
     open_running(members, alloc, name, node as u8, asked)
-}
-
-/// Serves the line of a `bootstrap`: opens the replicas of the node, as `open_node` does. All shards that were joined then turn available in one
-/// step, each answered with the former replicas that streamed whole, and the tenures of the nodes end from which the node takes over.
-///
-/// Refused: `Unknown` where no node has the name or there is no such shard, and `State` where the node is stopped; nothing changes then. `Disk`, `Corrupt` and
-/// want of memory end it at a replica of the node, `Peers` at a shard of which fewer than a majority of the former replicas streamed whole, each of
-/// the others with its reason, and `Full` where the list of events lacks room for what comes next; `Limit` comes at its end, where as many versions are
-/// kept as may be. Nothing is marked then, and what was done until then stays: replicas are open, and what was merged stays merged.
-///
-/// See M3DB's page "Bootstrapping".
-pub fn bootstrap<D: Disk>(
-    members: &mut Members<D>,
-    alloc: Global,
-    name: Text,
-    asked: Option<u32>,
-) -> Answer
-    requires ready { IsReady members.old.net.state members.old.net.replicas members.old.net.bag }
-    requires serves { PastServes members.old }
-    ensures booted { IsBooted D.state members.old name asked result members.new }
-    ensures still { (held : DiskSlot → Held D) → MayChange members.old held → MayChange members.new held }
-{
-    match open_node(members, alloc, name, asked) {
-        Booting::Answered(answer) => answer,
-        Booting::Joined(marking) => {
-            let marked = mark(members, marking);
-            end_sources(members, marked)
-        }
-    }
 }

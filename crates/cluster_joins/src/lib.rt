@@ -8,6 +8,6 @@ pub mod marking;
 pub mod marks;
 mod parts;
 
-pub use boots::{bootstrap, open_node};
+pub use boots::open_node;
 pub use marking::{Booting, Marked, Marking};
 pub use marks::{end_sources, mark};

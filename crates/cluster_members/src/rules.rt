@@ -2,7 +2,7 @@
 ghost use Rattle.std.specs.Prelude.{◌≡◌, ◌<◌, IfOk, IfErr};
 ghost use Rattle.m3_model.specs.declared.limits.TheConstants.{TIME_END};
 ghost use Rattle.session_writes.specs.session_net.Ready.{IsReady};
-ghost use Rattle.cluster_members.specs.Steps.{IsMoved, IsSpaceAdded, SetsRules, at_moment, with_space, IsMovePlanned, IsSpacePlanned, MaySetRules, RefusesMove, RefusesSpace};
+ghost use Rattle.cluster_members.specs.Steps.{SetsRules, at_moment, with_space, IsMovePlanned, IsSpacePlanned, MaySetRules, RefusesMove, RefusesSpace};
 
 use crate::clock::tick;
 use crate::members::Members;
@@ -40,7 +40,8 @@ impl<D: Disk> Members<D> {
     ///
     /// # Errors
     ///
-    /// The answer, as `name_space` gives it.
+    /// The answer. `Order` says that its name is there, and `Limit` that there are as many as may be; then `Full` that the list has no
+    /// room, and `Memory` that memory was wanted.
     pub fn plan_space(&self, alloc: Global, space: Space) -> Result<Rules, Answer>
         requires sized { 0 < space.block }
         requires ready { IsReady self.now.net.state self.now.net.replicas self.now.net.bag }
@@ -69,7 +70,7 @@ impl<D: Disk> Members<D> {
     ///
     /// # Errors
     ///
-    /// The answer, as `set_moment` gives it.
+    /// The answer. `Clock` says that the moment would fall; then `Full` that the list has no room, and `Memory` that memory was wanted.
     pub fn plan_moment(&self, alloc: Global, now: u64) -> Result<Rules, Answer>
         requires time { now < TIME_END }
         requires ready { IsReady self.now.net.state self.now.net.replicas self.now.net.bag }
@@ -98,42 +99,5 @@ impl<D: Disk> Members<D> {
     {
         tick(&mut self.net.replicas, &rules);
         drop(replace(&mut self.net.state.rules, rules));
-    }
-
-    /// Makes a namespace, whose blocks have at least the size 1, by a Clock of the list. `Order` says that its name is there, and
-    /// `Limit` that there are as many as may be; then `Full` that the list has no room, and `Memory` that memory was wanted. Nothing
-    /// changes in these.
-    pub fn name_space(&mut self, alloc: Global, space: Space) -> Answer
-        requires sized { 0 < space.block }
-        requires ready { IsReady self.old.net.state self.old.net.replicas self.old.net.bag }
-        ensures ready { IsReady self.new.net.state self.new.net.replicas self.new.net.bag }
-        ensures past { self.new.past.items ≡ self.old.past.items }
-        ensures named { IsSpaceAdded D.state self.old space result self.new }
-    {
-        match self.plan_space(alloc, space) {
-            Ok(rules) => {
-                self.set_rules(rules);
-                Answer::Done
-            }
-            Err(refused) => refused,
-        }
-    }
-
-    /// Moves the moment on, by a Clock of the list. `Clock` says that it would fall; then `Full` that the list has no room,
-    /// and `Memory` that memory was wanted. Nothing changes in these.
-    pub fn set_moment(&mut self, alloc: Global, now: u64) -> Answer
-        requires time { now < TIME_END }
-        requires ready { IsReady self.old.net.state self.old.net.replicas self.old.net.bag }
-        ensures ready { IsReady self.new.net.state self.new.net.replicas self.new.net.bag }
-        ensures past { self.new.past.items ≡ self.old.past.items }
-        ensures moved { IsMoved D.state self.old now result self.new }
-    {
-        match self.plan_moment(alloc, now) {
-            Ok(rules) => {
-                self.set_rules(rules);
-                Answer::Done
-            }
-            Err(refused) => refused,
-        }
     }
 }

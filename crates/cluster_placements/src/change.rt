@@ -1,6 +1,5 @@
 //! Lines that make a placement.
 ghost use Rattle.std.specs.Prelude.{◌≡◌, ◌<◌, ◌+◌, ◌*◌, true, length};
-ghost use Rattle.m3_model.specs.Limits.{MeetsLimits};
 ghost use Rattle.m3_model.specs.declared.act.Act.{Act as Line};
 ghost use Rattle.placement_acts.specs.Acts.{is_step_act};
 ghost use Rattle.node_calls.specs.replica_exchange.MachineCalls.{HasRoom};
@@ -10,9 +9,9 @@ ghost use Rattle.cluster_placements.specs.Steps.{IsChange, IsChanged, IsMade, Is
 
 use crate::events::{end_all, place};
 use crate::lending::gain;
-use crate::plan::{Change, plan_change};
+use crate::plan::Change;
 use crate::untaken::Untaken;
-use m3_model::{Act, Answer, Duplicate, Placement};
+use m3_model::{Answer, Duplicate, Placement};
 use m3_outside::{Disk, Disks};
 use node_calls::of_cluster_members::Members;
 use node_calls::of_replica_exchange::Slot;
@@ -61,11 +60,14 @@ fn make<D: Disk>(members: &mut Members<D>, change: Change) -> Answer
     }
 }
 
-/// Makes what was planned for a line of this cluster, which is as it was then, as `change_placement` does. That the placement stands then is
-/// answered with it and its version.
+/// Makes what was planned for the line of an `add`, `drain`, `cancel`, `remove` or `replace` of this cluster, which is as it was then: the placement
+/// stands, with a replica at Boot over the disk of each slot that had none, the tenures of replicas that it takes away are ended, and it is
+/// answered with its version. The placement before it is kept. Nodes that are stopped stay so, also one that is named again.
 ///
 /// Refused: `Full` where the list has no room for the placement and the ends of tenures; `Disk` with the node and the shard whose disk couldn't
 /// be taken; or want of memory. The cluster is then as it was, and each disk that was taken for the line is given back as it was.
+///
+/// See M3DB's page "Placement".
 pub fn make_change<D: Disk, X: Disks<D = D>>(
     members: &mut Members<D>,
     alloc: Global,
@@ -97,32 +99,5 @@ pub fn make_change<D: Disk, X: Disks<D = D>>(
         Ok(()) => make(members, change),
         Err(Untaken::Disk(slot)) => untaken(alloc, &change.next, slot),
         Err(Untaken::Memory) => Answer::Memory,
-    }
-}
-
-/// Serves the line of an `add`, `drain`, `cancel`, `remove` or `replace`: the placement that the planning rules lead to stands
-/// then, with a replica at Boot over the disk of each slot that had none, the tenures of replicas that it takes away are ended, and it is
-/// answered with its version. The placement before it is kept. Nodes that are stopped stay so, also one that is named again.
-///
-/// Refused: as the planning rules say; `Full` where the list has no room for the placement and the ends of tenures; `Disk` with the node
-/// and the shard whose disk couldn't be taken; or want of memory. The cluster is then as it was, and each disk that was taken for the line
-/// is given back as it was.
-///
-/// See M3DB's page "Placement".
-pub fn change_placement<D: Disk, X: Disks<D = D>>(
-    members: &mut Members<D>,
-    alloc: Global,
-    disks: &mut X,
-    act: &Act,
-) -> Answer
-    requires step { is_step_act act.now ≡ true }
-    requires limits { MeetsLimits act.now }
-    requires may { MayChange members.old (X.held disks.old) }
-    ensures may { MayChange members.new (X.held disks.new) }
-    ensures changed { IsChanged D.state (kept_in members.old) act.now (depot_by X.held X.counted X.all_faults disks.old) members.old result (depot_by X.held X.counted X.all_faults disks.new) members.new }
-{
-    match plan_change(members, alloc, act) {
-        Ok(change) => make_change(members, alloc, disks, change),
-        Err(refused) => refused,
     }
 }

@@ -9,7 +9,7 @@ pub mod plan;
 pub mod slots;
 pub mod untaken;
 
-pub use change::{change_placement, make_change};
+pub use change::make_change;
 pub use events::end_all;
 pub use flags::with_nodes;
 pub use lending::gain;

@@ -1,6 +1,6 @@
-//! What a cluster answers to words.
+//! What a cluster answers to words, opened over the disks of a run; and its members.
 #![tactic(auto)]
 
 pub mod runs;
 
-pub use runs::run;
+pub use runs::{members_after, run, tell_word};

@@ -1,85 +1,118 @@
 //! Words that a cluster serves, with what it answers.
-ghost use Rattle.std.specs.Prelude.{◌≢◌};
+ghost use Rattle.std.specs.Prelude.{◌≡◌, ◌≢◌, true, IfOk};
+ghost use Rattle.cluster_members.specs.session_net.Ready.{IsReady};
 ghost use Rattle.m3_outside.specs.Slots.{Out};
-ghost use Rattle.m3_outside.specs.declared.slot.DiskSlot.{DiskSlot};
-ghost use Rattle.line_tracks.specs.first_cluster.Depots.{IsForReplicas};
-ghost use Rattle.served_cluster.specs.Owned.{MayServeCluster};
+ghost use Rattle.m3_outside.specs.declared.slot.DiskSlot.{DiskSlot as AtSlot};
+ghost use Rattle.saved_cluster.specs.Saved.{MayClose, MayServeSaved};
 
+use cluster_members::Members;
 use cluster_words::{act_of, spell_placement, spell_reply};
-use m3_model::{Memory, Reply, Request};
-use m3_outside::{Disk, Disks};
+use m3_model::{Memory, Placement, Request};
+use m3_outside::Disks;
+use saved_cluster::SavedCluster;
 use served_cluster::Cluster;
 use std::alloc::Global;
 
-fn answered<X: Disks>(
-    alloc: Global,
-    cluster: &mut Cluster<X::D>,
-    disks: &mut X,
-    word: &str,
-) -> Result<Reply, Memory>
-    requires owned { MayServeCluster cluster.old (X.held disks.old) }
-    ensures owned { MayServeCluster cluster.new (X.held disks.new) }
-{
-    let act = act_of(alloc, word)?;
-    Ok(cluster.serve(alloc, disks, Request::One(act)))
-}
-
-fn spell_place<D: Disk>(cluster: &Cluster<D>, out: &mut String) -> Result<(), Memory> {
-    match cluster.place() {
+fn spell_place(place: Option<&Placement>, out: &mut String) -> Result<(), Memory> {
+    match place {
         Some(place) => spell_placement(out, place),
         None => Ok(out.push_str("none")?),
     }
 }
 
-// The answer to a word, with a colon. For `p` it is the placement that stands.
-fn tell_word<X: Disks>(
+/// The answer to a word, with a colon, and whether the run goes on. For `p` it is the placement that stands; a run that ends says why.
+pub fn tell_word<X: Disks>(
     alloc: Global,
-    cluster: &mut Cluster<X::D>,
+    cluster: &mut SavedCluster<X::D>,
     disks: &mut X,
     word: &str,
     out: &mut String,
-) -> Result<(), Memory>
-    requires owned { MayServeCluster cluster.old (X.held disks.old) }
-    ensures owned { MayServeCluster cluster.new (X.held disks.new) }
+) -> Result<bool, Memory>
+    requires may { MayServeSaved X.D.state cluster.old (X.held disks.old) }
+    ensures may { IfOk result (λ on. on ≡ true → MayServeSaved X.D.state cluster.new (X.held disks.new)) }
+    ensures close { MayClose cluster.new (X.held disks.new) }
 {
     if word == "p" {
-        spell_place(cluster, out)?;
-    } else {
-        let reply = answered(alloc, cluster, disks, word)?;
-        spell_reply(out, &reply)?;
+        spell_place(cluster.place(), out)?;
+        out.push(':')?;
+        return Ok(true);
     }
-    Ok(out.push(':')?)
+    let act = act_of(alloc, word)?;
+    match cluster.serve(alloc, disks, Request::One(act)) {
+        Ok(reply) => {
+            spell_reply(out, &reply)?;
+            out.push(':')?;
+            Ok(true)
+        }
+        Err(lost) => {
+            write!(out, "{lost}")?;
+            Ok(false)
+        }
+    }
 }
 
-// The answers to words.
+// The answers to words, as far as the run goes.
 fn tell<X: Disks>(
     alloc: Global,
-    cluster: &mut Cluster<X::D>,
+    cluster: &mut SavedCluster<X::D>,
     disks: &mut X,
     words: &str,
     out: &mut String,
 ) -> Result<(), Memory>
-    requires owned { MayServeCluster cluster.old (X.held disks.old) }
-    ensures owned { MayServeCluster cluster.new (X.held disks.new) }
+    requires may { MayServeSaved X.D.state cluster.old (X.held disks.old) }
+    ensures close { MayClose cluster.new (X.held disks.new) }
 {
     for word in words.split(' ') {
-        tell_word(alloc, cluster, disks, word, out)?;
+        if !tell_word(alloc, cluster, disks, word, out)? {
+            return Ok(());
+        }
     }
     Ok(())
 }
 
-/// What a new cluster over these disks answers to words, each answer ended by a colon. The disks of replicas, which alone it takes, are given back.
+/// What a cluster opened over these disks answers to words, each answer ended by a colon; or why it couldn't be opened. The disks are
+/// given back.
 pub fn run<X: Disks>(
     alloc: Global,
     disks: &mut X,
     words: &str,
     out: &mut String,
 ) -> Result<(), Memory>
-    requires free { (slot : DiskSlot) → IsForReplicas slot → X.held disks.old slot ≢ Out }
-    ensures free { (slot : DiskSlot) → IsForReplicas slot → X.held disks.new slot ≢ Out }
+    requires free { (slot : AtSlot) → X.held disks.old slot ≢ Out }
+    ensures free { (slot : AtSlot) → X.held disks.new slot ≢ Out }
 {
-    let mut cluster = Cluster::new();
+    let mut cluster = match SavedCluster::open(alloc, disks) {
+        Ok(cluster) => cluster,
+        Err(why) => return Ok(write!(out, "{why}")?),
+    };
     let told = tell(alloc, &mut cluster, disks, words, out);
     cluster.close(disks);
     told
+}
+
+/// The members of a cluster opened over these disks that was told such words, with what it answered. Their disks stay out.
+///
+/// # Errors
+///
+/// None stands then; or want of memory.
+pub fn members_after<X: Disks>(
+    alloc: Global,
+    disks: &mut X,
+    words: &str,
+    out: &mut String,
+) -> Result<Members<X::D>, Memory>
+    requires free { (slot : AtSlot) → X.held disks.old slot ≢ Out }
+    ensures ready { IfOk result (λ m. IsReady m.net.state m.net.replicas m.net.bag) }
+{
+    let mut saved = match SavedCluster::open(alloc, disks) {
+        Ok(saved) => saved,
+        Err(_) => return Err(Memory),
+    };
+    tell(alloc, &mut saved, disks, words, out)?;
+    let SavedCluster { cluster, .. } = saved;
+    let Cluster { members, .. } = cluster;
+    match members {
+        Some(members) => Ok(members),
+        None => Err(Memory),
+    }
 }

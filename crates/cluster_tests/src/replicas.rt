@@ -2,13 +2,12 @@
 ghost use Rattle.std.specs.Prelude.{◌≢◌};
 ghost use Rattle.m3_outside.specs.Slots.{Out};
 ghost use Rattle.m3_outside.specs.declared.slot.DiskSlot.{DiskSlot};
-ghost use Rattle.member_runs.specs.Ready.{IsReadyCluster};
 
 use cluster_members::Members;
+use cluster_runs::members_after;
 use cluster_words::{letter_of_reason, number, text};
 use m3_model::{Memory, Report, Standing};
 use m3_outside::{Disk, Disks};
-use member_runs::{first, tell};
 use replica_calls::Replicas;
 use replica_exchange::{CallErr, Slot};
 use std::alloc::Global;
@@ -88,21 +87,15 @@ fn call_all<D: Disk>(
     Ok(())
 }
 
-// What the cluster answers, and then its replicas.
-fn tell_both<D: Disk>(
-    alloc: Global,
+fn call_replicas<D: Disk>(
     members: &mut Members<D>,
     words: &str,
-    calls: &str,
     out: &mut String,
-) -> Result<(), Memory>
-    requires ready { IsReadyCluster members.old }
-{
-    tell(alloc, members, 0, words, out)?;
-    out.push('|')?;
-    call_all(&mut members.net.replicas, calls, out)
+) -> Result<(), Memory> {
+    call_all(&mut members.net.replicas, words, out)
 }
 
+// What the cluster answers, and then its replicas.
 fn story<X: Disks>(
     alloc: Global,
     disks: &mut X,
@@ -112,8 +105,9 @@ fn story<X: Disks>(
 ) -> Result<(), Memory>
     requires free { (slot : DiskSlot) → X.held disks.old slot ≢ Out }
 {
-    let mut members = first(alloc, disks, 1)?;
-    let told = tell_both(alloc, &mut members, words, calls, out);
+    let mut members = members_after(alloc, disks, words, out)?;
+    out.push('|')?;
+    let told = call_replicas(&mut members, calls, out);
     drop(members);
     told
 }
@@ -134,8 +128,8 @@ fn tell_rows(alloc: Global, rows: &str, out: &mut String) -> Result<(), Memory> 
 // Words of the cluster, calls of its replicas behind them, and what both are answered. A slot without a replica owns nothing. A
 // fence never falls; it is 0 of a replica that isn't open, which holds no points then.
 const ROWS: &str =
-    "nm t100 wmuA100=5 wmuM101=6 wmuM101=7 sc|ra0 rb0 rc0 rx0 ra1 fx03 sx0 ux0>ok:ok:abc:abc:abc:ok:|o1/2:o1/2:d0/0:n:n:n:n:n:
-nm t100 wmuA100=5|fa03 ra0 fa02 ra0 sa0 ra0 fa04 sa0 ua09 ra0 fa04 ub0 rb0 rc0>ok:ok:abc:|ok:o3/1:ok:o3/1:ok:d0/0:-:ok:ok:b0/0:^:ok:b0/0:o1/1:";
+    "i1 nm t100 wmuA100=5 wmuM101=6 wmuM101=7 sc|ra0 rb0 rc0 rx0 ra1 fx03 sx0 ux0>v1[abc]:ok:ok:abc:abc:abc:ok:|o1/2:o1/2:d0/0:n:n:n:n:n:
+i1 nm t100 wmuA100=5|fa03 ra0 fa02 ra0 sa0 ra0 fa04 sa0 ua09 ra0 fa04 ub0 rb0 rc0>v1[abc]:ok:ok:abc:|ok:o3/1:ok:o3/1:ok:d0/0:-:ok:ok:b0/0:^:ok:b0/0:o1/1:";
 
 #[test]
 fn replicas_are_told(rt: HostRuntime) -> Result<(), Fail> {

@@ -10,7 +10,7 @@ pub mod plan;
 pub mod start;
 mod unopened;
 
-pub use first::{Lent, begin_first, first_members, give_back, lend_first};
+pub use first::{Lent, begin_first, give_back, lend_first};
 pub use lending::give_all;
 pub use plan::{Plan, plan_first};
 pub use start::Start;

@@ -22,7 +22,7 @@ pub use track_laws::tracked_runs_promise;
 // Of libraries that the rows of crates above need not name: what these crates name of them.
 /// Of `cluster_joins`.
 pub mod of_cluster_joins {
-    pub use cluster_joins::{Booting, Marked, Marking, bootstrap, end_sources, mark, open_node};
+    pub use cluster_joins::{Booting, Marked, Marking, end_sources, mark, open_node};
 }
 /// Of `cluster_members`.
 pub mod of_cluster_members {
@@ -30,7 +30,7 @@ pub mod of_cluster_members {
 }
 /// Of `cluster_placements`.
 pub mod of_cluster_placements {
-    pub use cluster_placements::{Change, Untaken, change_placement, make_change, plan_change};
+    pub use cluster_placements::{Change, Untaken, make_change, plan_change};
 }
 /// Of `cluster_upkeep`.
 pub mod of_cluster_upkeep {
@@ -42,9 +42,7 @@ pub mod of_event_trail {
 }
 /// Of `first_cluster`.
 pub mod of_first_cluster {
-    pub use first_cluster::{
-        Lent, begin_first, first_members, give_all, give_back, lend_first, plan_first,
-    };
+    pub use first_cluster::{Lent, begin_first, give_all, give_back, lend_first, plan_first};
 }
 /// Of `node_calls`.
 pub mod of_node_calls {

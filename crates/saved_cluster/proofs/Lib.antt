@@ -1,3 +1,4 @@
+mod AloneLemmas
 pub mod CloseLemmas
 mod DiskLemmas
 mod FirstLemmas

@@ -36,7 +36,7 @@ use Rattle.line_tracks.specs.tracks.Acts.{IsInitAnswer}
 use Rattle.line_tracks.specs.tracks.Lines.{EachMember}
 use Rattle.served_cluster.specs.Acts.{Serves, is_init}
 use Rattle.served_cluster.specs.Owned.{AreReady, MayServeCluster}
-use Rattle.served_cluster.specs.Plans.{IsPlannedBy, IsPlannedOn, RefusesOn, by_plan, changes_state, state_after, state_of}
+use Rattle.served_cluster.specs.Plans.{IsPlannedBy, IsPlannedOn, RefusesOn, by_plan, state_after, state_of}
 use Rattle.served_cluster.specs.declared.cluster.Cluster.{Cluster}
 use Rattle.served_cluster.specs.declared.plan.Plan.{Plan}
 use Rattle.served_cluster.specs.declared.plan.Plan.TheVariants as plan
@@ -44,7 +44,7 @@ use Rattle.served_cluster.proofs.KeptLemmas.{first_ready, first_serves}
 use Rattle.served_cluster.proofs.OwnLemmas.{none_returned, refused_returned}
 use Rattle.served_cluster.proofs.PlanLemmas.{planned_changes, refused_serves}
 use Rattle.saved_cluster.specs.Saved.{IsReadyFor}
-use Rattle.saved_cluster.specs.States.{LeadsToState, is_init_request, kept_of, saves_by}
+use Rattle.saved_cluster.specs.States.{LeadsToState, is_init_request, kept_of}
 use Rattle.saved_cluster.specs.declared.lost.Lost.{Lost}
 use Rattle.saved_cluster.specs.declared.lost.Lost.TheVariants as lost
 use Rattle.saved_cluster.proofs.PlanLemmas.{planned_lawful, planned_leads}
@@ -160,29 +160,12 @@ some_by f (Some x) = refl
 pub stands_by : {D : Type 0} {G : Ghosts D} {R : Type 0} (c : Cluster D G) (now : R → MetaState) (found : Option R) → option_map now found ≡ state_of c → is_some c.members ≡ is_some found
 stands_by {D} {G} c now found is = sym (some_by (λ (m : Members D G). m.net.state) c.members) ∙ ap is_some (sym is) ∙ some_by now found
 
--- ---- which act it is
-
--- an act that may change the state, and is neither an `init` nor a bootstrap, changes that of a cluster that stands
-pub changes_by : (a : Act) → saves_by a ≡ true → is_init a ≡ false → ((node : List ℕ) (shard : Option ℕ) → a ≡ act.Bootstrap node shard → ⊥) → changes_state a ≡ true
-changes_by (act.Init rf shards seed nodes) saves none other = cc
-changes_by (act.Bootstrap node shard) saves none other = absurd (other node shard refl)
-changes_by _ saves none other = saves
-
--- an act that is no `init`
-pub no_init_so : (a : Act) → ((rf shards seed : ℕ) (nodes : List (List ℕ × List ℕ)) → a ≡ act.Init rf shards seed nodes → ⊥) → is_init a ≡ false
-no_init_so (act.Init rf shards seed nodes) other = absurd (other rf shards seed nodes refl)
-no_init_so _ other = refl
-
-pub no_init : (a : Act) → ((rf shards seed : ℕ) (nodes : List (List ℕ × List ℕ)) → a ≡ act.Init rf shards seed nodes → ⊥) → is_init a ≡ true → ⊥
-no_init (act.Init rf shards seed nodes) other is = other rf shards seed nodes refl
-no_init _ other is = cc
+-- ---- requests, and errors of other results
 
 -- the meta disk failed, so no memory was wanted
 pub no_want : (r : Result Answer Lost) → IfErr r (λ e. e ≡ lost.Meta) → IsErrOf r lost.Memory → ⊥
 no_want (Ok b) meta is = cc
 no_want (Err e) meta is = let clash : ◌≡◌ {A = Result Answer Lost} (Err lost.Meta) (Err lost.Memory) = ap Err (sym meta) ∙ is in cc
-
--- ---- requests, and errors of other results
 
 abbrev lost_or : {T : Type 0} → Lost → Result T Lost → Lost
 lost_or e (Ok x) = e

@@ -47,21 +47,9 @@ use std::alloc::Global;
 /// A cluster, and the meta disk that keeps its state: its moment, its namespaces and its placement.
 #[derive(Drop)]
 pub struct SavedCluster<D: Disk> {
-    pub(crate) cluster: Cluster<D>,
+    pub cluster: Cluster<D>,
     pub(crate) log: MetaLog,
     pub(crate) meta: D,
-}
-
-// Whether the act may change the state.
-fn saves_by(act: &Act) -> bool
-    ensures { result ≡ saves_by act.now }
-{
-    match act {
-        Act::Init { .. } | Act::Namespace { .. } | Act::Now { .. } => true,
-        Act::Add { .. } | Act::Drain { .. } | Act::Cancel { .. } => true,
-        Act::Remove { .. } | Act::Replace { .. } | Act::Bootstrap { .. } => true,
-        _ => false,
-    }
 }
 
 // The answer where a first placement can't be planned.
@@ -299,55 +287,7 @@ impl<D: Disk> SavedCluster<D> {
         self.serve_first(alloc, disks, rf, shards, seed, nodes)
     }
 
-    // Serves an act that may change the state of a cluster that stands.
-    fn serve_standing<X: Disks<D = D>>(
-        &mut self,
-        alloc: Global,
-        disks: &mut X,
-        act: Act,
-    ) -> Result<Answer, Lost>
-        requires limits { MeetsLimits act }
-        requires saving { saves_by act ≡ true }
-        requires no_init { is_init act ≡ false }
-        requires may { MayServeSaved D.state self.old (X.held disks.old) }
-        ensures answered { AnswersSaved D.state (depot_by X.held X.counted X.all_faults disks.old) self.old act result (depot_by X.held X.counted X.all_faults disks.new) self.new }
-        ensures meta { IfErr result (λ e. e ≡ lost.Meta) }
-    {
-        if let Act::Bootstrap { node, shard } = act {
-            return self.serve_bootstrap(alloc, node, shard);
-        }
-        self.serve_change(alloc, disks, act)
-    }
-
-    // Serves an act that may change the state.
-    fn serve_saving<X: Disks<D = D>>(
-        &mut self,
-        alloc: Global,
-        disks: &mut X,
-        act: Act,
-    ) -> Result<Answer, Lost>
-        requires limits { MeetsLimits act }
-        requires served { IsServedAct act }
-        requires saving { saves_by act ≡ true }
-        requires may { MayServeSaved D.state self.old (X.held disks.old) }
-        ensures answered { AnswersSaved D.state (depot_by X.held X.counted X.all_faults disks.old) self.old act result (depot_by X.held X.counted X.all_faults disks.new) self.new }
-        ensures untouched { IsErrOf result lost.Meta → is_init act ≡ true → AreAsTheyWere D.state (depot_by X.held X.counted X.all_faults disks.old) (depot_by X.held X.counted X.all_faults disks.new) }
-        ensures wanted { IsErrOf result lost.Memory → is_init act ≡ true }
-        ensures unbegun { IsErrOf result lost.Memory → IsUnbegun D.state self.old (request.One act) self.new }
-    {
-        if let Act::Init {
-            rf,
-            shards,
-            seed,
-            nodes,
-        } = act
-        {
-            return self.serve_init(alloc, disks, rf, shards, seed, nodes);
-        }
-        self.serve_standing(alloc, disks, act)
-    }
-
-    // Answers an act.
+    // Answers an act. One that changes the state is saved before; the others are the cluster's alone.
     fn serve_act<X: Disks<D = D>>(
         &mut self,
         alloc: Global,
@@ -363,12 +303,33 @@ impl<D: Disk> SavedCluster<D> {
         ensures wanted { IsErrOf result lost.Memory → is_init act ≡ true }
         ensures unbegun { IsErrOf result lost.Memory → IsUnbegun D.state self.old (request.One act) self.new }
     {
-        if saves_by(&act) {
-            return self.serve_saving(alloc, disks, act);
-        }
-        match self.cluster.serve(alloc, disks, Request::One(act)) {
-            Reply::One(answer) => Ok(answer),
-            Reply::Par { .. } => unreachable!(),
+        match act {
+            Act::Init {
+                rf,
+                shards,
+                seed,
+                nodes,
+            } => self.serve_init(alloc, disks, rf, shards, seed, nodes),
+            Act::Namespace { .. }
+            | Act::Now { .. }
+            | Act::Add { .. }
+            | Act::Drain { .. }
+            | Act::Cancel { .. }
+            | Act::Remove { .. }
+            | Act::Replace { .. } => self.serve_change(alloc, disks, act),
+            Act::Bootstrap { node, shard } => self.serve_bootstrap(alloc, node, shard),
+            Act::Write { .. } | Act::Fetch { .. } | Act::Match { .. } => {
+                Ok(self.cluster.call(alloc, act))
+            }
+            Act::Fates { list } => Ok(self.cluster.set_fates(alloc, list)),
+            Act::Deliver
+            | Act::Stop { .. }
+            | Act::Restart { .. }
+            | Act::Tick
+            | Act::Flush
+            | Act::Snapshot
+            | Act::Status => Ok(self.cluster.tend(alloc, act)),
+            Act::Repair => unreachable!(),
         }
     }
 

@@ -1,5 +1,5 @@
 //! What a further run says where a bit of the meta disk's log was turned.
-use crate::runs::run;
+use cluster_runs::run;
 use disk_stories::meta::{DIGEST, STATE, turn_in_log};
 use mem_disk::MemDisks;
 use std::test::Fail;

@@ -4,8 +4,6 @@
 #[cfg(test)]
 mod damages;
 #[cfg(test)]
-mod runs;
-#[cfg(test)]
 mod stops;
 #[cfg(test)]
 mod stories;

@@ -1,5 +1,5 @@
 //! What a further run finds where the meta disk stopped within a save.
-use crate::runs::run;
+use cluster_runs::run;
 use disk_stories::meta::{disks_with_meta, restart_meta};
 use std::alloc::Global;
 use std::test::Fail;

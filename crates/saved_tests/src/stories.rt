@@ -1,5 +1,5 @@
 //! Runs one after the other over the same disks.
-use crate::runs::run;
+use cluster_runs::run;
 use mem_disk::MemDisks;
 use std::alloc::Global;
 use std::test::Fail;

@@ -16,7 +16,7 @@ use Rattle.line_tracks.specs.node_calls.Nodes.{IsFated}
 use Rattle.line_tracks.specs.tracks.Numbers.{after_call, last_number, numbers_by}
 use Rattle.line_tracks.specs.tracks.Acts.{Does, OnMembers, next_call}
 use Rattle.line_tracks.specs.tracks.Slots.{is_bootstrap}
-use Rattle.served_cluster.specs.Acts.{Answers, sets_fates}
+use Rattle.served_cluster.specs.Acts.{Answers, sets_fates, tends_nodes}
 use Rattle.served_cluster.specs.declared.cluster.Cluster.{Cluster}
 
 -- ---- numbers
@@ -36,15 +36,16 @@ numbers_of_change (act.Match ns wanted from to level version) b calls no_call no
 numbers_of_change (act.Fates list) b calls no_call no_fates = cc
 numbers_of_change _ b calls no_call no_fates = refl
 
--- an act that is no list of fates sets none
-pub no_fates_so : (a : Act) → ((list : _) → a ≡ act.Fates list → ⊥) → sets_fates a ≡ false
-no_fates_so (act.Fates list) other = absurd (other list refl)
-no_fates_so _ other = refl
-
--- nor is one that is no bootstrap
-pub no_bootstrap_so : (a : Act) → ((node : List ℕ) (shard : Option ℕ) → a ≡ act.Bootstrap node shard → ⊥) → is_bootstrap a ≡ false
-no_bootstrap_so (act.Bootstrap node shard) other = absurd (other node shard refl)
-no_bootstrap_so _ other = refl
+-- what tends to nodes is neither a call nor a bootstrap, and sets no fates
+pub tends_alone : (a : Act) → tends_nodes a ≡ true → (is_call a ≡ false) × (sets_fates a ≡ false) × (is_bootstrap a ≡ false)
+tends_alone act.Deliver tends = (refl, refl, refl)
+tends_alone (act.Stop node) tends = (refl, refl, refl)
+tends_alone (act.Restart node pick) tends = (refl, refl, refl)
+tends_alone act.Tick tends = (refl, refl, refl)
+tends_alone act.Flush tends = (refl, refl, refl)
+tends_alone act.Snapshot tends = (refl, refl, refl)
+tends_alone act.Status tends = (refl, refl, refl)
+tends_alone _ tends = cc
 
 -- fates that weren't set begin no numbering anew
 numbers_of_fates : (list : List (ℕ × ℕ × List ℕ × Fate)) (b : Answer) (calls : List ℕ) → (b ≡ answer.Done → ⊥) → numbers_by (act.Fates list) b calls ≡ calls

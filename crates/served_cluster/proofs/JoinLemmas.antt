@@ -41,7 +41,7 @@ module _ {D : Type 0} {G : Ghosts D} (c : Cluster D G) (m : Members D G) (stood 
 
   module _ (state : D → DiskState) (name : List ℕ) (asked : Option ℕ) (g : Members D G) where
     -- the line of a bootstrap
-    pub boots : (b : Answer) → IsBooted state m name asked b g → Answers state c (act.Bootstrap name asked) b (record { members = Some g; calls = c.calls })
+    boots : (b : Answer) → IsBooted state m name asked b g → Answers state c (act.Bootstrap name asked) b (record { members = Some g; calls = c.calls })
     boots b did = changed state c m stood (act.Bootstrap name asked) b g refl refl (λ id. did)
 
     pub opens : (b : Booting) → IsBooting state m name asked b g → MayBeLeft state m name asked b g → OpensNode state c name asked b (record { members = Some g; calls = c.calls })

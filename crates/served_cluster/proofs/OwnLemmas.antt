@@ -24,7 +24,6 @@ use Rattle.line_tracks.specs.first_cluster.First.{IsRefusedInit}
 use Rattle.line_tracks.specs.first_cluster.Depots.{AreOut, OwnedBy, disk_slot_of, IsForReplicas}
 use Rattle.line_tracks.specs.first_cluster.Lending.{HasGivenBack, HasReturned, IsBack, IsGivenBack, IsKept, IsUntouched}
 use Rattle.line_tracks.proofs.first_cluster_proofs.GiveAll.{returned_none}
-use Rattle.line_tracks.specs.cluster_placements.Steps.{IsChanged, kept_in}
 use Rattle.line_tracks.specs.tracks.Acts.{Does, IsServedBy, IsStepAnswer, OnMembers, next_call}
 use Rattle.line_tracks.proofs.first_cluster_proofs.PlacedSlots.{no_meta}
 use Rattle.line_tracks.proofs.first_cluster_proofs.SlotLists.{in_or_out}
@@ -168,7 +167,3 @@ serves_step state depot old _ b after new step h calls = cc
 -- where none stands it is out of order
 pub none_changed : {D : Type 0} {G : Ghosts D} (state : D → DiskState) (depot : Depot D) (old : Option (Members D G)) (a : Act) → old ≡ None → IsStepAnswer state depot old a answer.Order depot old
 none_changed {D} {G} state depot old a none = subst (λ (o : Option (Members D G)). IsStepAnswer state depot o a answer.Order depot o) (sym none) (refl, refl, refl)
-
--- where one stands
-pub changed_so : {D : Type 0} {G : Ghosts D} (state : D → DiskState) (depot : Depot D) (old : Option (Members D G)) (m : Members D G) (a : Act) (b : Answer) (after : Depot D) (g : Members D G) → old ≡ Some m → IsChanged state (kept_in m) a depot m b after g → IsStepAnswer state depot old a b after (Some g)
-changed_so {D} {G} state depot old m a b after g stands h = subst (λ (o : Option (Members D G)). IsStepAnswer state depot o a b after (Some g)) (sym stands) (g, refl, h)

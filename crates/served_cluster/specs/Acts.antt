@@ -29,6 +29,17 @@ abbrev pub sets_fates : Act → Bool
 sets_fates (act.Fates list) = true
 sets_fates _ = false
 
+-- the act stops or restarts a node, delivers late messages, or goes over all replicas
+abbrev pub tends_nodes : Act → Bool
+tends_nodes act.Deliver = true
+tends_nodes (act.Stop node) = true
+tends_nodes (act.Restart node pick) = true
+tends_nodes act.Tick = true
+tends_nodes act.Flush = true
+tends_nodes act.Snapshot = true
+tends_nodes act.Status = true
+tends_nodes _ = false
+
 -- what an act that makes no placement is answered, and what it leaves
 pub record Answers {D : Type 0} {G : Ghosts D} (state : D → DiskState) (old : Cluster D G) (a : Act) (answered : Answer) (new : Cluster D G) : Type 0 where
   pub members : OnMembers old.members (λ m g. Does state (next_call old.calls) m a answered g) answered new.members

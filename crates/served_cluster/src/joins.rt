@@ -23,7 +23,7 @@ fn marked_state(alloc: Global, state: &MetaState, marking: &Marking) -> Result<M
 
 impl<D: Disk> Cluster<D> {
     /// Has the replicas of a node begin, each of one shard or of all, and those that join their shards be joined. Where some were joined, they are to be
-    /// marked by `mark`, or given up; else the line is answered, as `serve` has it. The state stays either way.
+    /// marked by `mark`, or given up; else the line is answered. The state stays either way.
     pub fn open_node(&mut self, alloc: Global, name: Text, asked: Option<u32>) -> Booting
         requires ready { AreReady self.old.members }
         ensures opens { OpensNode D.state self.old name asked result self.new }

@@ -156,7 +156,7 @@ impl<D: Disk> Cluster<D> {
     ///
     /// # Errors
     ///
-    /// The answer, as `serve` gives it where nothing changes.
+    /// The answer. It serves the act, of which nothing comes.
     pub fn plan(&self, alloc: Global, act: Act) -> Result<Plan, Answer>
         requires limits { MeetsLimits act }
         requires changes { changes_state act ≡ true }

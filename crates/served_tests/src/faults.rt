@@ -1,10 +1,16 @@
 //! Stories over a disk that fails, and disks that were given back.
+ghost use Rattle.std.specs.Prelude.{◌≡◌};
+ghost use Rattle.m3_outside.specs.Slots.{Out};
+ghost use Rattle.m3_outside.specs.declared.slot.DiskSlot.{DiskSlot as AtSlot};
+ghost use Rattle.mem_disk.specs.Slots.{held_of};
+
 use cluster_runs::run;
 use m3_model::Memory;
-use m3_outside::Disks;
+use m3_outside::{DiskSlot, Disks};
+use mem_disk::{MemDisk, MemDisks};
 use std::alloc::Global;
 use std::test::Fail;
-use test_disks::{disks_with, spell_disks};
+use test_disks::{disks_with, put, spell_disks};
 
 /// What is answered where this disk fails, and the faults of the disks that were given back.
 pub fn told(
@@ -153,20 +159,37 @@ fn failed_calls_of_one_shard_are_told(rt: HostRuntime) -> Result<(), Fail> {
     Ok(())
 }
 
-// What two clusters answer, one after the other over the same disks, and the faults of these.
+// What a further run over these disks answers, where words behind `*` find a new meta disk, and so no state.
+fn tell_next(
+    alloc: Global,
+    disks: &mut MemDisks,
+    words: &str,
+    out: &mut String,
+) -> Result<(), Memory>
+    requires { (slot : AtSlot) → ¬ (held_of disks.old slot ≡ Out) }
+{
+    let Some(anew) = words.strip_prefix('*') else {
+        return run(alloc, disks, words, out);
+    };
+    let meta = MemDisk::new(alloc, &[], None)?;
+    put(disks, DiskSlot::META, meta);
+    run(alloc, disks, anew, out)
+}
+
+// What is answered in two runs, one after the other over the same disks, and the faults of these.
 fn tell_two(alloc: Global, row: &str, out: &mut String) -> Result<(), Memory> {
     let (fuse, words) = row.split_once('|').unwrap_or(("", ""));
     let (first, second) = words.split_once('|').unwrap_or(("", ""));
     let mut disks = disks_with(alloc, (2, 0), &[], fuse.parse::<u64>().ok())?;
     run(alloc, &mut disks, first, out)?;
     out.push('|')?;
-    run(alloc, &mut disks, second, out)?;
+    tell_next(alloc, &mut disks, second, out)?;
     out.push('|')?;
     let faults = disks.faults();
     spell_disks(alloc, faults, &mut disks, out)
 }
 
-// Each row's words of two clusters with what is answered to them.
+// Each row's words of two runs with what is answered to them.
 fn tell_rows(alloc: Global, rows: &str, out: &mut String) -> Result<(), Memory> {
     for row in rows.lines() {
         let (told, _) = row.split_once('>').unwrap_or(("", ""));
@@ -178,16 +201,22 @@ fn tell_rows(alloc: Global, rows: &str, out: &mut String) -> Result<(), Memory> 
     Ok(())
 }
 
-// After how many calls all calls of the disk of c fail, if they do; the words of two clusters; what these are answered, the second
-// one over the disks that the first one gave back; and the faults of these. What a cluster wrote the next one finds, but neither
-// its moment nor its namespaces, nor its late messages.
+// After how many calls all calls of the disk of c fail, if they do; the words of two runs; what these are answered, the second one over
+// the disks that the first one gave back; and the faults of these. What the first one wrote and was told the second one finds, with
+// replicas at Boot, but not its late messages; without the meta disk what it wrote alone, and neither its moment nor its namespaces.
 const RUNS: &str = "|d|rmuM>order:|order:|0:--0-----
-|i2|d>v1[abc][abc]:|order:|0:000-000-
-|i1 nm t100 wmuA100=5 wmuM101=6|i1 rmuA nm rmuA t160 rmuA t161 rmuA>v1[abc]:ok:ok:abc:abc:|v1[abc]:?m:ok:u100=5,101=6,.:ok:u101=6,.:ok:.:|0:000-----
-|i1 nm t100 sa wmuM100=5 sb|i1 nm rmuO wmuA10=1 rmuA>v1[abc]:ok:ok:ok:bc:ok:|v1[abc]:ok:u100=5,.:abc:u10=1,100=5,.:|0:000-----
-|i1 nm t100 f00aB,00bB,00cB wmuO100=5|i1 nm d rmuA>v1[abc]:ok:ok:ok:0/1axbxcx:|v1[abc]:ok::.:|0:000-----
-0|i1 nm t100 wmuM100=5|i1 nm wmuA10=6 sc bc oc rmuA>v1[abc]:ok:ok:ab:|v1[abc]:ok:2/3c-:ok:ok:v1[abc]:u10=6,100=5,.:|2:002-----
-0|i1 sc bc oc nm wmuA10=5|i1 nm rmuA>v1[abc]:ok:ok:v1[abc]:ok:abc:|v1[abc]:ok:u10=5,.:|1:001-----";
+|i2|d>v1[abc][abc]:|:|0:000-000-
+|i1 nm t100 wmuA100=5 wmuM101=6|i1 rmuA oa ob oc nm rmuA t160 rmuA t161 rmuA>v1[abc]:ok:ok:abc:abc:|order:0/3a^b^c^:v1[abc]:v1[abc]:v1[abc]:order:u100=5,101=6,.:ok:u101=6,.:ok:.:|0:000-----
+|i1 nm t100 sa wmuM100=5 sb|oa ob oc nn rmuO wnuA100=1 rnuA>v1[abc]:ok:ok:ok:bc:ok:|v1[abc]:v1[abc]:v1[abc]:ok:u100=5,.:abc:u100=1,.:|0:000-----
+|i1 nm t100 f00aB,00bB,00cB wmuO100=5|oa ob oc d rmuA>v1[abc]:ok:ok:ok:0/1axbxcx:|v1[abc]:v1[abc]:v1[abc]::.:|0:000-----
+0|i1 nm t100 wmuM100=5|wmuA99=6 oa ob oc wmuA99=6 sc bc oc rmuA>v1[abc]:ok:ok:ab:|0/3a^b^c^:v1[abc]:v1[abc]:~c0:2/3c-:ok:ok:v1[abc]:u99=6,100=5,.:|2:002-----
+0|i1 sc bc oc nm t100 wmuA99=5|oa ob oc rmuA>v1[abc]:ok:ok:v1[abc]:ok:ok:abc:|v1[abc]:v1[abc]:v1[abc]:u99=5,.:|1:001-----
+|i2|*d>v1[abc][abc]:|order:|0:000-000-
+|i1 nm t100 wmuA100=5 wmuM101=6|*i1 rmuA nm rmuA t160 rmuA t161 rmuA>v1[abc]:ok:ok:abc:abc:|v1[abc]:?m:ok:u100=5,101=6,.:ok:u101=6,.:ok:.:|0:000-----
+|i1 nm t100 sa wmuM100=5 sb|*i1 nm rmuO wmuA10=1 rmuA>v1[abc]:ok:ok:ok:bc:ok:|v1[abc]:ok:u100=5,.:abc:u10=1,100=5,.:|0:000-----
+|i1 nm t100 f00aB,00bB,00cB wmuO100=5|*i1 nm d rmuA>v1[abc]:ok:ok:ok:0/1axbxcx:|v1[abc]:ok::.:|0:000-----
+0|i1 nm t100 wmuM100=5|*i1 nm wmuA10=6 sc bc oc rmuA>v1[abc]:ok:ok:ab:|v1[abc]:ok:2/3c-:ok:ok:v1[abc]:u10=6,100=5,.:|2:002-----
+0|i1 sc bc oc nm wmuA10=5|*i1 nm rmuA>v1[abc]:ok:ok:v1[abc]:ok:abc:|v1[abc]:ok:u10=5,.:|1:001-----";
 
 #[test]
 fn disks_come_back(rt: HostRuntime) -> Result<(), Fail> {

@@ -112,18 +112,19 @@ fn tell_rows(alloc: Global, rows: &str, out: &mut String) -> Result<(), Memory> 
     Ok(())
 }
 
-// Which disks can't be taken, by the number of the taking; words; what is answered to them; and the faults. Where a disk can't be
-// taken those before it are given back, no cluster stands, and the next `init` takes all anew.
+// Which disks can't be taken, by the number of the taking, of which the first is that of the meta disk; words; what is answered to them;
+// and the faults. Without the meta disk nothing is opened. Where a disk can't be taken those before it are given back, no cluster stands, and
+// the next `init` takes all anew.
 // Where one can't be taken for a line that makes a placement, those before it are given back too, and the cluster is as it was; a slot
 // that keeps its disk after its replica is gone gives none again.
-const ROWS: &str =
-    "0|i1 rmuM i1 nm t100 wmuA100=5 rmuA>~a0:order:v1[abc]:ok:ok:abc:u100=5,.:|1:000-----
-1,4|i1 i1 i1 i1 nm t100 wmuA100=5 rmuA>~b0:~c0:v1[abc]:order:ok:ok:abc:u100=5,.:|2:000-----
-4,9|i2 sa i1 i2 i2 nm>~b1:order:v1[abc]:order:order:ok:|1:000-0---
-0,1,2,3,4|i2 i2 i2 i2 i2>~a0:~a0:~a0:~a0:~a0:|5:--------
-3|i1 nm t100 %ad1 p wmuA100=5 %ad1 wmuM101=6>v1[abc]:ok:ok:~d0:v1[abc]:abc:v2[a-bcd+]:bc:|1:0000----
-7|i2 %ad1 p %ad1>v1[abc][abc]:~d1:v1[abc][abc]:v2[a-bcd+][a-bcd+]:|1:00000000
-4|i1 %ad1 ~d %ad1 -a p>v1[abc]:v2[a-bcd+]:v3[abc]:order:v4[a-bcd+]:v4[a-bcd+]:|0:0000----";
+const ROWS: &str = "0|i1 rmuM>the disk failed|1:--------
+1|i1 rmuM i1 nm t100 wmuA100=5 rmuA>~a0:order:v1[abc]:ok:ok:abc:u100=5,.:|1:000-----
+2,5|i1 i1 i1 i1 nm t100 wmuA100=5 rmuA>~b0:~c0:v1[abc]:order:ok:ok:abc:u100=5,.:|2:000-----
+5,10|i2 sa i1 i2 i2 nm>~b1:order:v1[abc]:order:order:ok:|1:000-0---
+1,2,3,4,5|i2 i2 i2 i2 i2>~a0:~a0:~a0:~a0:~a0:|5:--------
+4|i1 nm t100 %ad1 p wmuA100=5 %ad1 wmuM101=6>v1[abc]:ok:ok:~d0:v1[abc]:abc:v2[a-bcd+]:bc:|1:0000----
+8|i2 %ad1 p %ad1>v1[abc][abc]:~d1:v1[abc][abc]:v2[a-bcd+][a-bcd+]:|1:00000000
+5|i1 %ad1 ~d %ad1 -a p>v1[abc]:v2[a-bcd+]:v3[abc]:order:v4[a-bcd+]:v4[a-bcd+]:|0:0000----";
 
 #[test]
 fn locked_disks_are_told(rt: HostRuntime) -> Result<(), Fail> {

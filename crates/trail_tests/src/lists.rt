@@ -1,21 +1,21 @@
 //! Random scripts over a cluster and its double: the cluster answers as the double does, and its list is as long as the double's, which
 //! is legal.
-ghost use Rattle.std.specs.Prelude.{◌<◌, ◌≤◌, IfSome};
-ghost use Rattle.member_runs.specs.Ready.{IsReadyCluster};
+ghost use Rattle.std.specs.Prelude.{◌≡◌, ◌<◌, true, IfOk, IfSome};
+ghost use Rattle.saved_cluster.specs.Saved.{MayServeSaved};
 
 use cluster_core::{Event, StepCall, StepReply};
 use cluster_members::Members;
+use cluster_runs::tell_word;
 use cluster_words::{Dice, act_of, script, upkeep_script};
 use doubled_turns::{keep, open};
 use legal_events::any_legal;
 use m3_model::{Memory, Reason, Seq};
-use m3_outside::Disk;
+use m3_outside::{Disk, Disks};
 use mem_disk::MemDisk;
-use member_runs::{first, tell_word};
 use replica_calls::Replicas;
 use replica_doubles::{Double, NODES};
-use replica_exchange::CallId;
 use replica_machine::Machine;
+use saved_cluster::SavedCluster;
 use std::alloc::Global;
 use std::mem::replace;
 use std::test::Fail;
@@ -85,22 +85,27 @@ fn keep_word<D: Disk>(
     Ok(())
 }
 
-fn tell_one<D: Disk>(
+// Whether the run goes on.
+fn tell_one<X: Disks>(
     alloc: Global,
-    double: &mut Double<D>,
-    members: &mut Members<D>,
+    double: &mut Double<X::D>,
+    cluster: &mut SavedCluster<X::D>,
+    disks: &mut X,
     number: u64,
     word: &str,
     out: &mut String,
-) -> Result<(), Memory>
-    requires ready { IsReadyCluster members.old }
-    ensures ready { IsReadyCluster members.new }
+) -> Result<bool, Memory>
+    requires may { MayServeSaved X.D.state cluster.old (X.held disks.old) }
+    ensures may { IfOk result (λ on. on ≡ true → MayServeSaved X.D.state cluster.new (X.held disks.new)) }
 {
     let mut answer = String::new(alloc);
-    let id = CallId { client: 0, number };
-    tell_word(alloc, members, id, word, &mut answer)?;
+    let goes_on = tell_word(alloc, cluster, disks, word, &mut answer)?;
     let told = answer.as_str().trim_end_matches(':');
-    keep_word(alloc, double, members, number, word, told, out)
+    match &cluster.cluster.members {
+        Some(members) => keep_word(alloc, double, members, number, word, told, out)?,
+        None => out.push_str("none ")?,
+    }
+    Ok(goes_on)
 }
 
 // Fates begin the numbers of calls anew.
@@ -112,19 +117,44 @@ fn number_after(number: u64, word: &str) -> u64 {
     }
 }
 
-fn tell_words<D: Disk>(
+// The cluster and its double begin with the word of an `init`. Whether the run goes on.
+fn begin<X: Disks>(
     alloc: Global,
-    double: &mut Double<D>,
-    members: &mut Members<D>,
-    words: &str,
+    double: &mut Double<X::D>,
+    cluster: &mut SavedCluster<X::D>,
+    disks: &mut X,
+    head: &str,
+) -> Result<bool, Memory>
+    requires may { MayServeSaved X.D.state cluster.old (X.held disks.old) }
+    ensures may { IfOk result (λ on. on ≡ true → MayServeSaved X.D.state cluster.new (X.held disks.new)) }
+{
+    let mut answer = String::new(alloc);
+    let goes_on = tell_word(alloc, cluster, disks, head, &mut answer)?;
+    if let Some(members) = &cluster.cluster.members {
+        open(alloc, double, members)?;
+    }
+    Ok(goes_on)
+}
+
+// Tells the words of a script behind its head, as far as the run goes.
+fn tell_words<X: Disks>(
+    alloc: Global,
+    double: &mut Double<X::D>,
+    cluster: &mut SavedCluster<X::D>,
+    disks: &mut X,
+    script: &str,
     out: &mut String,
 ) -> Result<(), Memory>
-    requires ready { IsReadyCluster members.old }
+    requires may { MayServeSaved X.D.state cluster.old (X.held disks.old) }
 {
-    open(alloc, double, members)?;
+    let (head, words) = script.split_once(' ').unwrap_or(("", ""));
+    let mut goes_on = begin(alloc, double, cluster, disks, head)?;
     let mut number = 0;
     for word in words.split(' ') {
-        tell_one(alloc, double, members, number, word, out)?;
+        if !goes_on {
+            return Ok(out.push_str("ended ")?);
+        }
+        goes_on = tell_one(alloc, double, cluster, disks, number, word, out)?;
         number = number_after(number, word);
     }
     Ok(())
@@ -134,17 +164,16 @@ fn run_beside(
     alloc: Global,
     double: &mut Double<MemDisk>,
     seed: u64,
-    shards: u32,
-    words: &str,
+    script: &str,
     out: &mut String,
-) -> Result<(), Memory>
-    requires some { 1 ≤ shards }
-    requires few { shards ≤ 2 }
-{
+) -> Result<(), Memory> {
     let mut disks = failing_disks(alloc, seed)?;
-    let mut members = first(alloc, &mut disks, shards)?;
-    let told = tell_words(alloc, double, &mut members, words, out);
-    drop(members);
+    let mut cluster = match SavedCluster::open(alloc, &mut disks) {
+        Ok(cluster) => cluster,
+        Err(_) => return Err(Memory),
+    };
+    let told = tell_words(alloc, double, &mut cluster, &mut disks, script, out);
+    drop(cluster);
     drop(disks);
     told
 }
@@ -222,27 +251,15 @@ fn tell_double(
     alloc: Global,
     double: &mut Double<MemDisk>,
     seed: u64,
-    shards: u32,
-    words: &str,
+    script: &str,
     volumes: u64,
     out: &mut String,
-) -> Result<(), Memory>
-    requires some { 1 ≤ shards }
-    requires few { shards ≤ 2 }
-{
-    run_beside(alloc, double, seed, shards, words, out)?;
+) -> Result<(), Memory> {
+    run_beside(alloc, double, seed, script, out)?;
     tell_list(alloc, double, volumes, out)
 }
 
-// A script begins with `i1` or `i2`.
-fn shards_of(head: &str) -> u32
-    ensures some { 1 ≤ result }
-    ensures few { result ≤ 2 }
-{
-    if head == "i1" { 1 } else { 2 }
-}
-
-// At least so many volumes have to be written.
+// A script begins with `i1` or `i2`. At least so many volumes have to be written.
 fn tell_script(
     alloc: Global,
     seed: u64,
@@ -250,11 +267,10 @@ fn tell_script(
     volumes: u64,
     out: &mut String,
 ) -> Result<(), Memory> {
-    let (head, words) = script.split_once(' ').unwrap_or(("", ""));
-    let shards = shards_of(head);
+    let shards = if script.starts_with("i1") { 1 } else { 2 };
     let machines = machines_over(alloc, seed, shards)?;
     let mut double = Double::new(alloc, machines);
-    let told = tell_double(alloc, &mut double, seed, shards, words, volumes, out);
+    let told = tell_double(alloc, &mut double, seed, script, volumes, out);
     drop(double);
     told
 }

@@ -1,31 +1,73 @@
-use Rattle.std.proofs.Common.{◌≡◌, refl, sym, ap, subst, ◌∙◌}
-use Rattle.m3_model.specs.declared.turn.Reply.TheVariants as reply
-use Rattle.line_tracks.specs.first_cluster.Depots.{depot_by}
-use Rattle.placement_log.specs.States.{MayBeState}
-use Rattle.served_cluster.specs.Acts.{ServesRequest}
-use Rattle.saved_cluster.specs.Saved.{IsSaved}
-use Rattle.saved_cluster.proofs.DiskLemmas.{counts_same}
-use Rattle.saved_cluster.proofs.KeepLemmas.{state_stays}
-use Rattle.saved_cluster.proofs.OutLemmas.{serves_out}
-use Rattle.saved_cluster.proofs.SaveLemmas.{answered_unsaved}
-use Rattle.saved_cluster.proofs.ServeLemmas.{elapses_same}
+use Rattle.std.proofs.Common.{◌≡◌, rules, refl, sym, ap, subst, false}
+use Rattle.std.specs.Prelude.{Ok}
+use Rattle.m3_model.specs.Limits.{MeetsLimits}
+use Rattle.m3_model.specs.declared.act.Act.TheVariants as act
 use Rattle.m3_model.specs.declared.turn.Request.TheVariants as request
+use Rattle.line_tracks.specs.first_cluster.Depots.{depot_by}
+use Rattle.served_cluster.specs.Acts.{is_init}
+use Rattle.saved_cluster.specs.Saved.{AnswersSaved, IsUnbegun}
+use Rattle.saved_cluster.specs.States.{saves_by}
+use Rattle.saved_cluster.proofs.AloneLemmas.{answered_alone}
+use Rattle.saved_cluster.proofs.ServeLemmas.{no_want}
 use Rattle.saved_cluster.proofs.saved.SavedCluster.serve_act.Goals as goal
 
--- An act that isn't saved is the cluster's alone, and leaves the state.
-pub returns-clause-answered : goal.returns-clause-answered
-returns-clause-answered g c =
+-- An `init`.
+pub serve_init-requires-clause-limits : goal.serve_init-requires-clause-limits
+serve_init-requires-clause-limits g c κs lives = subst MeetsLimits c.in-Init.is c.requires.limits
+
+pub returns-in-Init-clause-answered : goal.returns-in-Init-clause-answered
+returns-in-Init-clause-answered g c =
     let before = depot_by g.X.Disks.held g.X.Disks.counted g.X.Disks.all_faults c.args.disks.now in
-    let after = depot_by g.X.Disks.held g.X.Disks.counted g.X.Disks.all_faults c.serve.new.disks in
-    let old = c.args.self.now in
-    let b = c.in-One.answer in
-    let serves = subst (λ r. ServesRequest g.D.Disk.state before old.cluster (request.One c.args.act) r after c.serve.new.self) c.in-One.is c.serve.ensures.served in
-    let same = state_stays g.D.Disk.state before old.cluster c.args.act b after c.serve.new.self (sym c.saves_by.ensures ∙ c.if-saves_by.false) serves in
-    answered_unsaved g.D.Disk.state before after old _ c.args.act b
-    (record {
-      cluster = c.serve.ensures.owned;
-      meta_out = serves_out g.D.Disk.state before old.cluster c.args.act b after c.serve.new.self serves c.requires.may.meta_out;
-      log = c.requires.may.log;
-      state = subst MayBeState (sym same) c.requires.may.state;
-      saved = subst (λ o. IsSaved o (g.D.Disk.state old.meta)) (sym same) c.requires.may.saved;
-    }) serves (λ tells. elapses_same (g.D.Disk.state old.meta)) refl (counts_same _ (g.D.Disk.state old.meta).faults (λ never. never))
+    let after = depot_by g.X.Disks.held g.X.Disks.counted g.X.Disks.all_faults c.serve_init.new.disks in
+    subst (λ a. AnswersSaved g.D.Disk.state before c.args.self.now a c.serve_init.result after c.serve_init.new.self) (sym c.in-Init.is) c.serve_init.ensures.answered
+
+pub returns-in-Init-clause-untouched : goal.returns-in-Init-clause-untouched
+returns-in-Init-clause-untouched g c = λ is init. c.serve_init.ensures.untouched is
+
+pub returns-in-Init-clause-wanted : goal.returns-in-Init-clause-wanted
+returns-in-Init-clause-wanted g c = λ is. ap is_init c.in-Init.is
+
+pub returns-in-Init-clause-unbegun : goal.returns-in-Init-clause-unbegun
+returns-in-Init-clause-unbegun g c = λ is. subst (λ a. IsUnbegun g.D.Disk.state c.args.self.now (request.One a) c.serve_init.new.self) (sym c.in-Init.is) (c.serve_init.ensures.unbegun is)
+
+-- One that changes the state of a cluster that stands.
+pub returns-in-Namespace-clause-wanted : goal.returns-in-Namespace-clause-wanted
+returns-in-Namespace-clause-wanted g c = λ is. absurd (no_want c.serve_change.result c.serve_change.ensures.meta is)
+
+pub returns-in-Namespace-clause-unbegun : goal.returns-in-Namespace-clause-unbegun
+returns-in-Namespace-clause-unbegun g c = λ is. absurd (no_want c.serve_change.result c.serve_change.ensures.meta is)
+
+-- A bootstrap.
+pub serve_bootstrap-requires-clause-may : goal.serve_bootstrap-requires-clause-may
+serve_bootstrap-requires-clause-may g c κs lives = (g.X.Disks.held c.args.disks.now, c.requires.may)
+
+pub returns-in-Bootstrap-clause-answered : goal.returns-in-Bootstrap-clause-answered
+returns-in-Bootstrap-clause-answered g c =
+    let depot = depot_by g.X.Disks.held g.X.Disks.counted g.X.Disks.all_faults c.args.disks.now in
+    subst (λ a. AnswersSaved g.D.Disk.state depot c.args.self.now a c.serve_bootstrap.result depot c.serve_bootstrap.new.self) (sym c.in-Bootstrap.is) (c.serve_bootstrap.ensures.answered depot c.requires.may)
+
+pub returns-in-Bootstrap-clause-wanted : goal.returns-in-Bootstrap-clause-wanted
+returns-in-Bootstrap-clause-wanted g c = λ is. absurd (no_want c.serve_bootstrap.result c.serve_bootstrap.ensures.meta is)
+
+pub returns-in-Bootstrap-clause-unbegun : goal.returns-in-Bootstrap-clause-unbegun
+returns-in-Bootstrap-clause-unbegun g c = λ is. absurd (no_want c.serve_bootstrap.result c.serve_bootstrap.ensures.meta is)
+
+-- Acts that are the cluster's alone, and leave the state.
+pub returns-in-Write-clause-answered : goal.returns-in-Write-clause-answered
+returns-in-Write-clause-answered g c =
+    let depot = depot_by g.X.Disks.held g.X.Disks.counted g.X.Disks.all_faults c.args.disks.now in
+    let unsaved : saves_by c.args.act ≡ false = search rules in
+    answered_alone g.D.Disk.state depot c.args.self.now c.args.act c.call.result c.call.new.self unsaved c.requires.may c.call.ensures.ready c.call.ensures.answers
+
+pub returns-in-Fates-clause-answered : goal.returns-in-Fates-clause-answered
+returns-in-Fates-clause-answered g c =
+    let depot = depot_by g.X.Disks.held g.X.Disks.counted g.X.Disks.all_faults c.args.disks.now in
+    let set = c.set_fates in
+    let fates = act.Fates c.in-Fates.list in
+    subst (λ a. AnswersSaved g.D.Disk.state depot c.args.self.now a (Ok set.result) depot (record c.args.self.now { cluster = set.new.self })) (sym c.in-Fates.is) (answered_alone g.D.Disk.state depot c.args.self.now fates set.result set.new.self refl c.requires.may set.ensures.ready set.ensures.answers)
+
+pub returns-in-Deliver-clause-answered : goal.returns-in-Deliver-clause-answered
+returns-in-Deliver-clause-answered g c =
+    let depot = depot_by g.X.Disks.held g.X.Disks.counted g.X.Disks.all_faults c.args.disks.now in
+    let unsaved : saves_by c.args.act ≡ false = search rules in
+    answered_alone g.D.Disk.state depot c.args.self.now c.args.act c.tend.result c.tend.new.self unsaved c.requires.may c.tend.ensures.ready c.tend.ensures.answers
