@@ -3,6 +3,7 @@
 
 usage: tools/oracle.py [COUNT [FIRST]]    runs the scripts FIRST, FIRST + 1, .. (2,000 of them from 0 on), and some that `generate` names
        tools/oracle.py --runs [COUNT [FIRST]]    the same scripts but for the first few, each cut in up to four runs over the same disks, by m3_trials
+       tools/oracle.py --replica          a replica's days beside a list of points, and each bit of its files turned, by replica_trials
        tools/oracle.py --drawn            runs quarters of days, a day with a move, and courses of lines that make placements: their seeds stay the same
        tools/oracle.py --show NUMBER      prints the script of that number
        tools/oracle.py --model < SCRIPT   prints the replies that the model answers, each once its line is there
@@ -11,7 +12,7 @@ The model (oracle_lines.py, oracle_places.py, oracle_model.py) was written from 
 definitions, so it shares no mistake with them but by chance: where the two differ, one of the program, the page and the model is
 wrong. oracle_scripts.py makes the scripts, oracle_days.py and oracle_courses.py those that are drawn by the dice of oracle_dice.py. Of the
 first few random ones that differ the smallest part is printed that differs still, with both replies, and of others the first reply; the status is
-1 then. Faults of disks and want of memory come in no script, and of the ends of a run only those are tried that can be brought about from outside.
+1 then. oracle_calls.py has what one replica is to answer, by a list of its points, and by oracle_files.py, which has the bytes of docs/STORAGE.md. Faults of disks and want of memory come in no script, and of the ends of a run only those are tried that can be brought about from outside.
 """
 import json
 import os
@@ -26,15 +27,22 @@ sys.dont_write_bytecode = True
 import oracle_courses  # noqa: E402
 import oracle_days  # noqa: E402
 import oracle_model  # noqa: E402
+import oracle_calls  # noqa: E402
 import oracle_scripts  # noqa: E402
 
 TOP = Path(__file__).resolve().parent.parent
 PROGRAM = [str(TOP / "m3"), "run"]
-TRIALS = [str(TOP / "tools/build_crates"), "m3_trials", "--", str(TOP / "crates/m3_trials/out/m3_trials")]
 GENERATED = [0, 7, 8, 2**31, 2**32 - 1]
 USAGE = b"usage: m3 run or m3 generate N\n"
 MOST_SHOWN = 5
 MOST_SECONDS = 120
+
+
+def played(crate: str, cases: bytes) -> dict[bytes, bytes]:
+    """What one of the programs that play cases tells of these, by their names."""
+    words = [str(TOP / "tools/build_crates"), crate, "--", str(TOP / "crates" / crate / "out" / crate)]
+    parts = subprocess.run(words, input=cases, capture_output=True).stdout.split(b"@case ")[1:]
+    return dict(it.split(b"\n", 1) for it in parts)
 
 
 def run(script: bytes) -> list[bytes]:
@@ -168,7 +176,7 @@ def hold_runs(count: int, first: int) -> int:
     """Holds several runs over the same disks against the model."""
     scripts = {b"%d" % number: oracle_scripts.runs(number) for number in range(first, first + count)}
     asked = b"".join(b"@case %s\n" % name + b"".join(b"@run\n%%hex %s\n" % it.hex().encode() for it in its) for name, its in scripts.items())
-    told = dict(it.split(b"\n", 1) for it in subprocess.run(TRIALS, input=asked, capture_output=True).stdout.split(b"@case ")[1:])
+    told = played("m3_trials", asked)
     wrong = []
     for name, its in scripts.items():
         wanted = b"".join(b"> ended Done faults=0\n" + b"".join(replies) for replies in oracle_model.replies_of_runs(its))
@@ -181,6 +189,24 @@ def hold_runs(count: int, first: int) -> int:
     return 1 if wrong else 0
 
 
+def hold_replica() -> int:
+    """Holds one replica against a list of points and the bytes of its files."""
+    cases = oracle_calls.cases()
+    told = played("replica_trials", "".join(f"@case {head}\n{lines}\n" for head, (lines, _) in cases.items()).encode())
+    wrong = []
+    for head, (_, wanted) in cases.items():
+        name = head.split(" ")[0]
+        lines = told.get(name.encode(), b"").decode(errors="replace").splitlines()
+        pairs = enumerate(zip_longest(wanted, lines, fillvalue=None), 1)
+        other = next((it for it in pairs if None in it[1] or not it[1][0].fullmatch(it[1][1])), None)
+        if other is not None:
+            wrong.append(name)
+            number, (pattern, line) = other
+            print(f"line {number} of what is told of {name} is to be\n{pattern.pattern if pattern else 'nothing'}\nand is\n{line}")
+    print(f"oracle: {len(cases)} cases of a replica, {len(wrong)} differ", *wrong[:20])
+    return 1 if wrong else 0
+
+
 def main(words: list[str]) -> int:
     match words:
         case ["--model"]:
@@ -190,6 +216,8 @@ def main(words: list[str]) -> int:
             return 0
         case ["--drawn"]:
             return hold_drawn()
+        case ["--replica"]:
+            return hold_replica()
         case ["--runs", *numbers] if len(numbers) <= 2 and all(map(str.isdecimal, numbers)):
             count, first = [*map(int, numbers), *[2000, 0][len(numbers):]]
             return hold_runs(count, first)

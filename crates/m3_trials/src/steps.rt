@@ -6,7 +6,7 @@ use crate::runs::{plan_of, run_script, tell};
 use m3_outside::DiskSlot;
 use mem_disk::{MemDisk, MemDisks};
 use std::alloc::Global;
-use trial_lines::{CaseErr, Part, check_words, number, numbers, script, slot, value_of};
+use trial_lines::{Case, CaseErr, Part, check_words, number, numbers, script, slot, value_of};
 
 /// What the heads of a case have said so far: the words of its runs, and the slots whose faults are told, with their names.
 #[derive(Drop)]
@@ -106,8 +106,7 @@ fn change_disk(
 }
 
 fn run_step(
-    alloc: Global,
-    book: &[Part<'_>],
+    case: Case<'_, '_>,
     part: &Part<'_>,
     words: &str,
     trial: &Trial,
@@ -117,7 +116,8 @@ fn run_step(
     requires { NoneIsOut disks.old }
     ensures { NoneIsOut disks.new }
 {
-    let mut lines = script(alloc, book, part)?;
+    let alloc = case.alloc;
+    let mut lines = script(alloc, case.book, part)?;
     let plan = plan_of(alloc, words, &mut lines)?;
     let ended = run_script(
         alloc,
@@ -129,14 +129,13 @@ fn run_step(
     tell(alloc, &plan, &ended, trial.shown.as_slice(), disks, out)
 }
 
-/// Does what the head of a part asks for, and writes what it tells into the text. A star in the head has its number already.
+/// Does what the head of a part of the case asks for, and writes what it tells into the text. A star in the head has its number already.
 ///
 /// # Errors
 ///
 /// Want of memory, a head that can't be read or done, and lines below one that takes none.
 pub fn step(
-    alloc: Global,
-    book: &[Part<'_>],
+    case: Case<'_, '_>,
     part: &Part<'_>,
     head: &str,
     trial: &mut Trial,
@@ -146,9 +145,10 @@ pub fn step(
     requires { NoneIsOut disks.old }
     ensures { NoneIsOut disks.new }
 {
+    let alloc = case.alloc;
     let (verb, words) = head.split_once(' ').unwrap_or((head, ""));
     if verb == "@run" {
-        return run_step(alloc, book, part, words, trial, disks, out);
+        return run_step(case, part, words, trial, disks, out);
     }
     if !part.is_bare() {
         return Err(CaseErr::Wrong("lines that no run takes"));

@@ -5,7 +5,7 @@
 
 use m3_model::{Memory, Point, Text};
 use mem_disk::MemDisk;
-use replica_stories::{Replica, stream, wide_rules};
+use replica_stories::{Replica, rules_of, stream};
 use std::alloc::Global;
 use std::env;
 use std::process::ExitCode;
@@ -13,7 +13,7 @@ use std::process::ExitCode;
 // A replica on a disk of its own, open.
 fn open_replica(alloc: Global) -> Result<Replica<MemDisk>, Memory> {
     let disk = MemDisk::new(alloc, &[], None)?;
-    let rules = wide_rules(alloc)?;
+    let rules = rules_of(alloc, [200, 100, 50, 5_000], [10_000, 100, 50, 50_000])?;
     let mut replica = Replica::new(alloc, disk, rules);
     let _ = replica.boot(1);
     Ok(replica)

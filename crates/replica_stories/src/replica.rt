@@ -8,15 +8,16 @@ use m3_outside::Disk;
 use replica_machine::{Began, Machine, Work};
 use std::alloc::Global;
 
-// The version of all calls.
+// The version of calls where none is set: no tenure and no fence of a story is above it.
 const VERSION: u64 = 1_000;
 
-/// A replica, and the rules under which it is called. The version of its calls is one that no tenure or fence of a test is above.
+/// A replica, the rules under which it is called, and the version of its calls.
 #[derive(Drop)]
 pub struct Replica<D: Disk> {
     pub alloc: Global,
     machine: Machine<D>,
     pub rules: Rules,
+    version: u64,
     ghost two: { length rules.spaces ≡ 2 },
     ghost sizes: { All (λ space. 0 < space.block) rules.spaces },
 }
@@ -35,7 +36,13 @@ fn space(alloc: Global, name: &str, windows: [u64; 4]) -> Result<Space, Memory>
     })
 }
 
-fn rules_of(alloc: Global, first: [u64; 4], second: [u64; 4]) -> Result<Rules, Memory>
+/// The rules of two namespaces at moment 0: of each the size of its blocks, which is 1 at least, how far into the past and into the future a
+/// put may lie, and how long points are kept.
+///
+/// # Errors
+///
+/// Want of memory.
+pub fn rules_of(alloc: Global, first: [u64; 4], second: [u64; 4]) -> Result<Rules, Memory>
     ensures two { IfOk result (λ rules. length rules.spaces ≡ 2) }
     ensures sizes { IfOk result (λ rules. All (λ space. 0 < space.block) rules.spaces) }
 {
@@ -50,31 +57,6 @@ fn rules_of(alloc: Global, first: [u64; 4], second: [u64; 4]) -> Result<Rules, M
     })
 }
 
-/// Namespace 0 has blocks of 200, and its points expire after 500; namespace 1 has blocks of 100, and its points expire after 300.
-pub fn short_rules(alloc: Global) -> Result<Rules, Memory>
-    ensures two { IfOk result (λ rules. length rules.spaces ≡ 2) }
-    ensures sizes { IfOk result (λ rules. All (λ space. 0 < space.block) rules.spaces) }
-{
-    rules_of(alloc, [200, 100, 50, 500], [100, 50, 50, 300])
-}
-
-/// Namespace 0 has blocks of 200, and its points expire after 5,000; in namespace 1 all is longer.
-pub fn wide_rules(alloc: Global) -> Result<Rules, Memory>
-    ensures two { IfOk result (λ rules. length rules.spaces ≡ 2) }
-    ensures sizes { IfOk result (λ rules. All (λ space. 0 < space.block) rules.spaces) }
-{
-    rules_of(alloc, [200, 100, 50, 5_000], [10_000, 100, 50, 50_000])
-}
-
-/// Namespace 0 has blocks of two hours, and its points expire after six; namespace 1 has blocks of one hour, and its points expire
-/// after two. Times are seconds.
-pub fn day_rules(alloc: Global) -> Result<Rules, Memory>
-    ensures two { IfOk result (λ rules. length rules.spaces ≡ 2) }
-    ensures sizes { IfOk result (λ rules. All (λ space. 0 < space.block) rules.spaces) }
-{
-    rules_of(alloc, [7_200, 600, 120, 21_600], [3_600, 600, 120, 7_200])
-}
-
 impl<D: Disk> Replica<D> {
     /// A replica at Boot over the disk, under these rules.
     pub fn new(alloc: Global, disk: D, rules: Rules) -> Replica<D>
@@ -85,6 +67,7 @@ impl<D: Disk> Replica<D> {
             alloc,
             machine: Machine::new(alloc, disk),
             rules,
+            version: VERSION,
         }
     }
 
@@ -93,8 +76,22 @@ impl<D: Disk> Replica<D> {
         self.rules.now = now;
     }
 
+    /// Calls have this version from now on.
+    pub fn set_version(&mut self, version: u64) {
+        self.version = version;
+    }
+
+    pub fn version(&self) -> u64 {
+        self.version
+    }
+
     pub fn boot(&mut self, tenure: u64) -> Result<Began, Reason> {
         self.machine.boot(tenure)
+    }
+
+    /// Raises the fence to this version.
+    pub fn fence(&mut self, version: u64) -> Result<(), Reason> {
+        self.machine.fence(version)
     }
 
     /// Puts a point. One of another namespace than 0 and 1, or out of bounds, is `Cut`.
@@ -104,7 +101,7 @@ impl<D: Disk> Replica<D> {
         if 2 <= point.ns || id == 0 || MOST_ID_BYTES < id || TIME_END <= point.t {
             return Err(Reason::Cut);
         }
-        self.machine.put(&self.rules, VERSION, point)
+        self.machine.put(&self.rules, self.version, point)
     }
 
     /// The points of the namespace with `from <= t < to`. Of other namespaces than 0 and 1 there are none.
@@ -114,7 +111,24 @@ impl<D: Disk> Replica<D> {
         }
         let wanted = Seq::new(self.alloc);
         let pick = Pick::Match { ns, wanted };
-        self.machine.read(&self.rules, VERSION, &pick, from, to)
+        self.machine
+            .read(&self.rules, self.version, &pick, from, to)
+    }
+
+    /// The same of the series of this identifier alone.
+    pub fn read_one(
+        &mut self,
+        ns: u8,
+        id: Text,
+        from: u64,
+        to: u64,
+    ) -> Result<Seq<Series>, Reason> {
+        if 2 <= ns {
+            return Ok(Seq::new(self.alloc));
+        }
+        let pick = Pick::One { ns, id };
+        self.machine
+            .read(&self.rules, self.version, &pick, from, to)
     }
 
     pub fn flush(&mut self) -> Result<u64, Reason> {
@@ -145,9 +159,13 @@ impl<D: Disk> Replica<D> {
         self.machine.report()
     }
 
-    /// The process stops, the pick says what is left, and it starts again.
-    pub fn restart(&mut self, pick: u64) -> Result<(), Reason> {
+    /// The process stops.
+    pub fn stop(&mut self) {
         self.machine.stop();
+    }
+
+    /// The process starts again, also where it didn't stop before; the pick says what is left on the disk.
+    pub fn start(&mut self, pick: u64) -> Result<(), Reason> {
         self.machine.restart(pick)
     }
 

@@ -4,8 +4,8 @@ use m3_model::{Damage, Memory, Reason, Seq, Series};
 use m3_outside::{DiskErr, FileName};
 use std::alloc::Global;
 
-/// The points of the series, each as ` hello@1000=7`.
-pub fn tell_series(series: &Series, out: &mut String) -> Result<(), Memory> {
+// The points of the series, each as ` hello@1000=7`.
+fn tell_series(series: &Series, out: &mut String) -> Result<(), Memory> {
     for pair in series.points.as_slice() {
         let (t, v) = *pair;
         write!(out, " {}@{t}={v}", series.id.as_str())?;
@@ -13,15 +13,15 @@ pub fn tell_series(series: &Series, out: &mut String) -> Result<(), Memory> {
     Ok(())
 }
 
-pub fn tell_all(all: &Seq<Series>, out: &mut String) -> Result<(), Memory> {
+pub(crate) fn tell_all(all: &Seq<Series>, out: &mut String) -> Result<(), Memory> {
     for series in all.as_slice() {
         tell_series(series, out)?;
     }
     Ok(())
 }
 
-/// The bytes as hexadecimal digits, behind these words.
-pub fn tell_hex(alloc: Global, before: &str, bytes: &[u8], out: &mut String) -> Result<(), Memory> {
+// The bytes as hexadecimal digits, behind these words.
+fn tell_hex(alloc: Global, before: &str, bytes: &[u8], out: &mut String) -> Result<(), Memory> {
     match tell_bytes(alloc, before, bytes, out) {
         Ok(()) => Ok(()),
         Err(_) => Err(Memory),
@@ -52,13 +52,8 @@ fn tell_file(file: &str, out: &mut String) -> Result<(), Memory> {
     Ok(())
 }
 
-/// Damage: its file, with its place, or, where all is to be told, with the digests that are kept and found.
-pub fn tell_damage(
-    alloc: Global,
-    damage: &Damage,
-    full: bool,
-    out: &mut String,
-) -> Result<(), Memory> {
+// Damage: its file, with its place, or, where all is to be told, with the digests that are kept and found.
+fn tell_damage(alloc: Global, damage: &Damage, full: bool, out: &mut String) -> Result<(), Memory> {
     match damage {
         Damage::Digest { file, kept, found } => {
             tell_file(file.as_str(), out)?;
@@ -81,8 +76,8 @@ fn name_of(reason: &Reason) -> &'static str {
     }
 }
 
-/// Why a replica refused.
-pub fn tell_reason(
+/// Why a replica refused; of a stale call with the fence, as `stale2`.
+pub(crate) fn tell_reason(
     alloc: Global,
     reason: &Reason,
     full: bool,
@@ -90,12 +85,13 @@ pub fn tell_reason(
 ) -> Result<(), Memory> {
     match reason {
         Reason::Corrupt(damage) => tell_damage(alloc, damage, full, out),
+        Reason::Stale { fence } => Ok(write!(out, "stale{fence}")?),
         _ => Ok(out.push_str(name_of(reason))?),
     }
 }
 
 /// Those of the files that are of this kind, each as ` 7.0.1000.1`: its kind, its namespace, its block and its number.
-pub fn tell_kind(names: &[FileName], kind: u8, out: &mut String) -> Result<(), Memory> {
+pub(crate) fn tell_kind(names: &[FileName], kind: u8, out: &mut String) -> Result<(), Memory> {
     for name in names {
         if name.kind == kind {
             tell_name(*name, out)?;
@@ -105,7 +101,7 @@ pub fn tell_kind(names: &[FileName], kind: u8, out: &mut String) -> Result<(), M
 }
 
 /// What a disk answers in place of files.
-pub fn tell_fault(why: DiskErr, out: &mut String) -> Result<(), Memory> {
+pub(crate) fn tell_fault(why: DiskErr, out: &mut String) -> Result<(), Memory> {
     match why {
         DiskErr::Failed => Ok(out.push_str("disk")?),
         DiskErr::Memory => Err(Memory),

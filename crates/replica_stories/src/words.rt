@@ -1,10 +1,11 @@
 //! Words, and what a replica does for each.
+use crate::files::{change_files, is_of_files};
 use crate::pages::{merge, page};
 use crate::replica::Replica;
-use crate::tells::{tell_all, tell_fault, tell_kind, tell_reason};
+use crate::tells::{tell_all, tell_reason};
 use disk_stories::{number, part, small, text};
 use m3_model::{Memory, Point, Reason, Seq, Series, Standing, Text};
-use m3_outside::{Disk, FileName};
+use m3_outside::Disk;
 use replica_machine::Began;
 use std::alloc::Global;
 
@@ -109,6 +110,19 @@ fn read<D: Disk>(replica: &mut Replica<D>, words: &str, out: &mut String) -> Res
     found(replica.alloc, said, out)
 }
 
+// `o0,hello,100,200` reads those of one series.
+fn read_one<D: Disk>(
+    replica: &mut Replica<D>,
+    words: &str,
+    out: &mut String,
+) -> Result<bool, Memory> {
+    let ns = small(part(words, ',', 0));
+    let id = Text::from_str(replica.alloc, part(words, ',', 1))?;
+    let from = number(part(words, ',', 2));
+    let said = replica.read_one(ns, id, from, number(part(words, ',', 3)));
+    found(replica.alloc, said, out)
+}
+
 // `n` tells how many volumes count, and how many points are in memory.
 fn report<D: Disk>(replica: &Replica<D>, out: &mut String) -> Result<bool, Memory> {
     let report = replica.report();
@@ -132,10 +146,22 @@ fn snapshot<D: Disk>(replica: &mut Replica<D>, out: &mut String) -> Result<bool,
     counted(replica.alloc, said, out)
 }
 
-// `z85` stops the process, the pick says what is left, and it starts again.
-fn restart<D: Disk>(replica: &mut Replica<D>, pick: u64, out: &mut String) -> Result<bool, Memory> {
-    let said = replica.restart(pick);
+// `h` stops the process.
+fn stop<D: Disk>(replica: &mut Replica<D>) -> Result<bool, Memory> {
+    replica.stop();
+    Ok(true)
+}
+
+// `y85` starts it again, and the pick says what is left.
+fn start<D: Disk>(replica: &mut Replica<D>, pick: u64, out: &mut String) -> Result<bool, Memory> {
+    let said = replica.start(pick);
     done(replica.alloc, said, out)
+}
+
+// `z85` stops it first.
+fn restart<D: Disk>(replica: &mut Replica<D>, pick: u64, out: &mut String) -> Result<bool, Memory> {
+    replica.stop();
+    start(replica, pick, out)
 }
 
 // `w` tells how many ticks, flushes and snapshots answered a number, and the sum of all that did.
@@ -155,6 +181,33 @@ fn set_moment<D: Disk>(replica: &mut Replica<D>, now: u64) -> Result<bool, Memor
     Ok(true)
 }
 
+// `v3` has the calls that follow at this version.
+fn set_version<D: Disk>(replica: &mut Replica<D>, version: u64) -> Result<bool, Memory> {
+    replica.set_version(version);
+    Ok(true)
+}
+
+// `e3` raises the fence to this version.
+fn fence<D: Disk>(
+    replica: &mut Replica<D>,
+    version: u64,
+    out: &mut String,
+) -> Result<bool, Memory> {
+    let said = replica.fence(version);
+    done(replica.alloc, said, out)
+}
+
+// `q` tells the fence.
+fn tell_fence<D: Disk>(replica: &Replica<D>, out: &mut String) -> Result<bool, Memory> {
+    write!(out, "{}", replica.report().fence)?;
+    Ok(true)
+}
+
+fn unknown(out: &mut String) -> Result<bool, Memory> {
+    out.push_str("no such word")?;
+    Ok(false)
+}
+
 // Does what a word says that leaves the replica on its disk.
 fn act<D: Disk>(replica: &mut Replica<D>, word: &str, out: &mut String) -> Result<bool, Memory> {
     match word.as_bytes() {
@@ -163,6 +216,10 @@ fn act<D: Disk>(replica: &mut Replica<D>, word: &str, out: &mut String) -> Resul
         [b'd', rest @ ..] => begin(replica, number(text(rest)), true, out),
         [b'p', rest @ ..] => put(replica, text(rest), out),
         [b'r', rest @ ..] => read(replica, text(rest), out),
+        [b'o', rest @ ..] => read_one(replica, text(rest), out),
+        [b'v', rest @ ..] => set_version(replica, number(text(rest))),
+        [b'e', rest @ ..] => fence(replica, number(text(rest)), out),
+        [b'y', rest @ ..] => start(replica, number(text(rest)), out),
         [b'z', rest @ ..] => restart(replica, number(text(rest)), out),
         [b'g', rest @ ..] => page(replica, text(rest), out),
         [b'm', rest @ ..] => merge(replica, text(rest), out),
@@ -171,52 +228,24 @@ fn act<D: Disk>(replica: &mut Replica<D>, word: &str, out: &mut String) -> Resul
         [b's'] => snapshot(replica, out),
         [b'n'] => report(replica, out),
         [b'w'] => work(replica, out),
-        _ => Ok(false),
+        [b'q'] => tell_fence(replica, out),
+        [b'h'] => stop(replica),
+        _ => unknown(out),
     }
 }
 
-// How many of these files are of this kind.
-fn count_kind(names: &[FileName], kind: u8) -> usize {
-    names.iter().filter(|name| name.kind == kind).count()
-}
-
-// Tells how many segments there are, and how many files of snapshots and of their checkpoints.
-fn tell_counts(names: &[FileName], out: &mut String) -> Result<(), Memory> {
-    for kind in [0, 8, 9] {
-        write!(out, " {}", count_kind(names, kind))?;
-    }
-    Ok(())
-}
-
-// Tells those counts, or the checkpoints of volumes, of a disk.
-fn tell_files<D: Disk>(disk: &mut D, counts: bool, out: &mut String) -> Result<bool, Memory> {
-    match disk.list() {
-        Ok(names) => {
-            if counts {
-                tell_counts(names.as_slice(), out)?;
-            } else {
-                tell_kind(names.as_slice(), 7, out)?;
-            }
-            Ok(true)
-        }
-        Err(why) => {
-            tell_fault(why, out)?;
-            Ok(false)
-        }
-    }
-}
-
-// `l` tells the checkpoints of volumes, and `c` how many segments there are, and how many files of snapshots and of their
-// checkpoints. The replica stands at Boot then.
-fn list<D: Disk>(
+// Does what a word of files says, with the replica's disk. The replica stands at Boot then.
+fn act_on_files<D: Disk>(
     replica: Replica<D>,
-    counts: bool,
+    word: &str,
     out: &mut String,
 ) -> Result<(Replica<D>, bool), Memory> {
-    let alloc = replica.alloc;
+    let (alloc, version) = (replica.alloc, replica.version());
     let (mut disk, rules) = replica.into_parts();
-    let went = tell_files(&mut disk, counts, out)?;
-    Ok((Replica::new(alloc, disk, rules), went))
+    let went = change_files(alloc, &mut disk, word, out)?;
+    let mut replica = Replica::new(alloc, disk, rules);
+    replica.set_version(version);
+    Ok((replica, went))
 }
 
 /// Has the replica do what the word says, and writes into the text what it answers. Says whether it did.
@@ -225,13 +254,27 @@ pub fn say<D: Disk>(
     word: &str,
     out: &mut String,
 ) -> Result<(Replica<D>, bool), Memory> {
-    match word.as_bytes() {
-        [b'l'] => list(replica, false, out),
-        [b'c'] => list(replica, true, out),
-        _ => {
-            let mut replica = replica;
-            let went = act(&mut replica, word, out)?;
-            Ok((replica, went))
-        }
+    if is_of_files(word) {
+        return act_on_files(replica, word, out);
     }
+    let mut replica = replica;
+    let went = act(&mut replica, word, out)?;
+    Ok((replica, went))
+}
+
+/// What each of the words answers, with `|` behind it. Says whether all were done.
+pub fn steps<D: Disk>(
+    replica: Replica<D>,
+    words: &str,
+    out: &mut String,
+) -> Result<(Replica<D>, bool), Memory> {
+    let mut replica = replica;
+    let mut all = true;
+    for word in words.split(' ') {
+        let (next, went) = say(replica, word, out)?;
+        out.push('|')?;
+        replica = next;
+        all = all && went;
+    }
+    Ok((replica, all))
 }

@@ -17,16 +17,29 @@ pub fn number(text: &str) -> Result<u64, CaseErr> {
         .map_err(|_| CaseErr::Wrong("not a number"))
 }
 
-/// The numbers that the text is, as `1,4`, in their order; none where there is no text.
+// Adds the numbers of the span to these.
+fn add_span(text: &str, all: &mut Vec<u64>) -> Result<(), CaseErr> {
+    let (first, end) = span(text)?;
+    for one in first..end {
+        all.push(one)?;
+    }
+    Ok(())
+}
+
+/// The numbers that the text is, as `1,4` or `0..3,7`, in their order; none where there is no text.
 ///
 /// # Errors
 ///
-/// Want of memory, and a word that is no number.
+/// Want of memory, and a word that is no number and no span.
 pub fn numbers(alloc: Global, text: Option<&str>) -> Result<Vec<u64>, CaseErr> {
     let mut all = Vec::new(alloc);
     if let Some(text) = text {
         for word in text.split(',') {
-            all.push(number(word)?)?;
+            if word.contains("..") {
+                add_span(word, &mut all)?;
+            } else {
+                all.push(number(word)?)?;
+            }
         }
     }
     Ok(all)
@@ -110,15 +123,15 @@ pub fn check_words(words: &str, known: &str) -> Result<(), CaseErr> {
     Ok(())
 }
 
-/// The text with this number in the place of each star.
+/// The text with this number in the place of each sign of this kind.
 ///
 /// # Errors
 ///
 /// Want of memory.
-pub fn with_number(alloc: Global, text: &str, number: u64) -> Result<String, CaseErr> {
+pub fn with_number(alloc: Global, text: &str, sign: char, number: u64) -> Result<String, CaseErr> {
     let mut all = String::new(alloc);
     let mut is_first = true;
-    for part in text.split('*') {
+    for part in text.split(sign) {
         if !is_first {
             write!(all, "{number}")?;
         }
@@ -126,4 +139,23 @@ pub fn with_number(alloc: Global, text: &str, number: u64) -> Result<String, Cas
         is_first = false;
     }
     Ok(all)
+}
+
+/// What stands in a case in the place of signs: a number of its span for each `*`, and one of its picks for each `?`.
+#[derive(Clone, Copy)]
+pub struct Signs {
+    pub number: u64,
+    pub pick: u64,
+}
+
+impl Signs {
+    /// The text with these numbers in the place of its signs.
+    ///
+    /// # Errors
+    ///
+    /// Want of memory.
+    pub fn put_into(self, alloc: Global, text: &str) -> Result<String, CaseErr> {
+        let text = with_number(alloc, text, '*', self.number)?;
+        with_number(alloc, text.as_str(), '?', self.pick)
+    }
 }

@@ -1,11 +1,15 @@
 //! The script that the lines of a part spell.
 use crate::case_err::CaseErr;
-use crate::heads::number;
+use crate::heads::{number, span, with_number};
 use crate::parts::Part;
 use std::alloc::Global;
 
-// The text of this name.
-fn text_of<'b, 'a>(book: &'b [Part<'a>], name: &str) -> Result<&'b Part<'a>, CaseErr> {
+/// The text of this name.
+///
+/// # Errors
+///
+/// There is none.
+pub fn text_of<'b, 'a>(book: &'b [Part<'a>], name: &str) -> Result<&'b Part<'a>, CaseErr> {
     for part in book {
         if part.head.strip_prefix("@text ") == Some(name) {
             return Ok(part);
@@ -50,6 +54,16 @@ fn add_repeated(words: &str, out: &mut Vec<u8>) -> Result<(), CaseErr> {
     Ok(())
 }
 
+// `0..5000 {}` is that line once for each number, which stands in the place of each star.
+fn add_counted(alloc: Global, words: &str, out: &mut Vec<u8>) -> Result<(), CaseErr> {
+    let (numbers, line) = words.split_once(' ').unwrap_or((words, ""));
+    let (first, end) = span(numbers)?;
+    for number in first..end {
+        add_line(with_number(alloc, line, '*', number)?.as_str(), out)?;
+    }
+    Ok(())
+}
+
 fn add_bytes(alloc: Global, digits: &str, out: &mut Vec<u8>) -> Result<(), CaseErr> {
     match hex::decode(alloc, digits) {
         Ok(bytes) => Ok(out.extend_from_slice(bytes.as_slice())?),
@@ -70,13 +84,15 @@ fn add_spelled(
     match words.split_once(' ') {
         Some(("use", name)) => add_text(text_of(book, name)?, out),
         Some(("repeat", words)) => add_repeated(words, out),
+        Some(("count", words)) => add_counted(alloc, words, out),
         Some(("hex", digits)) => add_bytes(alloc, digits, out),
         _ => Err(CaseErr::Wrong("no such line of a script")),
     }
 }
 
 /// The bytes of the script below a head: its lines, each with a newline, without the empty ones at its end. `%use NAME` stands for the lines
-/// of that text of the book, `%repeat 5000 LINE` for so many lines, and `%hex 7bff` for these bytes.
+/// of that text of the book, `%repeat 5000 LINE` for so many lines, `%count 0..5000 LINE` for one with each of these numbers in the place of
+/// its stars, and `%hex 7bff` for these bytes.
 ///
 /// # Errors
 ///
