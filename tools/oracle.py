@@ -3,19 +3,24 @@
 
 usage: tools/oracle.py [COUNT [FIRST]]    runs the scripts FIRST, FIRST + 1, .. (2,000 of them from 0 on), and some that `generate` names
        tools/oracle.py --runs [COUNT [FIRST]]    the same scripts but for the first few, each cut in up to four runs over the same disks, by m3_trials
+       tools/oracle.py --faults [COUNT [FIRST]]    scripts over disks that fail, by m3_trials: those of the seeds, and COUNT drawn from FIRST on (100 from 0 on)
        tools/oracle.py --replica          a replica's days beside a list of points, and each bit of its files turned, by replica_trials
        tools/oracle.py --drawn            runs quarters of days, a day with a move, and courses of lines that make placements: their seeds stay the same
-       tools/oracle.py --show NUMBER      prints the script of that number
+       tools/oracle.py --show NUMBER      prints the script of that number; of a NAME, as drawn/7, the case over disks that fail
        tools/oracle.py --model < SCRIPT   prints the replies that the model answers, each once its line is there
 
-The model (oracle_lines.py, oracle_places.py, oracle_model.py) was written from that page and from docs/PLACEMENT.md alone, without a look at the program or at its
-definitions, so it shares no mistake with them but by chance: where the two differ, one of the program, the page and the model is
-wrong. oracle_scripts.py makes the scripts, oracle_days.py and oracle_courses.py those that are drawn by the dice of oracle_dice.py. Of the
-first few random ones that differ the smallest part is printed that differs still, with both replies, and of others the first reply; the status is
-1 then. oracle_calls.py has what one replica is to answer, by a list of its points, and by oracle_files.py, which has the bytes of docs/STORAGE.md. Faults of disks and want of memory come in no script, and of the ends of a run only those are tried that can be brought about from outside.
+The model (oracle_lines.py, oracle_places.py, oracle_store.py, oracle_model.py) was written from that page, docs/PLACEMENT.md and docs/STORAGE.md alone, without
+a look at the program or at its definitions, so it shares no mistake with them but by chance: where the two differ, one of the program, the pages and the model is
+wrong. oracle_scripts.py makes the scripts, oracle_days.py, oracle_courses.py and oracle_faults.py those that are drawn by the dice of
+oracle_dice.py. Of the first few random ones that differ the smallest part is printed that differs still, with both replies, and of others the
+first reply; the status is 1 then. Where disks of replicas fail, oracle_judge.py says whether the replies may be so, as it isn't known when a disk
+fails, only how often. oracle_calls.py has what one replica is to answer, by a list of its points, and by oracle_files.py, which has
+the bytes of docs/STORAGE.md. The meta disk fails in no script, and memory is never wanted; of the ends of a run only those are tried that can be brought
+about from outside.
 """
 import json
 import os
+import re
 import subprocess
 import sys
 from concurrent.futures import ProcessPoolExecutor, ThreadPoolExecutor
@@ -24,10 +29,12 @@ from pathlib import Path
 from typing import IO
 
 sys.dont_write_bytecode = True
+import oracle_calls  # noqa: E402
 import oracle_courses  # noqa: E402
 import oracle_days  # noqa: E402
+import oracle_faults  # noqa: E402
+import oracle_judge  # noqa: E402
 import oracle_model  # noqa: E402
-import oracle_calls  # noqa: E402
 import oracle_scripts  # noqa: E402
 
 TOP = Path(__file__).resolve().parent.parent
@@ -207,6 +214,52 @@ def hold_replica() -> int:
     return 1 if wrong else 0
 
 
+def told_runs(scripts: list[bytes], told: bytes) -> list[oracle_judge.Run]:
+    """What is told of a case's runs."""
+    parts = re.split(rb"^> ended ", told, flags=re.M)[1:]
+    runs = []
+    for script, part in zip_longest(scripts, parts, fillvalue=b"nothing\n"):
+        head, *replies = part.splitlines(keepends=True)
+        faults = {slot.decode(): int(count) for slot, count in re.findall(rb" ([a-p]\d+)=(\d+)", head)}
+        if not re.match(rb"Done faults=%d\b" % sum(faults.values()), head):
+            raise oracle_judge.Wrong("a run ended so:", head.decode().rstrip())
+        runs.append(oracle_judge.Run(script, replies, faults))
+    return runs
+
+
+def judged(case: oracle_faults.Case, told: bytes) -> oracle_judge.Stakes | list[str]:
+    """What came of a case, or what is wrong."""
+    try:
+        return oracle_judge.judged(told_runs(case.scripts, told))
+    except oracle_judge.Wrong as wrong:
+        return [*map(str, wrong.args)]
+
+
+def few(stakes: dict[str, oracle_judge.Stakes]) -> list[str]:
+    """The seeds in whose scripts too little was at stake to say much: scripts with moves are taken together."""
+    alone = [name for name, it in stakes.items() if name.startswith(("plain/", "upkeep/")) and it.is_below(oracle_judge.Stakes(30, 0, 2))]
+    moving = [it for name, it in stakes.items() if name.startswith("moving/")]
+    least = oracle_judge.Stakes(30 * len(moving), 2 * len(moving), 2 * len(moving))
+    return alone + ["moving"] * (moving != [] and oracle_judge.Stakes(*map(sum, zip(*moving))).is_below(least))
+
+
+def hold_faults(count: int, first: int) -> int:
+    """Holds runs over disks that fail against what the model says that they may answer."""
+    cases = oracle_faults.seeded() | {f"drawn/{number}": oracle_faults.drawn(number) for number in range(first, first + count)}
+    asked = b"".join(case.asked(name) for name, case in cases.items())
+    told = played("m3_trials", asked)
+    with ProcessPoolExecutor(os.cpu_count()) as pool:
+        found = dict(zip(cases, pool.map(judged, cases.values(), [told.get(name.encode(), b"") for name in cases], chunksize=4)))
+    wrong = [name for name, it in found.items() if isinstance(it, list)]
+    for name in wrong[:MOST_SHOWN]:
+        print(f"{name} isn't answered as it may be: the line and its reply, or what is wrong, and what might be", *found[name], sep="\n", flush=True)
+    right = {name: it for name, it in found.items() if name not in wrong}
+    empty = few(right)
+    faults = sum(it.faults for it in right.values())
+    print(f"oracle: {len(cases)} cases over disks that fail, {faults} faults, {len(wrong)} wrong; too little comes of {len(empty)}", *wrong[:20], *empty)
+    return 1 if wrong or empty else 0
+
+
 def main(words: list[str]) -> int:
     match words:
         case ["--model"]:
@@ -221,6 +274,12 @@ def main(words: list[str]) -> int:
         case ["--runs", *numbers] if len(numbers) <= 2 and all(map(str.isdecimal, numbers)):
             count, first = [*map(int, numbers), *[2000, 0][len(numbers):]]
             return hold_runs(count, first)
+        case ["--faults", *numbers] if len(numbers) <= 2 and all(map(str.isdecimal, numbers)):
+            count, first = [*map(int, numbers), *[100, 0][len(numbers):]]
+            return hold_faults(count, first)
+        case ["--show", name] if re.fullmatch(r"drawn/\d+", name) or name in oracle_faults.seeded():
+            sys.stdout.buffer.write(oracle_faults.case(name).asked(name))
+            return 0
         case ["--show", number] if number.isdecimal():
             sys.stdout.buffer.write(oracle_scripts.script(int(number)))
             return 0

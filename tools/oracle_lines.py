@@ -18,7 +18,7 @@ SEED_END = 2**32
 MOST_ID_BYTES = 512
 MOST_TAGS = 32
 MOST_DEPTH = 127
-CODES = {"form": 1, "order": 3, "unknown": 4, "limit": 5, "clock": 6, "consistency": 7, "busy": 8, "group": 9, "peers": 10, "state": 12, "later": 16}
+CODES = {"form": 1, "order": 3, "unknown": 4, "limit": 5, "clock": 6, "consistency": 7, "busy": 8, "group": 9, "peers": 10, "disk": 11, "state": 12, "full": 14, "later": 16}
 
 
 class Refused(Exception):

@@ -1,26 +1,22 @@
 """A small model of the cluster, as docs/REQUESTS.md has it. `tools/oracle.py` says what this is for.
 
 It was written from that page and from docs/PLACEMENT.md, to which it links: `replies` answers a script's bytes with the bytes
-that the program must print.
+that the program must print. The disks of its replicas never fail; of those that do, `oracle_judge.py` says which replies may be.
 """
 import json
-from dataclasses import dataclass, field
-from typing import Any, Iterable, Iterator
+from dataclasses import dataclass
+from typing import Callable, Iterable, Iterator
 
 from oracle_lines import Refused, Request, read_line, tags_of
 from oracle_places import JOINING, MOST_VERSIONS, Place, ended, first_place, next_place
+from oracle_store import Namespace, Point, Points, Reason, Replica, joined
 
 MOST_NAMESPACES = 8
 MOST_LATE_WRITES = 4096
-SEGMENT_BYTES = 65536
-MARK_BYTES = 14  # of a tenure or a fence in the log
-HEAD_BYTES = 8  # of an entry of points, each of which takes its identifier's bytes and these
-POINT_BYTES = 19
 PAGE_POINTS = 64
-Point = tuple[str, str, int]
-Reason = list  # its word, and for `stale` the fence
-Points = dict[Point, int]
-Block = tuple[str, int]
+Picks = Callable[[str], bool]  # of a series, whether it is asked for
+Work = Callable[[Replica, dict[str, Namespace], int], int]
+OWN_DISK = ["own disk"]  # why a stream ended: it was the disk of the one that joins
 
 
 def murmur(data: bytes, seed: int) -> int:
@@ -43,131 +39,6 @@ def murmur(data: bytes, seed: int) -> int:
 
 
 @dataclass
-class Namespace:
-    block: int
-    past: int
-    future: int
-    retention: int
-
-    def start(self, at: int) -> int:
-        """Where the block of a time begins."""
-        return at - at % self.block
-
-    def has_expired(self, at: int, now: int) -> bool:
-        return at + self.retention <= now
-
-
-def raise_point(points: Points, point: Point, value: int) -> None:
-    points[point] = max(value, points.get(point, value))
-
-
-def joined(*all_points: Points) -> Points:
-    join: Points = {}
-    for points in all_points:
-        for point, value in points.items():
-            raise_point(join, point, value)
-    return join
-
-
-@dataclass
-class Replica:
-    """A node's replica of a shard: how it stands, its tenure and fence, what it has in memory, and on its disk: volumes by namespace
-    and start, the newest snapshot's number, and what that snapshot and the log have, of which the last segment is filled so far."""
-    standing: str = "open"
-    tenure: int | None = 1  # none where a later placement took the shard from its node
-    begun: int = 1  # the highest that it ever had, which is in its log
-    fence: int = 1
-    memory: Points = field(default_factory=dict)
-    volumes: dict[Block, Points] = field(default_factory=dict)
-    log: Points = field(default_factory=dict)
-    segments: int = 1
-    filled: int = MARK_BYTES
-    snapshots: int = 0
-
-    def write_down(self, size: int) -> None:
-        if self.filled + size > SEGMENT_BYTES:
-            self.begin_segment()
-        self.filled += size
-
-    def take_all(self, points: Points) -> None:
-        self.write_down(HEAD_BYTES + sum(POINT_BYTES + len(identifier.encode()) for _, identifier, _ in points))
-        for point, value in points.items():
-            raise_point(self.log, point, value)
-            raise_point(self.memory, point, value)
-
-    def merge(self, page: Points) -> None:
-        """Takes of a page what is new here, or higher."""
-        content = self.content()
-        if new := {it: value for it, value in page.items() if it not in content or content[it] < value}:
-            self.take_all(new)
-
-    def raise_fence(self, version: int) -> None:
-        if self.fence < version:
-            self.write_down(MARK_BYTES)
-            self.fence = version
-
-    def begin(self, tenure: int) -> None:
-        """Has this tenure, and serves."""
-        if self.standing == "boot":
-            self.load()
-        if self.begun < tenure:
-            self.write_down(MARK_BYTES)
-        self.tenure, self.begun, self.fence = tenure, max(self.begun, tenure), max(self.fence, tenure)
-
-    def closed(self) -> Reason | None:
-        """Why it does nothing at all, if it doesn't."""
-        return None if self.standing == "open" else [self.standing]
-
-    def unowned(self, version: int) -> Reason | None:
-        """Why it can't be fenced at this version."""
-        return self.closed() or (["notowned"] if self.tenure is None or self.tenure > version else None)
-
-    def refusal(self, version: int) -> Reason | None:
-        """Why it takes and gives nothing by this version."""
-        return self.unowned(version) or (["stale", self.fence] if self.fence > version else None)
-
-    def begin_segment(self) -> None:
-        self.segments, self.filled = self.segments + 1, 0
-
-    def content(self) -> Points:
-        return joined(self.memory, *self.volumes.values())
-
-    def load(self) -> None:
-        """What the files have, of which no volume has it so, is in memory again."""
-        kept = joined(self.log, *self.volumes.values())
-        self.memory = {it: value for it, value in kept.items() if not any(that.get(it) == value for that in self.volumes.values())}
-        self.begin_segment()
-        self.standing = "open"
-
-    def flush(self, spaces: dict[str, Namespace], now: int) -> int:
-        """Writes a volume for each block that has ended and has points in memory; says how many."""
-        ended: dict[Block, Points] = {}
-        for (ns, identifier, at), value in self.memory.items():
-            space = spaces[ns]
-            if space.start(at) + space.block + space.past <= now:
-                ended.setdefault((ns, space.start(at)), {})[ns, identifier, at] = value
-        for block, points in ended.items():
-            self.volumes[block] = joined(points, self.volumes.get(block, {}))
-            self.memory = {it: value for it, value in self.memory.items() if it not in points}
-        return len(ended)
-
-    def tick(self, spaces: dict[str, Namespace], now: int) -> int:
-        """Drops what has expired; says how many points it has no more."""
-        before = len(self.content())
-        self.memory = {it: value for it, value in self.memory.items() if not spaces[it[0]].has_expired(it[2], now)}
-        self.volumes = {(ns, start): points for (ns, start), points in self.volumes.items()
-                        if not spaces[ns].has_expired(start + spaces[ns].block, now)}
-        return before - len(self.content())
-
-    def snapshot(self, _spaces: dict[str, Namespace], _now: int) -> int:
-        """Saves what is in memory, in place of the log and older snapshots; says the snapshot's number."""
-        self.log = dict(self.memory)
-        self.segments, self.filled = 1, 0
-        self.snapshots += 1
-        return self.snapshots
-
-
-@dataclass
 class LateWrite:
     node: str
     shard: int
@@ -181,6 +52,7 @@ class Cluster:
         self.seed = 0
         self.places: list[Place] = []  # those that are kept, by their versions: in a first run from 1 on
         self.replicas: list[dict[str, Replica]] = []  # by shard, and then by node
+        self.left: dict[tuple[int, str], Replica] = {}  # of an earlier run, which no placement of this one has had yet
         self.stopped: set[str] = set()
         self.namespaces: dict[str, Namespace] = {}
         self.now = 0
@@ -199,8 +71,8 @@ class Cluster:
         if op in CALLS:
             if request["ns"] not in self.namespaces:
                 raise Refused("unknown", name=request["ns"])
-            return CALLS[op](self, request, self.place_at(request), call)
-        return ACTS[op](self, request) or {}
+            return getattr(self, op)(request, self.place_at(request), call)
+        return getattr(self, ACTS[op])(request) or {}
 
     def place(self) -> Place:
         """The placement that stands."""
@@ -235,13 +107,14 @@ class Cluster:
             return ["past"]
         return ["future"] if at >= self.now + namespace.future else None
 
-    def put(self, node: str, shard: int, version: int, point: Point, value: int) -> Reason | None:
+    def put(self, replica: Replica, version: int, point: Point, value: int) -> Reason | None:
         """A replica takes a point, or tells why not."""
-        replica = self.replicas[shard][node]
         reason = replica.refusal(version) or self.window(self.namespaces[point[0]], point[2])
-        if reason is None:
-            replica.take_all({point: value})
-        return reason
+        return reason or replica.tried(lambda: replica.take_all({point: value}))[1]
+
+    def send(self, node: str, shard: int, version: int, point: Point, value: int, copies: int = 1) -> Reason | None:
+        """A write's message comes so many times; what the first one is answered."""
+        return [self.put(self.replicas[shard][node], version, point, value) for _ in range(copies)][0]
 
     def copies(self, call: int, node: str) -> int:
         return 2 if self.fates.get((call, node)) == "twice" else 1
@@ -259,8 +132,7 @@ class Cluster:
                 if self.fates[call, node] == "late" and len(self.late) < MOST_LATE_WRITES:
                     self.late.append(LateWrite(node, shard, place.version, point, value))
             else:
-                for _ in range(self.copies(call, node)):
-                    reasons[node] = self.put(node, shard, place.version, point, value)
+                reasons[node] = self.send(node, shard, place.version, point, value, self.copies(call, node))
         counted = {node: reasons[node] for node in place.counted(shard)}
         self.demand_level(shard, request.get("level", "majority"), counted)
         return {"acks": answered(counted)}
@@ -280,25 +152,26 @@ class Cluster:
             return all((tags.get(tag) == value) == (sign == "=") for tag, sign, value in request["where"])
         return self.read(request, place, call, range(len(self.replicas)), picks)
 
-    def read(self, request: Request, place: Place, call: int, shards: Iterable[int], picks: Any) -> Request:
+    def read(self, request: Request, place: Place, call: int, shards: Iterable[int], picks: Picks) -> Request:
         """The join of what each replica that answers has of the picked series."""
         level = request.get("level", "majority")
         found: Points = {}
         short = False
         for shard in shards:
-            reasons = {it: ["cut"] if self.is_cut(call, it) else self.replicas[shard][it].refusal(place.version)
+            answers = {it: (["cut"], {}) if self.is_cut(call, it) else self.look_up(self.replicas[shard][it], request, place, picks)
                        for it in place.counted(shard)}
+            reasons = {node: reason for node, (reason, _) in answers.items()}
             self.demand_level(shard, level, reasons)
             short |= len(answered(reasons)) < self.majority()
-            for node in answered(reasons):
-                for point, value in self.replicas[shard][node].content().items():
-                    if self.is_asked(request, point) and picks(point[1]):
-                        raise_point(found, point, value)
-        series: dict[str, list] = {}
-        for (_, identifier, at), value in sorted(found.items(), key=lambda it: (it[0][1].encode(), it[0][2])):
-            series.setdefault(identifier, []).append([at, value])
-        return {"series": [{"id": it, "points": points} for it, points in series.items()],
-                "short": short and level == "unstrict"}
+            found = joined(found, *(points for _, points in answers.values()))
+        return {"series": series_of(found), "short": short and level == "unstrict"}
+
+    def look_up(self, replica: Replica, request: Request, place: Place, picks: Picks) -> tuple[Reason | None, Points]:
+        """What a replica has of the picked series, or why it gives nothing."""
+        reason = replica.refusal(place.version) or replica.tried(replica.look)[1]
+        if reason:
+            return reason, {}
+        return None, {it: value for it, value in replica.content().items() if self.is_asked(request, it) and picks(it[1])}
 
     def is_asked(self, request: Request, point: Point) -> bool:
         ns, _, at = point
@@ -309,22 +182,34 @@ class Cluster:
     def init(self, request: Request) -> Request:
         self.places = [first_place(request["rf"], request["shards"], request["nodes"])]
         self.seed = request["seed"]
-        self.replicas = [{node: Replica() for node in shard} for shard in self.place().shards]
+        self.replicas = [{} for _ in self.place().shards]
+        for shard, node in self.members():
+            self.replicas[shard][node] = self.new_replica(shard, node)
+            self.set_up(shard, node)
         return self.place().printed()
+
+    def new_replica(self, shard: int, node: str) -> Replica:
+        """One over the disk of its slot."""
+        return self.left.pop((shard, node), None) or Replica()
+
+    def set_up(self, shard: int, node: str) -> None:
+        """A replica of the first placement serves, or is closed where its disk fails."""
+        replica = self.replicas[shard][node]
+        replica.tried(lambda: replica.begin(self.place().version))
 
     def change(self, request: Request) -> Request:
         """A line that makes a placement: new replicas wait for a bootstrap."""
         self.stand_by(next_place(self.place(), request, len(self.places)))
-        for shard, replicas in zip(self.place().shards, self.replicas):
-            for node in shard:
-                replicas.setdefault(node, Replica("boot", tenure=None, begun=0, fence=0, segments=0, filled=0))
+        for shard, node in self.members():
+            if node not in self.replicas[shard]:
+                self.replicas[shard][node] = self.new_replica(shard, node)
         return self.place().printed()
 
     def stand_by(self, place: Place) -> None:
         """The next placement: the replicas that it takes away from their nodes have no tenure any more."""
         for shard, (was, now) in enumerate(zip(self.place().shards, place.shards)):
             for node in was.keys() - now.keys():
-                self.replicas[shard][node].tenure = None
+                self.replicas[shard][node].end_tenure()
         self.places.append(place)
 
     def namespace(self, request: Request) -> None:
@@ -350,25 +235,34 @@ class Cluster:
         return {"outcomes": [[it.node, it.shard, *self.outcome(it)] for it in late]}
 
     def outcome(self, it: LateWrite) -> Reason:
-        return self.put(it.node, it.shard, it.version, it.point, it.value) or ["took"]
+        return self.send(it.node, it.shard, it.version, it.point, it.value) or ["took"]
 
-    def stand(self, node: str, standing: str) -> None:
-        """All replicas of the node stand so, also those that no shard has any more."""
-        for shard in self.replicas:
-            if node in shard:
-                shard[node].standing = standing
+    def shards_with(self, node: str) -> list[int]:
+        """The shards of which the node has a replica, also one that the shard hasn't any more."""
+        return [shard for shard, replicas in enumerate(self.replicas) if node in replicas]
 
     def stop(self, request: Request) -> None:
-        if self.known(request["node"]) in self.stopped:
-            raise Refused("state", node=request["node"])
-        self.stopped.add(request["node"])
-        self.stand(request["node"], "down")
+        node = self.known(request["node"])
+        if node in self.stopped:
+            raise Refused("state", node=node)
+        self.stopped.add(node)
+        for shard in self.shards_with(node):
+            self.replicas[shard][node].close()
 
     def restart(self, request: Request) -> None:
-        if self.known(request["node"]) not in self.stopped:
-            raise Refused("state", node=request["node"])
-        self.stopped.remove(request["node"])
-        self.stand(request["node"], "boot")
+        node = self.known(request["node"])
+        if node not in self.stopped:
+            raise Refused("state", node=node)
+        for shard in self.shards_with(node):
+            if self.start_disk(shard, node):
+                raise Refused("disk", node=node, shard=shard)
+        self.stopped.remove(node)
+        for shard in self.shards_with(node):
+            self.replicas[shard][node].wait()
+
+    def start_disk(self, shard: int, node: str) -> Reason | None:
+        """The disk of a replica starts again, or fails."""
+        return self.replicas[shard][node].tried(self.replicas[shard][node].start_disk)[1]
 
     def bootstrap(self, request: Request) -> Request:
         node = self.known(request["node"])
@@ -379,54 +273,76 @@ class Cluster:
             shards = [request["shard"]]
         if node in self.stopped:
             raise Refused("state", node=node)
-        joined = {shard: peers for shard in shards if (peers := self.open(node, shard)) is not None}
+        joined = {shard: peers for shard in shards if (peers := self.open(shard, node)) is not None}
         if joined:
             if len(self.places) == MOST_VERSIONS:
                 raise Refused("limit", limit=MOST_VERSIONS)
             self.stand_by(ended(self.place(), node, list(joined)))
         return {"available": [[shard, peers] for shard, peers in joined.items()], **self.place().printed()}
 
-    def open(self, node: str, shard: int) -> list[str] | None:
+    def open(self, shard: int, node: str) -> list[str] | None:
         """The node's replica of a shard serves; where it joins the shard, it says from whom it streamed."""
-        own, replica = self.place().shards[shard].get(node), self.replicas[shard].get(node)
+        return self.open_of(self.replicas[shard], shard, node)
+
+    def open_of(self, replicas: dict[str, Replica], shard: int, node: str) -> list[str] | None:
+        """The same of these replicas."""
+        own, replica = self.place().shards[shard].get(node), replicas.get(node)
         if own is None or replica.standing == "down":
             return None
-        replica.begin(own.tenure)
-        return self.stream(node, shard, own.tenure) if own.state == JOINING else None
+        if replica.tried(lambda: replica.begin(own.tenure))[1]:
+            raise Refused("disk", node=node, shard=shard)
+        return self.stream(replicas, shard, node, own.tenure) if own.state == JOINING else None
 
-    def stream(self, node: str, shard: int, tenure: int) -> list[str]:
+    def stream(self, replicas: dict[str, Replica], shard: int, node: str, tenure: int) -> list[str]:
         """Former replicas stream, by name, until a majority did so whole."""
         streamed: list[str] = []
         refused: list[list] = []
         for peer in self.place().former(shard):
             if len(streamed) == self.majority():
                 break
-            source = self.replicas[shard][peer]
-            if reason := source.unowned(tenure):
+            source = replicas[peer]
+            reason = source.unowned(tenure) or source.tried(lambda: source.raise_fence(tenure))[1] or self.pour(source, replicas[node])
+            if reason == OWN_DISK:
+                raise Refused("disk", node=node, shard=shard)
+            if reason:
                 refused.append([peer, *reason])
-                continue
-            source.raise_fence(tenure)
-            for page in pages(source.content(), list(self.namespaces)):
-                self.replicas[shard][node].merge(page)
-            streamed.append(peer)
+            else:
+                streamed.append(peer)
         if len(streamed) < self.majority():
             raise Refused("peers", shard=shard, got=len(streamed), needed=self.majority(), reasons=refused)
         return streamed
 
+    def pour(self, source: Replica, own: Replica) -> Reason | None:
+        """A replica gives its pages to the one that joins, or tells why not all of them: its disk, or the other one's, fails."""
+        for page in pages(source.content(), list(self.namespaces)):
+            if reason := source.tried(source.look)[1]:
+                return reason
+            if own.tried(lambda: own.merge(page))[1]:
+                return OWN_DISK
+        return None
+
     # ---- upkeep
 
-    def members(self) -> list[tuple[str, int]]:
-        return [(node, shard) for shard in range(len(self.replicas)) for node in self.place().members(shard)]
+    def members(self) -> list[tuple[int, str]]:
+        return [(shard, node) for shard in range(len(self.replicas)) for node in self.place().members(shard)]
 
-    def sweep(self, work: Any) -> Request:
+    def sweep(self, work: Work) -> Request:
         done, failed = [], []
-        for node, shard in self.members():
-            reason = self.replicas[shard][node].closed()
+        for shard, node in self.members():
+            count, reason = self.work_on(shard, node, work)
             if reason:
                 failed.append([node, shard, *reason])
             else:
-                done.append([node, shard, work(self.replicas[shard][node], self.namespaces, self.now)])
+                done.append([node, shard, count])
         return {"done": done, "failed": failed}
+
+    def work_on(self, shard: int, node: str, work: Work) -> tuple[int | None, Reason | None]:
+        """What a replica counts, or why it refuses."""
+        return self.worked(self.replicas[shard][node], work)
+
+    def worked(self, replica: Replica, work: Work) -> tuple[int | None, Reason | None]:
+        reason = replica.closed()
+        return (None, reason) if reason else replica.tried(lambda: work(replica, self.namespaces, self.now))
 
     def tick(self, _: Request) -> Request:
         return self.sweep(Replica.tick)
@@ -437,34 +353,44 @@ class Cluster:
     def snapshot(self, _: Request) -> Request:
         return self.sweep(Replica.snapshot)
 
-    def report(self, node: str, shard: int) -> Request:
-        replica = self.replicas[shard][node]
-        fence, buffered, segments, snapshot, volumes = 0, 0, 0, 0, 0
+    def report(self, shard: int, node: str) -> Request:
+        return self.report_of(self.replicas[shard][node], shard, node)
+
+    def report_of(self, replica: Replica, shard: int, node: str) -> Request:
+        numbers = {"fence": 0, "buffered": 0, "segments": 0, "snapshot": 0, "volumes": 0}
         if replica.standing == "open":
-            fence, buffered, segments, volumes = replica.fence, len(replica.memory), replica.segments, len(replica.volumes)
-            snapshot = replica.snapshots
-        return {"node": node, "shard": shard, "state": self.place().shards[shard][node].state, "standing": replica.standing, "fence": fence,
-                "buffered": buffered, "segments": segments, "snapshot": snapshot, "volumes": volumes}
+            numbers = {"fence": replica.fence, "buffered": len(replica.memory), "segments": len(replica.log), "snapshot": replica.snapshots,
+                       "volumes": len(replica.all_volumes())}
+        return {"node": node, "shard": shard, "state": self.place().shards[shard][node].state, "standing": replica.standing, **numbers}
 
     def status(self, _: Request) -> Request:
-        return {"now": self.now, "replicas": [self.report(*member) for member in self.members()], "version": self.place().version}
-
+        return {"now": self.now, "replicas": [self.report(*it) for it in self.members()], "version": self.place().version}
 
     # ---- runs
 
     def go_on(self) -> None:
-        """A further run begins over the same disks: the placement that stands is kept alone, and each replica waits for a bootstrap."""
+        """A further run begins over the same disks: the placement that stands is kept alone, and its replicas wait for a bootstrap. Others are made
+        once a line moves their shards to their nodes again."""
         self.places = self.places[-1:]
-        for replica in (it for shard in self.replicas for it in shard.values()):
-            replica.standing = "boot"
+        for shard, replicas in enumerate(self.replicas):
+            for node in [*replicas]:
+                replicas[node].wait()
+                if node not in self.place().shards[shard]:
+                    self.left[shard, node] = replicas.pop(node)
         self.stopped, self.fates, self.calls, self.late = set(), {}, 0, []
 
 
-CALLS = {"write": Cluster.write, "fetch": Cluster.fetch, "match": Cluster.match}
-ACTS = {"init": Cluster.init, "namespace": Cluster.namespace, "now": Cluster.set_now, "fates": Cluster.set_fates,
-        "deliver": Cluster.deliver, "stop": Cluster.stop, "restart": Cluster.restart, "bootstrap": Cluster.bootstrap,
-        "add": Cluster.change, "drain": Cluster.change, "cancel": Cluster.change, "remove": Cluster.change, "replace": Cluster.change,
-        "tick": Cluster.tick, "flush": Cluster.flush, "snapshot": Cluster.snapshot, "status": Cluster.status}
+CALLS = ("write", "fetch", "match")
+ACTS = {"init": "init", "namespace": "namespace", "now": "set_now", "fates": "set_fates", "deliver": "deliver", "stop": "stop", "restart": "restart",
+        "bootstrap": "bootstrap", "add": "change", "drain": "change", "cancel": "change", "remove": "change", "replace": "change",
+        "tick": "tick", "flush": "flush", "snapshot": "snapshot", "status": "status"}
+
+
+def series_of(points: Points) -> list[Request]:
+    series: dict[str, list] = {}
+    for (_, identifier, at), value in sorted(points.items(), key=lambda it: (it[0][1].encode(), it[0][2])):
+        series.setdefault(identifier, []).append([at, value])
+    return [{"id": it, "points": those} for it, those in series.items()]
 
 
 def pages(content: Points, spaces: list[str]) -> Iterable[Points]:
@@ -477,12 +403,15 @@ def answered(reasons: dict[str, Reason | None]) -> list[str]:
     return [node for node, reason in reasons.items() if reason is None]
 
 
+def printed(reply: Request) -> bytes:
+    return json.dumps(reply, ensure_ascii=False, separators=(",", ":"), sort_keys=True).encode() + b"\n"
+
+
 def reply_to(cluster: Cluster, line: bytes) -> bytes:
     try:
-        reply = {"ok": True, **cluster.serve(read_line(line))}
+        return printed({"ok": True, **cluster.serve(read_line(line))})
     except Refused as refused:
-        reply = refused.reply()
-    return json.dumps(reply, ensure_ascii=False, separators=(",", ":"), sort_keys=True).encode() + b"\n"
+        return printed(refused.reply())
 
 
 def is_blank(line: bytes) -> bool:
