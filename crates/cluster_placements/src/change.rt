@@ -3,7 +3,6 @@ ghost use Rattle.std.specs.Prelude.{◌≡◌, ◌<◌, ◌+◌, ◌*◌, true, 
 ghost use Rattle.m3_model.specs.declared.act.Act.{Act as Line};
 ghost use Rattle.placement_acts.specs.Acts.{is_step_act};
 ghost use Rattle.node_calls.specs.replica_exchange.MachineCalls.{HasRoom};
-ghost use Rattle.first_cluster.specs.Depots.{depot_by};
 ghost use Rattle.first_cluster.specs.First.{IsDiskAnswer};
 ghost use Rattle.cluster_placements.specs.Steps.{IsChange, IsChanged, IsMade, IsPlanned, MakesPlanned, MayBeMade, MayChange, kept_in};
 
@@ -75,10 +74,10 @@ pub fn make_change<D: Disk, X: Disks<D = D>>(
     change: Change,
 ) -> Answer
     requires planned { IsPlanned members.old change }
-    requires may { MayChange members.old (X.held disks.old) }
-    ensures may { MayChange members.new (X.held disks.new) }
-    ensures changed { (a : Line) → is_step_act a ≡ true → IsChange members.old (kept_in members.old) a change → IsChanged D.state (kept_in members.old) a (depot_by X.held X.counted X.all_faults disks.old) members.old result (depot_by X.held X.counted X.all_faults disks.new) members.new }
-    ensures placed { MakesPlanned D.state (depot_by X.held X.counted X.all_faults disks.old) members.old change.next result (depot_by X.held X.counted X.all_faults disks.new) members.new }
+    requires may { MayChange members.old (X.depot disks.old).held }
+    ensures may { MayChange members.new (X.depot disks.new).held }
+    ensures changed { (a : Line) → is_step_act a ≡ true → IsChange members.old (kept_in members.old) a change → IsChanged D.state (kept_in members.old) a (X.depot disks.old) members.old result (X.depot disks.new) members.new }
+    ensures placed { MakesPlanned D.state (X.depot disks.old) members.old change.next result (X.depot disks.new) members.new }
 {
     if !members
         .net

@@ -3,7 +3,7 @@ ghost use Rattle.std.specs.Prelude.{◌≡◌, OnOk, OnErr, IfErr};
 ghost use Rattle.m3_model.specs.Members.{IsIn};
 ghost use Rattle.cluster_core.specs.Replicas.{replica, fresh};
 ghost use Rattle.node_calls.specs.replica_exchange.declared.slot.Slot.{Slot as AtSlot};
-ghost use Rattle.first_cluster.specs.Depots.{depot_by, disk_slot_of};
+ghost use Rattle.first_cluster.specs.Depots.{disk_slot_of};
 ghost use Rattle.first_cluster.specs.Lending.{IsFree, IsNewlyTaken, KeepsOthers};
 ghost use Rattle.first_cluster.specs.Slots.{AreApart};
 ghost use Rattle.cluster_placements.specs.Lending.{AreLent, HaveGained, HaveReturned, IsLeftBy, MayHaveGained, MayNotTake};
@@ -32,12 +32,12 @@ fn take_one<D: Disk, X: Disks<D = D>>(
     slot: Slot,
     replicas: &mut Replicas<D>,
 ) -> Result<(), Untaken>
-    requires free { IsFree (X.held disks.old) replicas.old.members slot }
+    requires free { IsFree (X.depot disks.old).held replicas.old.members slot }
     requires new { replica slot.node slot.shard replicas.old.events ≡ fresh }
-    ensures taken { OnOk result (IsNewlyTaken D.state (depot_by X.held X.counted X.all_faults disks.old) replicas.new.members (depot_by X.held X.counted X.all_faults disks.new) slot) }
-    ensures left { IfErr result (IsLeftBy D.state (depot_by X.held X.counted X.all_faults disks.old) (depot_by X.held X.counted X.all_faults disks.new) slot) }
+    ensures taken { OnOk result (IsNewlyTaken D.state (X.depot disks.old) replicas.new.members (X.depot disks.new) slot) }
+    ensures left { IfErr result (IsLeftBy D.state (X.depot disks.old) (X.depot disks.new) slot) }
     ensures same { OnErr result (replicas.new ≡ replicas.old) }
-    ensures others { KeepsOthers slot (depot_by X.held X.counted X.all_faults disks.old) replicas.old.members (depot_by X.held X.counted X.all_faults disks.new) replicas.new.members }
+    ensures others { KeepsOthers slot (X.depot disks.old) replicas.old.members (X.depot disks.new) replicas.new.members }
     ensures list { replicas.new.events ≡ replicas.old.events }
 {
     let disk = match disks.take(disk_slot(slot)) {
@@ -62,10 +62,10 @@ fn take_all<D: Disk, X: Disks<D = D>>(
     replicas: &mut Replicas<D>,
 ) -> Result<(), Untaken>
     requires apart { AreApart slots.now }
-    requires free { (s : AtSlot) → IsIn slots.now s → IsFree (X.held disks.old) replicas.old.members s }
+    requires free { (s : AtSlot) → IsIn slots.now s → IsFree (X.depot disks.old).held replicas.old.members s }
     requires new { (s : AtSlot) → IsIn slots.now s → replica s.node s.shard replicas.old.events ≡ fresh }
-    ensures ok { OnOk result (HaveGained D.state slots.now (depot_by X.held X.counted X.all_faults disks.old) replicas.old.members (depot_by X.held X.counted X.all_faults disks.new) replicas.new.members) }
-    ensures err { IfErr result (MayHaveGained D.state slots.now (depot_by X.held X.counted X.all_faults disks.old) replicas.old.members (depot_by X.held X.counted X.all_faults disks.new) replicas.new.members) }
+    ensures ok { OnOk result (HaveGained D.state slots.now (X.depot disks.old) replicas.old.members (X.depot disks.new) replicas.new.members) }
+    ensures err { IfErr result (MayHaveGained D.state slots.now (X.depot disks.old) replicas.old.members (X.depot disks.new) replicas.new.members) }
     ensures list { replicas.new.events ≡ replicas.old.events }
 {
     for slot in slots {
@@ -87,14 +87,14 @@ pub fn gain<D: Disk, X: Disks<D = D>>(
     replicas: &mut Replicas<D>,
 ) -> Result<(), Untaken>
     requires apart { AreApart slots.now }
-    requires free { (s : AtSlot) → IsIn slots.now s → IsFree (X.held disks.old) replicas.old.members s }
+    requires free { (s : AtSlot) → IsIn slots.now s → IsFree (X.depot disks.old).held replicas.old.members s }
     requires new { (s : AtSlot) → IsIn slots.now s → replica s.node s.shard replicas.old.events ≡ fresh }
-    requires out { AreLent replicas.old.members (X.held disks.old) }
-    ensures ok { OnOk result (HaveGained D.state slots.now (depot_by X.held X.counted X.all_faults disks.old) replicas.old.members (depot_by X.held X.counted X.all_faults disks.new) replicas.new.members) }
+    requires out { AreLent replicas.old.members (X.depot disks.old).held }
+    ensures ok { OnOk result (HaveGained D.state slots.now (X.depot disks.old) replicas.old.members (X.depot disks.new) replicas.new.members) }
     ensures list { OnOk result (replicas.new.events ≡ replicas.old.events) }
     ensures same { OnErr result (replicas.new ≡ replicas.old) }
-    ensures returned { OnErr result (HaveReturned D.state slots.now (depot_by X.held X.counted X.all_faults disks.old) (depot_by X.held X.counted X.all_faults disks.new)) }
-    ensures cause { IfErr result (MayNotTake D.state slots.now (depot_by X.held X.counted X.all_faults disks.old) (depot_by X.held X.counted X.all_faults disks.new)) }
+    ensures returned { OnErr result (HaveReturned D.state slots.now (X.depot disks.old) (X.depot disks.new)) }
+    ensures cause { IfErr result (MayNotTake D.state slots.now (X.depot disks.old) (X.depot disks.new)) }
 {
     match take_all(alloc, disks, slots, replicas) {
         Ok(()) => Ok(()),

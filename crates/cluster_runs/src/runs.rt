@@ -28,9 +28,9 @@ pub fn tell_word<X: Disks>(
     word: &str,
     out: &mut String,
 ) -> Result<bool, Memory>
-    requires may { MayServeSaved X.D.state cluster.old (X.held disks.old) }
-    ensures may { IfOk result (λ on. on ≡ true → MayServeSaved X.D.state cluster.new (X.held disks.new)) }
-    ensures close { MayClose cluster.new (X.held disks.new) }
+    requires may { MayServeSaved X.D.state cluster.old (X.depot disks.old).held }
+    ensures may { IfOk result (λ on. on ≡ true → MayServeSaved X.D.state cluster.new (X.depot disks.new).held) }
+    ensures close { MayClose cluster.new (X.depot disks.new).held }
 {
     if word == "p" {
         spell_place(cluster.place(), out)?;
@@ -59,8 +59,8 @@ fn tell<X: Disks>(
     words: &str,
     out: &mut String,
 ) -> Result<(), Memory>
-    requires may { MayServeSaved X.D.state cluster.old (X.held disks.old) }
-    ensures close { MayClose cluster.new (X.held disks.new) }
+    requires may { MayServeSaved X.D.state cluster.old (X.depot disks.old).held }
+    ensures close { MayClose cluster.new (X.depot disks.new).held }
 {
     for word in words.split(' ') {
         if !tell_word(alloc, cluster, disks, word, out)? {
@@ -78,8 +78,8 @@ pub fn run<X: Disks>(
     words: &str,
     out: &mut String,
 ) -> Result<(), Memory>
-    requires free { (slot : AtSlot) → X.held disks.old slot ≢ Out }
-    ensures free { (slot : AtSlot) → X.held disks.new slot ≢ Out }
+    requires free { (slot : AtSlot) → (X.depot disks.old).held slot ≢ Out }
+    ensures free { (slot : AtSlot) → (X.depot disks.new).held slot ≢ Out }
 {
     let mut cluster = match SavedCluster::open(alloc, disks) {
         Ok(cluster) => cluster,
@@ -101,7 +101,7 @@ pub fn members_after<X: Disks>(
     words: &str,
     out: &mut String,
 ) -> Result<Members<X::D>, Memory>
-    requires free { (slot : AtSlot) → X.held disks.old slot ≢ Out }
+    requires free { (slot : AtSlot) → (X.depot disks.old).held slot ≢ Out }
     ensures ready { IfOk result (λ m. IsReady m.net.state m.net.replicas m.net.bag) }
 {
     let mut saved = match SavedCluster::open(alloc, disks) {

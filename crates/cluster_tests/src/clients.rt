@@ -93,7 +93,7 @@ fn story<X: Disks>(
     calls: &str,
     out: &mut String,
 ) -> Result<(), Memory>
-    requires free { (slot : DiskSlot) → X.held disks.old slot ≢ Out }
+    requires free { (slot : DiskSlot) → (X.depot disks.old).held slot ≢ Out }
 {
     let mut members = members_after(alloc, disks, words, out)?;
     if members.past.len() > 0 {

@@ -103,7 +103,7 @@ fn story<X: Disks>(
     calls: &str,
     out: &mut String,
 ) -> Result<(), Memory>
-    requires free { (slot : DiskSlot) → X.held disks.old slot ≢ Out }
+    requires free { (slot : DiskSlot) → (X.depot disks.old).held slot ≢ Out }
 {
     let mut members = members_after(alloc, disks, words, out)?;
     out.push('|')?;

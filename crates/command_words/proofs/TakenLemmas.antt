@@ -9,9 +9,9 @@ use Rattle.clap.specs.Words.{Row, Text, fault_of, one_of, read_as, reading_of, s
 use Rattle.clap.specs.ValueTests.{accepts}
 use Rattle.clap.specs.declared.builder.value_parser.ValueParser.{ValueParser}
 use Rattle.clap.proofs.OnLiterals.{clap_on_literals}
-use Rattle.command_words.specs.Laws.{NumberIsTaken}
+use Rattle.command_words.specs.Laws.{DiskIsTaken, NoFolder, NumberIsTaken}
 use Rattle.command_words.specs.Line.{line_app, line_app_by, number_parser}
-use Rattle.command_words.specs.Tasks.{number_by, task_by, task_of, task_where}
+use Rattle.command_words.specs.Tasks.{folder_by, folder_of, number_by, task_by, task_of, task_where}
 use Rattle.command_words.specs.declared.task.Task.TheVariants as task
 use Rattle.command_words.proofs.NumberLemmas.{digits_back, fits}
 
@@ -72,3 +72,38 @@ pub number_taken : NumberIsTaken
 number_taken n low =
     let (numeral, value) = decimal_is_IsNumeral n (omega (arith, low)) in
     taken (decimal n) numeral (omega (arith, low, value)) ∙ ap (λ m. Some (task.Generate m)) value
+
+-- ---- a folder
+
+-- a text that begins with no `-` is no fault behind `--disk`
+disk_no_fault : (first : ℕ) (rest : Text) → first ≢ 45 → fault_of line_app (codes "run" ∷ codes "--disk" ∷ (first ∷ rest) ∷ []) ≡ []
+unfolding clap_on_literals
+disk_no_fault first rest other = simp (ne_eqb first 45 other)
+
+disk_runs : (first : ℕ) (rest : Text) → first ≢ 45 → task_by (subcommand_of line_app (codes "run" ∷ codes "--disk" ∷ (first ∷ rest) ∷ [])) ≡ Some task.Run
+unfolding clap_on_literals
+disk_runs first rest other = refl
+
+disk_found : (first : ℕ) (rest : Text) → first ≢ 45 → folder_by (subcommand_of line_app (codes "run" ∷ codes "--disk" ∷ (first ∷ rest) ∷ [])) ≡ Some (first ∷ rest)
+unfolding clap_on_literals
+disk_found first rest other = simp (ne_eqb first 45 other)
+
+pub disk_taken : DiskIsTaken
+disk_taken first rest other =
+    let words = codes "run" ∷ codes "--disk" ∷ (first ∷ rest) ∷ [] in
+    (no_fault (fault_of line_app words) words (disk_no_fault first rest other) ∙ disk_runs first rest other, disk_found first rest other)
+
+run_names_none : folder_of (codes "run" ∷ []) ≡ None
+unfolding clap_on_literals
+run_names_none = refl
+
+number_names_none : (p : ValueParser) (d : ℕ) (ds : Text) → d ≢ 45 → folder_by (subcommand_of (line_app_by p) (codes "generate" ∷ (d ∷ ds) ∷ [])) ≡ None
+unfolding clap_on_literals
+number_names_none p d ds other = simp (ne_eqb d 45 other)
+
+numeral_names_none : (text : Text) → IsNumeral 10 text → folder_of (codes "generate" ∷ text ∷ []) ≡ None
+numeral_names_none [] h = absurd (let bad = h.0 in omega arith)
+numeral_names_none (d ∷ ds) h = number_names_none number_parser d ds (no_minus d ds h)
+
+pub no_folder : NoFolder
+no_folder = (run_names_none, λ n low. let (numeral, value) = decimal_is_IsNumeral n (omega (arith, low)) in numeral_names_none (decimal n) numeral)

@@ -17,8 +17,12 @@ number_rule_by p = record (new_rule (codes "number")) { required = true; parser 
 abbrev pub quiet : App → App
 quiet a = record a { top = record a.top { disable_help_flag = true; disable_version_flag = true } }
 
+-- the optional value of `--disk`
+abbrev pub disk_rule : Rule
+disk_rule = record (new_rule (codes "disk")) { long = Some (codes "disk") }
+
 abbrev pub run_app : App
-run_app = quiet (new_app (codes "run"))
+run_app = with_rule (quiet (new_app (codes "run"))) disk_rule
 
 abbrev pub generate_app_by : ValueParser → App
 generate_app_by p = with_rule (quiet (new_app (codes "generate"))) (number_rule_by p)

@@ -6,7 +6,7 @@ use Rattle.clap.specs.Faults.{fault_of}
 use Rattle.clap.specs.Kinds.{Kinds}
 use Rattle.clap.specs.Simple.{subcommand_of}
 use Rattle.clap.specs.ValueTests.{is_numeral}
-use Rattle.clap.specs.Walk.{Row, Text, one_of}
+use Rattle.clap.specs.Walk.{Row, Text, first_of, one_of}
 use Rattle.command_words.specs.Line.{line_app}
 use Rattle.command_words.specs.declared.task.Task.{Task}
 use Rattle.command_words.specs.declared.task.Task.TheVariants as task
@@ -25,6 +25,15 @@ number_in rows = option_and_then number_by (one_of (codes "number") rows)
 abbrev pub task_by : Option (Text × List Row) → Option Task
 task_by None = None
 task_by (Some (name, rows)) = if bytes_eq name (codes "run") then Some task.Run else option_map task.Generate (number_in rows)
+
+-- the folder that a subcommand was given, by its name and its matches
+abbrev pub folder_by : Option (Text × List Row) → Option Text
+folder_by None = None
+folder_by (Some (name, rows)) = first_of (codes "disk") rows
+
+-- the folder that words name, if they name one
+abbrev pub folder_of : List Text → Option Text
+folder_of words = folder_by (subcommand_of line_app words)
 
 -- where no word is at fault, the task of the subcommand that the words name
 abbrev pub task_where : Kinds → List Text → Option Task

@@ -7,13 +7,15 @@ ghost use Rattle.command_words.specs.Line.{line_app};
 use clap::{Arg, ArgMatches, Command, Error, value_parser};
 use std::alloc::{AllocError, Global};
 
-// The command: one of two subcommands is required, and none of them has flags.
+// The command: one of two subcommands is required, and `run` may have a folder.
 fn line_command<'a>(alloc: Global) -> Result<Command<'a>, AllocError>
     ensures { IfOk result (λ c. app_of c ≡ line_app) }
 {
+    let disk = Arg::new(alloc, "disk").long("disk");
     let run = Command::new(alloc, "run")
         .disable_help_flag(true)
-        .disable_version_flag(true);
+        .disable_version_flag(true)
+        .arg(disk)?;
     let count = Arg::new(alloc, "number")
         .required(true)
         .value_parser(value_parser!(u32));

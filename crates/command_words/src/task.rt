@@ -12,7 +12,7 @@ use std::alloc::Global;
 /// What words may ask for.
 #[derive(Clone, Copy, Debug, PartialEq, Eq)]
 pub enum Task {
-    /// Request lines are read and served.
+    /// Request lines are read and served, over the disks of the folder that the words give, or over new ones in memory.
     Run,
     /// The script of a number is served.
     Generate { number: u32 },
@@ -26,7 +26,7 @@ fn number_of(found: &ArgMatches<'_>) -> Option<u32>
 }
 
 // The task of the subcommand that was met.
-fn task_by(matches: &ArgMatches<'_>) -> Option<Task>
+pub(crate) fn task_by(matches: &ArgMatches<'_>) -> Option<Task>
     ensures { result ≡ task_by (subcommand_rows_of matches.now) }
 {
     let (name, found) = matches.subcommand()?;

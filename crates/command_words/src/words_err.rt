@@ -4,7 +4,7 @@ use thiserror::Error;
 #[derive(Clone, Copy, Debug, PartialEq, Eq, Error)]
 pub enum WordsErr {
     /// The words aren't in the form of a command.
-    #[error("usage: m3 run or m3 generate N")]
+    #[error("usage: m3 run [--disk FOLDER] or m3 generate N")]
     Usage,
     /// Want of memory while the words were read.
     #[error("m3: out of memory")]

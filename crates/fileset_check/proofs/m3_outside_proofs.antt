@@ -1,3 +1,4 @@
 pub use Rattle.fileset_read.proofs.m3_outside_proofs.Moments
 pub use Rattle.fileset_read.proofs.m3_outside_proofs.Names
 pub use Rattle.fileset_read.proofs.m3_outside_proofs.Removal
+pub use Rattle.fileset_read.proofs.m3_outside_proofs.SyncLemmas

@@ -30,7 +30,7 @@ pub mod of_m3_model {
 }
 /// Of `m3_outside`.
 pub mod of_m3_outside {
-    pub use shard_files::of_m3_outside::{Disk, DiskErr, Failed, FileName, take_away};
+    pub use shard_files::of_m3_outside::{Disk, DiskErr, Failed, FileName, sync_all, take_away};
 }
 /// Of `shard_files`.
 pub mod of_shard_files {

@@ -15,7 +15,7 @@ use Rattle.m3_model.specs.declared.placement.Placement.{Placement}
 use Rattle.m3_model.specs.declared.rules.MetaState.{MetaState}
 use Rattle.m3_model.specs.declared.rules.Rules.{Rules}
 use Rattle.m3_model.specs.declared.rules.Space.{Space}
-use Rattle.placement_plan.specs.First.{IsFirstPlacement}
+use Rattle.placement_plan.specs.First.{IsFirstPlacement, IsInitial}
 use Rattle.m3_outside.specs.Depots.{Depot}
 use Rattle.m3_outside.specs.DiskState.{DiskState}
 use Rattle.m3_outside.specs.Slots.{Out}
@@ -159,11 +159,12 @@ slots_few slots place is few = let same = ap length is in omega (arith, same, fe
 
 -- ---- a disk that couldn't be taken
 
-pub refused_by : {D : Type 0} (state : D → DiskState) (rf shards seed : ℕ) (nodes : List (List ℕ × List ℕ)) (place : Placement) (slots : List Slot) (slot : Slot) (old new : Depot D) (b : Answer) → IsFirstPlacement rf shards nodes place → slots ≡ slots_of place
+pub refused_by : {D : Type 0} (state : D → DiskState) (rf shards seed : ℕ) (nodes : List (List ℕ × List ℕ)) (place : Placement) (slots : List Slot) (slot : Slot) (old new : Depot D) (b : Answer) → IsInitial rf shards nodes place → IsFirstPlacement rf shards nodes place → slots ≡ slots_of place
     → IsUnopened state slots old new (unopened.Disk slot) → IsDiskAnswer place slot b → IsRefusedInit state rf shards seed nodes old new b
-refused_by state rf shards seed nodes place slots slot old new (answer.Disk name shard) first same un h = (
+refused_by state rf shards seed nodes place slots slot old new (answer.Disk name shard) initial first same un h = (
   record {
     place = place;
+    initial = initial;
     first = first;
     node = slot.node;
     instance_ = h.1.0;
@@ -174,8 +175,8 @@ refused_by state rf shards seed nodes place slots slot old new (answer.Disk name
   },
   un.returned,
 )
-refused_by state rf shards seed nodes place slots slot old new answer.Memory first same un h = un.returned
-refused_by state rf shards seed nodes place slots slot old new _ first same un h = absurd h
+refused_by state rf shards seed nodes place slots slot old new answer.Memory initial first same un h = un.returned
+refused_by state rf shards seed nodes place slots slot old new _ initial first same un h = absurd h
 
 -- ---- whose disks are out
 

@@ -14,10 +14,6 @@ use Rattle.cluster_members.specs.replica_calls.Slots.{MemberMap}
 use Rattle.cluster_members.specs.declared.members.Members.{Members}
 use Rattle.first_cluster.specs.Slots.{AreApart}
 
--- what disks show, by what lies in their slots, the counts in these and the count of all faults
-abbrev pub depot_by : {D X : Type 0} → (X → DiskSlot → Held D) → (X → DiskSlot → ℕ) → (X → ℕ) → X → Depot D
-depot_by held counted faults disks = record { held = held disks; counted = counted disks; faults = faults disks }
-
 -- the slot of a replica's disk
 abbrev pub disk_slot_of : Slot → DiskSlot
 disk_slot_of s = record { node = s.node; shard = s.shard }

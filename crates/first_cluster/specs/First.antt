@@ -94,6 +94,7 @@ pub record IsSomeLent {D : Type 0} {G : Ghosts D} (state : D → DiskState) (now
 -- a disk of one of the placement's slots couldn't be taken
 pub record IsDiskUntaken {D : Type 0} (rf shards seed : ℕ) (nodes : List (List ℕ × List ℕ)) (name : List ℕ) (shard : ℕ) (old new : Depot D) : Type 0 where
   pub place : Placement
+  pub initial : IsInitial rf shards nodes place
   pub first : IsFirstPlacement rf shards nodes place
   pub node : ℕ
   pub instance_ : Instance

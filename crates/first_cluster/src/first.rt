@@ -5,7 +5,7 @@ ghost use Rattle.m3_outside.specs.Depots.{Depot};
 ghost use Rattle.m3_outside.specs.Slots.{Out};
 ghost use Rattle.m3_outside.specs.declared.slot.DiskSlot.{DiskSlot};
 ghost use Rattle.cluster_members.specs.session_net.Ready.{IsReady};
-ghost use Rattle.first_cluster.specs.Depots.{depot_by, IsForReplicas};
+ghost use Rattle.first_cluster.specs.Depots.{IsForReplicas};
 ghost use Rattle.first_cluster.specs.First.{IsFirst, IsDiskAnswer, IsRefusedInit, IsLent, IsPlan, IsSomeLent, IsSomePlan};
 ghost use Rattle.first_cluster.specs.Lending.{AreAsTheyWere, HasReturned};
 
@@ -56,10 +56,10 @@ pub fn lend_first<D: Disk, X: Disks<D = D>>(
     plan: Plan,
 ) -> Result<Lent<D>, Answer>
     requires planned { IsSomePlan plan }
-    requires free { (slot : DiskSlot) → IsForReplicas slot → X.held disks.old slot ≢ Out }
+    requires free { (slot : DiskSlot) → IsForReplicas slot → (X.depot disks.old).held slot ≢ Out }
     ensures state { IfOk result (λ lent. lent.members.net.state ≡ plan.state) }
-    ensures lent { IfOk result (λ lent. (rf shards seed : ℕ) (nodes : List (List ℕ × List ℕ)) → IsPlan rf shards seed nodes plan → IsLent D.state rf shards seed nodes (depot_by X.held X.counted X.all_faults disks.old) (depot_by X.held X.counted X.all_faults disks.new) lent) }
-    ensures refused { IfErr result (λ answer. (rf shards seed : ℕ) (nodes : List (List ℕ × List ℕ)) → IsPlan rf shards seed nodes plan → IsRefusedInit D.state rf shards seed nodes (depot_by X.held X.counted X.all_faults disks.old) (depot_by X.held X.counted X.all_faults disks.new) answer) }
+    ensures lent { IfOk result (λ lent. (rf shards seed : ℕ) (nodes : List (List ℕ × List ℕ)) → IsPlan rf shards seed nodes plan → IsLent D.state rf shards seed nodes (X.depot disks.old) (X.depot disks.new) lent) }
+    ensures refused { IfErr result (λ answer. (rf shards seed : ℕ) (nodes : List (List ℕ × List ℕ)) → IsPlan rf shards seed nodes plan → IsRefusedInit D.state rf shards seed nodes (X.depot disks.old) (X.depot disks.new) answer) }
 {
     let replicas = match lent(alloc, disks, &plan) {
         Ok(replicas) => replicas,
@@ -95,13 +95,13 @@ pub fn begin_first<D: Disk, X: Disks<D = D>>(
     disks: &mut X,
     lent: Lent<D>,
 ) -> Result<(Members<D>, Placement), Memory>
-    requires lent { IsSomeLent D.state (depot_by X.held X.counted X.all_faults disks.old) lent }
+    requires lent { IsSomeLent D.state (X.depot disks.old) lent }
     ensures state { IfOk result (λ made. made.0.net.state ≡ lent.members.net.state) }
-    ensures members { IfOk result (λ made. (rf shards seed : ℕ) (nodes : List (List ℕ × List ℕ)) (first : Depot D) → IsLent D.state rf shards seed nodes first (depot_by X.held X.counted X.all_faults disks.old) lent → IsFirst D.state rf shards seed nodes first (depot_by X.held X.counted X.all_faults disks.new) made.0) }
+    ensures members { IfOk result (λ made. (rf shards seed : ℕ) (nodes : List (List ℕ × List ℕ)) (first : Depot D) → IsLent D.state rf shards seed nodes first (X.depot disks.old) lent → IsFirst D.state rf shards seed nodes first (X.depot disks.new) made.0) }
     ensures ready { IfOk result (λ made. IsReady made.0.net.state made.0.net.replicas made.0.net.bag) }
     ensures placement { IfOk result (λ made. made.1 ≡ made.0.net.state.place) }
     ensures same { OnOk result (disks.new ≡ disks.old) }
-    ensures returned { OnErr result ((rf shards seed : ℕ) (nodes : List (List ℕ × List ℕ)) (first : Depot D) → IsLent D.state rf shards seed nodes first (depot_by X.held X.counted X.all_faults disks.old) lent → HasReturned D.state first finite.empty (depot_by X.held X.counted X.all_faults disks.new)) }
+    ensures returned { OnErr result ((rf shards seed : ℕ) (nodes : List (List ℕ × List ℕ)) (first : Depot D) → IsLent D.state rf shards seed nodes first (X.depot disks.old) lent → HasReturned D.state first finite.empty (X.depot disks.new)) }
 {
     let Lent {
         mut members,
@@ -119,9 +119,9 @@ pub fn begin_first<D: Disk, X: Disks<D = D>>(
 
 /// Gives the disks of a first cluster back as they were taken, since its replicas didn't begin. Takes no memory.
 pub fn give_back<D: Disk, X: Disks<D = D>>(disks: &mut X, lent: Lent<D>)
-    requires lent { IsSomeLent D.state (depot_by X.held X.counted X.all_faults disks.old) lent }
-    ensures returned { (rf shards seed : ℕ) (nodes : List (List ℕ × List ℕ)) (first : Depot D) → IsLent D.state rf shards seed nodes first (depot_by X.held X.counted X.all_faults disks.old) lent → HasReturned D.state first finite.empty (depot_by X.held X.counted X.all_faults disks.new) }
-    ensures as_they_were { (rf shards seed : ℕ) (nodes : List (List ℕ × List ℕ)) (first : Depot D) → IsLent D.state rf shards seed nodes first (depot_by X.held X.counted X.all_faults disks.old) lent → AreAsTheyWere D.state first (depot_by X.held X.counted X.all_faults disks.new) }
+    requires lent { IsSomeLent D.state (X.depot disks.old) lent }
+    ensures returned { (rf shards seed : ℕ) (nodes : List (List ℕ × List ℕ)) (first : Depot D) → IsLent D.state rf shards seed nodes first (X.depot disks.old) lent → HasReturned D.state first finite.empty (X.depot disks.new) }
+    ensures as_they_were { (rf shards seed : ℕ) (nodes : List (List ℕ × List ℕ)) (first : Depot D) → IsLent D.state rf shards seed nodes first (X.depot disks.old) lent → AreAsTheyWere D.state first (X.depot disks.new) }
 {
     let Lent { mut members, .. } = lent;
     let standing = &mut members;

@@ -11,7 +11,7 @@ ghost use Rattle.cluster_members.specs.replica_exchange.declared.member.Member.{
 ghost use Rattle.cluster_members.specs.replica_exchange.declared.slot.Slot.{Slot as AtSlot};
 ghost use Rattle.m3_outside.specs.Depots.{Depot};
 ghost use Rattle.first_cluster.specs.Begins.{HaveBegun};
-ghost use Rattle.first_cluster.specs.Depots.{depot_by, disk_slot_of};
+ghost use Rattle.first_cluster.specs.Depots.{disk_slot_of};
 ghost use Rattle.first_cluster.specs.First.{opening_of};
 ghost use Rattle.first_cluster.specs.Lending.{IsFree, IsDiskTaken, KeepsOthers, HasReturned, HasTaken, MayHaveTaken, IsUnopened, HasGivenBack, first_tenure};
 ghost use Rattle.first_cluster.specs.Slots.{AreApart, slots_in, slots_of};
@@ -53,10 +53,10 @@ fn take_one<D: Disk, X: Disks<D = D>>(
     slot: Slot,
     replicas: &mut Replicas<D>,
 ) -> Result<(), Unopened>
-    requires free { IsFree (X.held disks.old) replicas.old.members slot }
+    requires free { IsFree (X.depot disks.old).held replicas.old.members slot }
     requires new { replica slot.node slot.shard replicas.old.events ≡ fresh }
-    ensures taken { IsDiskTaken D.state slot (depot_by X.held X.counted X.all_faults disks.old) (depot_by X.held X.counted X.all_faults disks.new) replicas.new.members result }
-    ensures others { KeepsOthers slot (depot_by X.held X.counted X.all_faults disks.old) replicas.old.members (depot_by X.held X.counted X.all_faults disks.new) replicas.new.members }
+    ensures taken { IsDiskTaken D.state slot (X.depot disks.old) (X.depot disks.new) replicas.new.members result }
+    ensures others { KeepsOthers slot (X.depot disks.old) replicas.old.members (X.depot disks.new) replicas.new.members }
     ensures list { replicas.new.events ≡ replicas.old.events }
 {
     let disk = match disks.take(disk_slot(slot)) {
@@ -83,9 +83,9 @@ fn take_all<D: Disk, X: Disks<D = D>>(
     requires apart { AreApart slots.now }
     requires none { replicas.old.members ≡ finite.empty }
     requires new { (n s : ℕ) → replica n s replicas.old.events ≡ fresh }
-    requires free { (s : AtSlot) → IsIn slots.now s → X.held disks.old (disk_slot_of s) ≢ Out }
-    ensures ok { OnOk result (HasTaken D.state slots.now (depot_by X.held X.counted X.all_faults disks.old) replicas.new.members (depot_by X.held X.counted X.all_faults disks.new)) }
-    ensures err { IfErr result (MayHaveTaken D.state slots.now (depot_by X.held X.counted X.all_faults disks.old) replicas.new.members (depot_by X.held X.counted X.all_faults disks.new)) }
+    requires free { (s : AtSlot) → IsIn slots.now s → (X.depot disks.old).held (disk_slot_of s) ≢ Out }
+    ensures ok { OnOk result (HasTaken D.state slots.now (X.depot disks.old) replicas.new.members (X.depot disks.new)) }
+    ensures err { IfErr result (MayHaveTaken D.state slots.now (X.depot disks.old) replicas.new.members (X.depot disks.new)) }
     ensures list { replicas.new.events ≡ replicas.old.events }
 {
     for slot in slots {
@@ -96,8 +96,8 @@ fn take_all<D: Disk, X: Disks<D = D>>(
 
 /// Gives the disks of all replicas at the slots back, and lets these go. The list of events stays.
 pub fn give_all<D: Disk, X: Disks<D = D>>(disks: &mut X, slots: &[Slot], replicas: &mut Replicas<D>)
-    requires { (s : AtSlot) (m : Replica D) → finite.get replicas.old.members s ≡ Some m → X.held disks.old (disk_slot_of s) ≡ Out }
-    ensures given { HasGivenBack D.state slots.now (depot_by X.held X.counted X.all_faults disks.old) replicas.old.members (depot_by X.held X.counted X.all_faults disks.new) replicas.new.members }
+    requires { (s : AtSlot) (m : Replica D) → finite.get replicas.old.members s ≡ Some m → (X.depot disks.old).held (disk_slot_of s) ≡ Out }
+    ensures given { HasGivenBack D.state slots.now (X.depot disks.old) replicas.old.members (X.depot disks.new) replicas.new.members }
     ensures list { replicas.new.events ≡ replicas.old.events }
 {
     for slot in slots {
@@ -126,10 +126,10 @@ pub(crate) fn lent<D: Disk, X: Disks<D = D>>(
 ) -> Result<Replicas<D>, Unopened>
     requires lawful { IsLawful plan.now.state.place }
     requires slots { plan.now.slots.items ≡ slots_of plan.now.state.place }
-    requires free { (s : AtSlot) → IsIn plan.now.slots.items s → X.held disks.old (disk_slot_of s) ≢ Out }
-    ensures ok { IfOk result (λ replicas. HasTaken D.state plan.now.slots.items (depot_by X.held X.counted X.all_faults disks.old) replicas.members (depot_by X.held X.counted X.all_faults disks.new)) }
+    requires free { (s : AtSlot) → IsIn plan.now.slots.items s → (X.depot disks.old).held (disk_slot_of s) ≢ Out }
+    ensures ok { IfOk result (λ replicas. HasTaken D.state plan.now.slots.items (X.depot disks.old) replicas.members (X.depot disks.new)) }
     ensures list { IfOk result (λ replicas. replicas.events ≡ opening_of plan.now.state) }
-    ensures err { IfErr result (IsUnopened D.state plan.now.slots.items (depot_by X.held X.counted X.all_faults disks.old) (depot_by X.held X.counted X.all_faults disks.new)) }
+    ensures err { IfErr result (IsUnopened D.state plan.now.slots.items (X.depot disks.old) (X.depot disks.new)) }
 {
     let mut replicas = listed(alloc, &plan.state);
     let slots = plan.slots.as_slice();
@@ -155,10 +155,10 @@ pub(crate) fn begun<D: Disk, X: Disks<D = D>>(
     requires first { (s : AtStart) → IsIn starts.now s → s.tenure ≡ first_tenure }
     requires tenures { (s : AtStart) → IsIn starts.now s → HasTenure replicas.old.events s.slot.node s.slot.shard s.tenure }
     requires room { HasRoom (2 * length starts.now) replicas.old.events }
-    requires taken { (first : Depot D) × HasTaken D.state slots.now first replicas.old.members (depot_by X.held X.counted X.all_faults disks.old) }
+    requires taken { (first : Depot D) × HasTaken D.state slots.now first replicas.old.members (X.depot disks.old) }
     ensures ok { OnOk result (HaveBegun D.state starts.now replicas.old replicas.new) }
     ensures same { OnOk result (disks.new ≡ disks.old) }
-    ensures err { OnErr result ((first : Depot D) → HasTaken D.state slots.now first replicas.old.members (depot_by X.held X.counted X.all_faults disks.old) → HasReturned D.state first finite.empty (depot_by X.held X.counted X.all_faults disks.new)) }
+    ensures err { OnErr result ((first : Depot D) → HasTaken D.state slots.now first replicas.old.members (X.depot disks.old) → HasReturned D.state first finite.empty (X.depot disks.new)) }
 {
     match begin_all(replicas, starts) {
         Ok(()) => Ok(()),

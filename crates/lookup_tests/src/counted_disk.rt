@@ -167,6 +167,10 @@ impl Disk for CountedDisk {
         Ok(())
     }
 
+    fn waits(&self) -> bool {
+        false
+    }
+
     fn faults(&self) -> u64 {
         self.faults
     }

@@ -3,3 +3,4 @@ pub mod Patches
 pub mod Moments
 pub mod Removal
 pub mod DiskLawLemmas
+pub mod SyncLemmas

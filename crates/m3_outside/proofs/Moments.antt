@@ -73,3 +73,7 @@ counts_then failed a b c one two = record {
 
 pub counts_none : (failed : Type 0) (a b : ℕ) → (failed → ⊥) → CountsFaults failed a b → CountsFaults ⊥ a b
 counts_none failed a b never one = record { later = one.later; stays = one.stays; rose = λ f. absurd f }
+
+-- of calls that can't have failed where these haven't
+pub counts_when : (f g : Type 0) (a b : ℕ) → (f → g) → CountsFaults g a b → CountsFaults f a b
+counts_when f g a b also one = record { later = one.later; stays = one.stays; rose = λ failed. one.rose (also failed) }

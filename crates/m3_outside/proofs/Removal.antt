@@ -8,11 +8,11 @@ use Rattle.m3_outside.specs.Causes.{CountsFaults}
 use Rattle.m3_outside.specs.declared.file_name.FileName.{FileName}
 use Rattle.m3_outside.specs.declared.failed.Failed.{Failed}
 use Rattle.m3_outside.specs.Files.{Files, IsPresent, IsAbsent, DoneOrNot, files_without}
-use Rattle.m3_outside.specs.DiskState.{DiskState, Elapses, Becomes}
+use Rattle.m3_outside.specs.DiskState.{DiskState, Elapses, Proceeds, Becomes}
 use Rattle.m3_outside.specs.DiskCalls.{Removes, LeavesFiles}
 use Rattle.m3_outside.specs.Removal.{without_files, MayTakeAway, HasTakenAway, AreRemovable}
 use Rattle.m3_outside.proofs.Names.{name_is, get_gone, get_stays}
-use Rattle.m3_outside.proofs.Moments.{elapses_as, elapses_then, elapses_from, becomes_both, becomes_stays, same_becomes, counts_then, counts_none}
+use Rattle.m3_outside.proofs.Moments.{elapses_as, elapses_then, elapses_from, becomes_both, becomes_stays, same_becomes, counts_then, counts_none, counts_when}
 
 -- ---- what is left
 
@@ -105,6 +105,13 @@ module _ (names : List FileName) (i : ℕ) (d : FileName) (lt : i < length names
   more : Becomes (files_without name) b c → a.tells ≡ true → Becomes (without_files (take (i + 1) names)) a c
   more done t = becomes_both (without_files (take i names)) (files_without name) (without_files (take (i + 1) names)) a b c next (going.becomes t) done
 
+  pub stopped : (F : Type 0) (e : Failed) → Removes (get_or names i d) (Err e) b c → Proceeds (MayTakeAway names) F a c
+  stopped F e removes = record {
+    tells = removes.changes.proceeds.tells ∙ going.tells;
+    faults = counts_then F a.faults b.faults c.faults going.faults (counts_when F _ b.faults c.faults (λ f. refl) removes.changes.proceeds.faults);
+    told = λ t. moment (Err e) removes t;
+  }
+
   -- what is gone where it failed
   pub take_failed : (e : Failed) → Removes (get_or names i d) (Err e) b c → a.tells ≡ true → HasTakenAway names a c
   take_failed e removes t = by (removes.changes.done_or_not (going.tells ∙ t) refl)
@@ -130,6 +137,9 @@ module _ (names : List FileName) (i : ℕ) (d : FileName) (lt : i < length names
   present t = (subst (λ (l : List FileName). AreRemovable l b.files) (drop_more names i d lt) (going.left t)).0
 
 -- so far, and at last
+pub gone_on : (F : Type 0) (names : List FileName) (i : ℕ) (a b : DiskState) → (F → ⊥) → Going names i a b → Proceeds (MayTakeAway names) F a b
+gone_on F names i a b passed going = record { tells = going.tells; faults = counts_when F ⊥ a.faults b.faults passed going.faults; told = going.elapses }
+
 pub taken_so_far : (names : List FileName) (i : ℕ) (a b : DiskState) → Going names i a b → a.tells ≡ true → HasTakenAway names a b
 taken_so_far names i a b going t = record { gone = take i names; left = drop i names; split = sym (take-append-drop i names); taken = going.becomes t }
 

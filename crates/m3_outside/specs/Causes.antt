@@ -31,6 +31,10 @@ pub record CountsFaults (failed : Type 0) (before now : ℕ) : Type 0 where
   pub stays : before ≡ last_count → now ≡ last_count
   pub rose : failed → Rose before now
 
+-- a count raised by so many, or at its last value
+abbrev pub count_with : ℕ → ℕ → ℕ
+count_with before more = min (before + more) last_count
+
 -- the count rose by at least so much, or stands at its last value
 abbrev pub RoseBy : ℕ → ℕ → ℕ → Type 0
-RoseBy n before now = min (before + n) last_count ≤ now
+RoseBy n before now = count_with before n ≤ now

@@ -2,6 +2,8 @@ pub mod Causes
 pub mod Laws
 pub mod Feed
 pub mod Intake
+pub mod Passing
+pub mod Passed
 pub mod Files
 pub mod DiskState
 pub mod DiskCalls

@@ -12,7 +12,7 @@ use crate::name_list::NameList;
 /// What a call says of contents holds where the disk tells them; objects in memory do, real ones don't.
 ///
 /// A call of type `Result<_, Failed>` takes no memory.
-pub trait Disk: Drop + Send {
+pub trait Disk: Drop {
     ghost use Rattle.std.specs.Prelude.{◌≡◌, ◌≤◌, length};
     ghost use Rattle.m3_outside.specs.Files.{IsAbsent, IsPresent, IsInside};
     ghost use Rattle.m3_outside.specs.DiskState.{DiskState, Told, IsLawfulDisk};
@@ -102,6 +102,9 @@ pub trait Disk: Drop + Send {
     /// A fault or want of memory. Files and images stay.
     fn restart(&mut self, pick: u64) -> Result<(), DiskErr>
         ensures { Restarts result (state self.old) (state self.new) };
+
+    /// Whether its calls wait for a device, so that calls of several disks are better made side by side.
+    fn waits(&self) -> bool;
 
     /// The count of faults. It never falls, and stays at its last value, 2^64 - 1.
     fn faults(&self) -> u64

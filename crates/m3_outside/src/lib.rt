@@ -1,4 +1,4 @@
-//! What lies outside the program: the traits of sources, sinks and disks, and sources and sinks in memory.
+//! What lies outside the program: the traits of sources, sinks, disks and gates, and sources and sinks in memory.
 #![tactic(auto)]
 
 pub mod disk;
@@ -6,14 +6,17 @@ pub mod disk_err;
 pub mod disks;
 pub mod failed;
 pub mod file_name;
+pub mod gate;
 pub mod laws;
 pub mod mem_sink;
 pub mod mem_source;
 pub mod name_list;
+pub mod passed;
 mod schedule;
 pub mod sink;
 pub mod slot;
 pub mod source;
+pub mod sync_all;
 pub mod take_away;
 
 pub use disk::Disk;
@@ -21,9 +24,11 @@ pub use disk_err::DiskErr;
 pub use disks::Disks;
 pub use failed::Failed;
 pub use file_name::FileName;
+pub use gate::{Gate, OpenGate};
 pub use mem_sink::MemSink;
 pub use mem_source::MemSource;
 pub use name_list::NameList;
+pub use passed::Passed;
 pub use sink::Sink;
 pub use slot::DiskSlot;
 pub use source::Source;

@@ -1,8 +1,9 @@
-ghost use Rattle.std.specs.Prelude.{◌≡◌, ◌↔◌, ◌<◌, [], length, Some, Contains, IfOk, IsErr, OnErr};
+ghost use Rattle.std.specs.Prelude.{◌≡◌, ◌↔◌, ◌<◌, [], ◌++◌, length, Some, Contains, IfOk, IsErr, OnErr};
 ghost use Rattle.std.specs.Io.{WritesAtMost};
 ghost use Rattle.std.specs.Io.KnownBytes.{WriteAppends, Keeps};
 ghost use Rattle.m3_outside.specs.Causes.{HasCause, CountsStalls};
 ghost use Rattle.m3_outside.specs.Intake.{intake_after_write, intake_after_stall, intake_after_fault};
+ghost use Rattle.m3_outside.specs.Passing.{passed_front};
 
 use crate::failed::Failed;
 use crate::schedule::Schedule;
@@ -64,6 +65,8 @@ impl MemSink {
 impl Sink for MemSink {
     ghost written = { λ s. Some s.written };
 
+    ghost took = { λ s. s.written };
+
     ghost faulted = { λ s. s.faults };
 
     ghost stalled = { λ s. s.stalls };
@@ -74,6 +77,7 @@ impl Sink for MemSink {
         // As of every sink.
         ensures bound { WritesAtMost result bytes.now }
         ensures bytes { WriteAppends (Some self.old.written) (Some self.new.written) result bytes.now }
+        ensures took { self.new.written ≡ self.old.written ++ passed_front result bytes.now }
         ensures failed_writes_nothing { OnErr result (Keeps (Some self.old.written) (Some self.new.written)) }
         ensures cause { HasCause self.old.faults self.new.faults result }
         ensures stall { CountsStalls self.old.stalls self.new.stalls result bytes.now }

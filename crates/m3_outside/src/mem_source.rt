@@ -1,8 +1,9 @@
-ghost use Rattle.std.specs.Prelude.{◌≡◌, ◌↔◌, ◌<◌, ◌≤◌, ◌+◌, [], ◌++◌, take, drop, length, min, Some, Contains, IfOk, IsErr, OnErr};
+ghost use Rattle.std.specs.Prelude.{◌≡◌, ◌↔◌, ◌<◌, ◌≤◌, ◌+◌, [], ◌++◌, take, drop, length, min, true, false, Some, Contains, IfOk, IsErr, OnErr};
 ghost use Rattle.std.specs.Io.{ReadsAtMost};
 ghost use Rattle.std.specs.Io.KnownBytes.{ReadConsumes, IsAtEnd, Keeps};
 ghost use Rattle.m3_outside.specs.Causes.{HasCause};
 ghost use Rattle.m3_outside.specs.Feed.{feed_after_read, feed_after_fault};
+ghost use Rattle.m3_outside.specs.Passing.{passed_front};
 
 use crate::failed::Failed;
 use crate::schedule::Schedule;
@@ -19,17 +20,21 @@ use std::marker::Model;
 pub struct MemSource {
     bytes: Vec<u8>,
     at: usize,
+    // the last read gave nothing, though there was room
+    ended: bool,
     schedule: Schedule,
 }
 
 impl Model for MemSource {
-    ghost use Rattle.std.specs.Prelude.{◌≤◌, drop, length};
+    ghost use Rattle.std.specs.Prelude.{◌≤◌, take, drop, length};
     ghost use Rattle.m3_outside.specs.Feed.{Feed};
 
     ghost Value = { Feed };
 
     ghost view = { λ s. record {
+      gave = take s.at s.bytes.items;
       left = drop s.at s.bytes.items;
+      ended = s.ended;
       fail = s.schedule.fail.items;
       calls = s.schedule.calls;
       faults = s.schedule.faults;
@@ -45,11 +50,12 @@ impl MemSource {
     ///
     /// Want of memory.
     pub fn new(alloc: Global, bytes: &[u8], fail: &[u64]) -> Result<MemSource, Memory>
-        ensures { IfOk result (λ source. source ≡ record { left = bytes.now; fail = fail.now; calls = 0; faults = 0 }) }
+        ensures { IfOk result (λ source. source ≡ record { gave = []; left = bytes.now; ended = false; fail = fail.now; calls = 0; faults = 0 }) }
     {
         Ok(MemSource {
             bytes: Vec::from_slice(alloc, bytes)?,
             at: 0,
+            ended: false,
             schedule: Schedule::new(alloc, fail)?,
         })
     }
@@ -57,6 +63,10 @@ impl MemSource {
 
 impl Source for MemSource {
     ghost left = { λ s. Some s.left };
+
+    ghost gave = { λ s. s.gave };
+
+    ghost ended = { λ s. s.ended };
 
     ghost faulted = { λ s. s.faults };
 
@@ -66,7 +76,9 @@ impl Source for MemSource {
         // As of every source.
         ensures bound { ReadsAtMost result buf.new }
         ensures bytes { ReadConsumes (Some self.old.left) (Some self.new.left) result buf.new }
+        ensures gave { self.new.gave ≡ self.old.gave ++ passed_front result buf.new }
         ensures end { result ≡ Ok 0 → 0 < length buf.new → IsAtEnd (Some self.new.left) }
+        ensures ended { self.new.ended ≡ true ↔ ((result ≡ Ok 0) × (0 < length buf.new)) }
         ensures failed_takes_nothing { OnErr result (Keeps (Some self.old.left) (Some self.new.left)) }
         ensures cause { HasCause self.old.faults self.new.faults result }
 
@@ -76,15 +88,17 @@ impl Source for MemSource {
         // What it gives, and what is left of it and of the buffer.
         ensures count { IfOk result (λ count. count ≡ min (length buf.old) (length self.old.left)) }
         ensures given { IfOk result (λ count. buf.new ≡ take count self.old.left ++ drop count buf.old) }
-        ensures taken { IfOk result (λ count. self.new ≡ feed_after_read self.old count) }
+        ensures taken { IfOk result (λ count. self.new ≡ feed_after_read self.old count self.new.ended) }
         ensures failed { OnErr result (self.new ≡ feed_after_fault self.old) }
         ensures untouched { OnErr result (buf.new ≡ buf.old) }
     {
         if self.schedule.next_fails() {
+            self.ended = false;
             return Err(Failed);
         }
         let count = copy_from(self.bytes.as_slice(), self.at, buf);
         self.at += count;
+        self.ended = count == 0 && !buf.is_empty();
         Ok(count)
     }
 
@@ -99,6 +113,7 @@ fn copy_from(bytes: &[u8], at: usize, buf: &mut [u8]) -> usize
     ensures within { at + result ≤ length bytes.now }
     ensures count { result ≡ min (length buf.old) (length (drop at bytes.now)) }
     ensures given { buf.new ≡ take result (drop at bytes.now) ++ drop result buf.old }
+    ensures passed { take (at + result) bytes.now ≡ take at bytes.now ++ take result buf.new }
     ensures bytes { drop at bytes.now ≡ take result buf.new ++ drop (at + result) bytes.now }
     ensures end { result ≡ 0 → 0 < length buf.new → drop (at + result) bytes.now ≡ [] }
 {

@@ -1,6 +1,5 @@
 ghost use Rattle.std.specs.Prelude.{◌≡◌, ◌≤◌, ◌+◌, true, length, IsErr, OnOk};
-ghost use Rattle.m3_outside.specs.Causes.{CountsFaults};
-ghost use Rattle.m3_outside.specs.DiskState.{DiskState, Told, Elapses, Becomes};
+ghost use Rattle.m3_outside.specs.DiskState.{Told, Proceeds, Becomes};
 ghost use Rattle.m3_outside.specs.Removal.{without_files, MayTakeAway, HasTakenAway, AreRemovable};
 
 use crate::disk::Disk;
@@ -16,13 +15,10 @@ pub fn take_away<D: Disk>(disk: &mut D, names: &[FileName]) -> Result<(), Failed
     requires present { Told (D.state disk.old) (AreRemovable names.now) }
     requires room { length names.now ≤ (D.state disk.old).spare }
     // A stop at any moment leaves all files but the first few of these.
-    ensures any_moment { (D.state disk.old).tells ≡ true → Elapses (MayTakeAway names.now) (D.state disk.old) (D.state disk.new) }
-
+    ensures proceeds { Proceeds (MayTakeAway names.now) (IsErr result) (D.state disk.old) (D.state disk.new) }
     ensures ok { (D.state disk.old).tells ≡ true → OnOk result (Becomes (without_files names.now) (D.state disk.old) (D.state disk.new)) }
     ensures files { (D.state disk.old).tells ≡ true → HasTakenAway names.now (D.state disk.old) (D.state disk.new) }
     ensures spare { (D.state disk.old).spare ≤ (D.state disk.new).spare + length names.now }
-    ensures tells { (D.state disk.new).tells ≡ (D.state disk.old).tells }
-    ensures faults { CountsFaults (IsErr result) (D.state disk.old).faults (D.state disk.new).faults }
 {
     for name in names {
         disk.remove(*name)?;

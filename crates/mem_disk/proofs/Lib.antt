@@ -1,3 +1,2 @@
 pub mod PastLemmas
 pub mod DiskLemmas
-pub mod SlotLemmas

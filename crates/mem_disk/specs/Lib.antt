@@ -1,4 +1,3 @@
 pub mod Calls
 pub mod Parts
-pub mod SlotStates
 pub mod Slots

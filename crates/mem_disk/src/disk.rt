@@ -69,7 +69,7 @@ impl MemDisk {
 }
 
 impl Disk for MemDisk {
-    ghost use Rattle.std.specs.Prelude.{◌≡◌, ◌≤◌, length, if◌then◌else◌, is_ok, is_err};
+    ghost use Rattle.std.specs.Prelude.{◌≡◌, ◌≤◌, false, length, if◌then◌else◌, is_ok, is_err};
     ghost use Rattle.m3_outside.specs.Files.{IsAbsent, IsPresent, IsInside};
     ghost use Rattle.m3_outside.specs.DiskState.{Told};
     ghost use Rattle.m3_outside.specs.DiskCalls.{Reserves, Creates, Writes, Syncs, Reads, Sizes, Removes, Lists, Restarts};
@@ -250,6 +250,13 @@ impl Disk for MemDisk {
         self.past.push_reserved(before);
         self.schedule.take_fuse_out();
         Ok(())
+    }
+
+    /// What is in memory is there at once.
+    fn waits(&self) -> bool
+        ensures { result ≡ false }
+    {
+        false
     }
 
     fn faults(&self) -> u64 {

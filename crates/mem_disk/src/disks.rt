@@ -1,10 +1,7 @@
-ghost use Rattle.std.specs.Prelude.{◌≡◌, suc, vec_len, IfOk};
-ghost use Rattle.mem_disk.specs.SlotStates.{meta_position, AreEmpty};
-
 use crate::disk::MemDisk;
-use crate::slot_state::{SLOTS, SlotState, position_of};
+use disk_slots::{DiskSlots, has_slot};
 use m3_model::Memory;
-use m3_outside::{Disk, DiskErr, DiskSlot, Disks};
+use m3_outside::{DiskErr, DiskSlot, Disks};
 use std::alloc::Global;
 
 /// Disks in memory that never fail: one for each node below 16 and each shard below 64, and the meta disk. Another
@@ -12,21 +9,7 @@ use std::alloc::Global;
 #[derive(Drop)]
 pub struct MemDisks {
     alloc: Global,
-    slots: Vec<SlotState>,
-    faults: u64,
-    ghost all_slots: { vec_len slots ≡ suc meta_position },
-}
-
-// All slots, in none of which a disk lies.
-fn empty_slots(alloc: Global) -> Result<Vec<SlotState>, Memory>
-    ensures len { IfOk result (λ slots. vec_len slots ≡ suc meta_position) }
-    ensures empty { IfOk result (λ slots. AreEmpty slots.items) }
-{
-    let mut slots = Vec::new(alloc);
-    for _ in 0..SLOTS {
-        slots.push(SlotState::Empty)?;
-    }
-    Ok(slots)
+    slots: DiskSlots<MemDisk>,
 }
 
 impl MemDisks {
@@ -34,8 +17,9 @@ impl MemDisks {
     ghost use Rattle.mem_disk.specs.Parts.{state_of};
     ghost use Rattle.m3_outside.specs.declared.slot.DiskSlot.{DiskSlot as AtSlot};
     ghost use Rattle.m3_outside.specs.Slots.{Unused, Here, Out, OthersStay};
-    ghost use Rattle.mem_disk.specs.SlotStates.{HasSlot, disk_in};
-    ghost use Rattle.mem_disk.specs.Slots.{held_of, counted_of, faults_of, count_with};
+    ghost use Rattle.disk_slots.specs.SlotStates.{HasSlot, disk_in};
+    ghost use Rattle.m3_outside.specs.Causes.{count_with};
+    ghost use Rattle.mem_disk.specs.Slots.{held_of, counted_of, faults_of};
 
     /// All slots, none of them used. Takes the memory for them, and none for their disks.
     ///
@@ -46,12 +30,8 @@ impl MemDisks {
         ensures unused { IfOk result (λ d. (s : AtSlot) → held_of d s ≡ Unused) }
         ensures faults { IfOk result (λ d. faults_of d ≡ 0) }
     {
-        let slots = empty_slots(alloc)?;
-        Ok(MemDisks {
-            alloc,
-            slots,
-            faults: 0,
-        })
+        let slots = DiskSlots::new(alloc)?;
+        Ok(MemDisks { alloc, slots })
     }
 
     /// Puts a disk into a slot, and gives the one that lay there. The disk itself comes back where there is no such
@@ -66,14 +46,7 @@ impl MemDisks {
         ensures counts { HasSlot slot → ¬ (held_of self.old slot ≡ Out) → faults_of self.new ≡ count_with (faults_of self.old) (state_of disk).faults }
         ensures refused { (HasSlot slot → held_of self.old slot ≡ Out) → self.new ≡ self.old }
     {
-        let Some(position) = position_of(slot) else {
-            return Some(disk);
-        };
-        if self.slots[position].is_lent() {
-            return Some(disk);
-        }
-        self.faults = self.faults.saturating_add(disk.faults());
-        self.slots[position].put(disk)
+        self.slots.put(slot, disk)
     }
 }
 
@@ -81,20 +54,15 @@ impl Disks for MemDisks {
     type D = MemDisk;
 
     ghost use Rattle.std.specs.Prelude.{◌≡◌, ◌-◌, IfOk, OnErr, IsErrOf};
-    ghost use Rattle.m3_outside.specs.Causes.{CountsFaults, RoseBy};
+    ghost use Rattle.m3_outside.specs.Causes.{CountsFaults, RoseBy, count_with};
     ghost use Rattle.m3_outside.specs.DiskState.{IsEmpty};
     ghost use Rattle.m3_outside.specs.Slots.{Unused, Here, Out, MayGive, OthersStay};
     ghost use Rattle.m3_outside.specs.declared.slot.DiskSlot.{DiskSlot as AtSlot};
     ghost use Rattle.mem_disk.specs.Calls.{unfailing};
     ghost use Rattle.mem_disk.specs.Parts.{calls_of, state_of};
-    ghost use Rattle.mem_disk.specs.SlotStates.{held_at, counted_at};
-    ghost use Rattle.mem_disk.specs.Slots.{held_of, counted_of, faults_of, count_with};
+    ghost use Rattle.mem_disk.specs.Slots.{depot_of, held_of, counted_of, faults_of};
 
-    ghost held = { λ d. held_at d.slots.items };
-
-    ghost counted = { λ d. counted_at d.slots.items };
-
-    ghost all_faults = { λ d. d.faults };
+    ghost depot = { depot_of };
 
     /// Takes the disk of a slot. One that was never used gives a disk that never fails. This object has no faults of its own.
     fn take(&mut self, slot: DiskSlot) -> Result<MemDisk, DiskErr>
@@ -113,11 +81,14 @@ impl Disks for MemDisks {
         ensures no_fault { ¬ (IsErrOf result DiskErr.Failed) }
         ensures counts { faults_of self.new ≡ faults_of self.old }
     {
-        let Some(position) = position_of(slot) else {
+        if !has_slot(slot) {
             return Err(DiskErr::Memory);
-        };
-        let disk = self.slots[position].take(self.alloc)?;
-        Ok(disk)
+        }
+        if self.slots.is_unused(slot) {
+            let disk = MemDisk::new(self.alloc, &[], None)?;
+            return Ok(self.slots.lend_fresh(slot, disk));
+        }
+        Ok(self.slots.lend(slot))
     }
 
     /// Gives the disk of a slot back: the faults that it had since it was taken are counted, and no others.
@@ -134,17 +105,10 @@ impl Disks for MemDisks {
         // Exactly so many.
         ensures counts { faults_of self.new ≡ count_with (faults_of self.old) ((state_of disk).faults - counted_of self.old slot) }
     {
-        let Some(position) = position_of(slot) else {
-            unreachable!()
-        };
-        let counted = self.slots[position].counted();
-        self.faults = self
-            .faults
-            .saturating_add(disk.faults().saturating_sub(counted));
-        drop(self.slots[position].put(disk));
+        self.slots.give(slot, disk);
     }
 
     fn faults(&self) -> u64 {
-        self.faults
+        self.slots.faults()
     }
 }

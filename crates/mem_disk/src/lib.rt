@@ -4,7 +4,6 @@
 pub mod disk;
 pub mod disks;
 mod schedule;
-mod slot_state;
 
 pub use disk::MemDisk;
 pub use disks::MemDisks;

@@ -4,7 +4,7 @@ ghost use Rattle.std.specs.FinMap as finite;
 ghost use Rattle.m3_outside.specs.Slots.{Out};
 ghost use Rattle.placement_core.specs.Lawful.{IsLawful};
 ghost use Rattle.m3_outside.specs.declared.slot.DiskSlot.{DiskSlot as AtDisk};
-ghost use Rattle.line_tracks.specs.first_cluster.Depots.{IsForReplicas, depot_by};
+ghost use Rattle.line_tracks.specs.first_cluster.Depots.{IsForReplicas};
 ghost use Rattle.line_tracks.specs.first_cluster.First.{opening_of};
 ghost use Rattle.line_tracks.specs.first_cluster.Slots.{slots_of};
 ghost use Rattle.cluster_placements.specs.Lending.{HaveReturned, MayNotTake};
@@ -78,17 +78,17 @@ pub fn open_members<D: Disk, X: Disks<D = D>>(
     state: MetaState,
 ) -> Result<Members<D>, Untaken>
     requires state { IsMetaState state }
-    requires free { (disk_slot : AtDisk) → IsForReplicas disk_slot → X.held disks.old disk_slot ≢ Out }
-    ensures opened { IfOk result (IsReopened D.state state (depot_by X.held X.counted X.all_faults disks.old) (depot_by X.held X.counted X.all_faults disks.new)) }
+    requires free { (disk_slot : AtDisk) → IsForReplicas disk_slot → (X.depot disks.old).held disk_slot ≢ Out }
+    ensures opened { IfOk result (IsReopened D.state state (X.depot disks.old) (X.depot disks.new)) }
 
     // It is what a run that found the state begins with, before its first turn.
     ensures stands { IfOk result (ClusterStands (Some state) []) }
 
     // Lines may make placements from it.
-    ensures may { IfOk result (λ members. MayChange members (X.held disks.new)) }
+    ensures may { IfOk result (λ members. MayChange members (X.depot disks.new).held) }
 
-    ensures returned { OnErr result (HaveReturned D.state (slots_of state.place) (depot_by X.held X.counted X.all_faults disks.old) (depot_by X.held X.counted X.all_faults disks.new)) }
-    ensures cause { IfErr result (MayNotTake D.state (slots_of state.place) (depot_by X.held X.counted X.all_faults disks.old) (depot_by X.held X.counted X.all_faults disks.new)) }
+    ensures returned { OnErr result (HaveReturned D.state (slots_of state.place) (X.depot disks.old) (X.depot disks.new)) }
+    ensures cause { IfErr result (MayNotTake D.state (slots_of state.place) (X.depot disks.old) (X.depot disks.new)) }
 {
     let Ok(plan) = planned(alloc, &state.place) else {
         return Err(Untaken::Memory);

@@ -1,10 +1,10 @@
+use host_edge::{StdSink, StdSource};
 use m3_outside::{Sink, Source};
 use std::alloc::{AllocError, Allocator, Global};
 use std::cell::RefCell;
 use std::fmt::Display;
 use std::io::{self, BufRead, Lines};
 use std::test::Fail;
-use std_streams::{StdSink, StdSource};
 
 // An input whose readers all begin with these bytes.
 #[derive(Drop)]

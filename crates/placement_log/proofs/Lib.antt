@@ -5,5 +5,3 @@ pub mod HoldsLemmas
 pub mod DiskLemmas
 pub mod CallLemmas
 pub mod ReadLemmas
-pub mod SyncLemmas
-pub mod Counts

@@ -8,7 +8,6 @@ mod open_err;
 mod payload;
 mod read;
 mod segment;
-mod sync;
 
 pub use meta_log::MetaLog;
 pub use open_err::OpenErr;

@@ -99,6 +99,10 @@ impl Disk for CountedDisk<'_> {
         self.disk.restart(pick)
     }
 
+    fn waits(&self) -> bool {
+        self.disk.waits()
+    }
+
     fn faults(&self) -> u64 {
         self.disk.faults()
     }

@@ -15,7 +15,7 @@ ghost use Rattle.line_tracks.specs.session_net.Ready.{IsReady};
 ghost use Rattle.line_tracks.specs.transcripts.Placements.{placement_after};
 ghost use Rattle.line_tracks.specs.transcripts.Record.{inner_turns};
 ghost use Rattle.line_tracks.specs.first_cluster.Bare.{AreBare};
-ghost use Rattle.line_tracks.specs.first_cluster.Depots.{RisesBy, count_at, depot_by, disk_slot_of, IsForReplicas};
+ghost use Rattle.line_tracks.specs.first_cluster.Depots.{RisesBy, count_at, disk_slot_of, IsForReplicas};
 ghost use Rattle.line_tracks.specs.tracks.Ends.{replica_at};
 ghost use Rattle.line_tracks.specs.tracks.Tracks.{events_of};
 ghost use Rattle.line_tracks.specs.tracks.Numbers.{last_number};
@@ -202,14 +202,14 @@ impl<D: Disk> Cluster<D> {
     /// Gives all disks back. The count of all faults rises by as much as those of the disks rose since they were taken.
     /// Takes no memory.
     pub fn close<X: Disks<D = D>>(self, disks: &mut X)
-        requires owned { MayServeCluster self (X.held disks.old) }
-        ensures none_out { (slot : DiskSlot) → IsForReplicas slot → X.held disks.new slot ≢ Out }
-        ensures meta { (slot : DiskSlot) → ¬ IsForReplicas slot → X.held disks.new slot ≡ X.held disks.old slot }
-        ensures held { (s : AtSlot) → X.held disks.new (disk_slot_of s) ≡ held_at (depot_by X.held X.counted X.all_faults disks.old) (replica_at self.members s) s }
-        ensures counted { (s : AtSlot) → X.counted disks.new (disk_slot_of s)
-            ≡ count_at D.state (record { held = X.held disks.old; counted = X.counted disks.old; faults = X.all_faults disks.old }) (replica_at self.members s) s }
-        ensures rose { RisesBy D.state (depot_by X.held X.counted X.all_faults disks.old) self.members (X.all_faults disks.new) }
-        ensures later { X.all_faults disks.old ≤ X.all_faults disks.new }
+        requires owned { MayServeCluster self (X.depot disks.old).held }
+        ensures none_out { (slot : DiskSlot) → IsForReplicas slot → (X.depot disks.new).held slot ≢ Out }
+        ensures meta { (slot : DiskSlot) → ¬ IsForReplicas slot → (X.depot disks.new).held slot ≡ (X.depot disks.old).held slot }
+        ensures held { (s : AtSlot) → (X.depot disks.new).held (disk_slot_of s) ≡ held_at (X.depot disks.old) (replica_at self.members s) s }
+        ensures counted { (s : AtSlot) → (X.depot disks.new).counted (disk_slot_of s)
+            ≡ count_at D.state (X.depot disks.old) (replica_at self.members s) s }
+        ensures rose { RisesBy D.state (X.depot disks.old) self.members (X.depot disks.new).faults }
+        ensures later { (X.depot disks.old).faults ≤ (X.depot disks.new).faults }
     {
         let Cluster { members, .. } = self;
         if let Some(mut members) = members {

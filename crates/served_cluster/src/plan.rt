@@ -5,7 +5,6 @@ ghost use Rattle.m3_model.specs.declared.act.Act.{Act as Line};
 ghost use Rattle.m3_model.specs.Limits.{MeetsLimits};
 ghost use Rattle.m3_model.specs.declared.rules.Rules.{Rules as Ruled};
 ghost use Rattle.m3_outside.specs.Depots.{Depot};
-ghost use Rattle.line_tracks.specs.first_cluster.Depots.{depot_by};
 ghost use Rattle.line_tracks.specs.session_net.Ready.{IsReady};
 ghost use Rattle.line_tracks.specs.cluster_placements.Steps.{MayChange};
 ghost use Rattle.served_cluster.specs.Acts.{Serves, first_numbers};
@@ -112,9 +111,9 @@ fn make_on<D: Disk, X: Disks<D = D>>(
     made: Plan,
 ) -> (Answer, bool)
     requires planned { (a : Line) × IsPlannedOn members.old a made }
-    requires may { MayChange members.old (X.held disks.old) }
-    ensures may { MayChange members.new (X.held disks.new) }
-    ensures makes { (a : Line) → IsPlannedOn members.old a made → MakesOn D.state (depot_by X.held X.counted X.all_faults disks.old) members.old a result.0 (depot_by X.held X.counted X.all_faults disks.new) members.new }
+    requires may { MayChange members.old (X.depot disks.old).held }
+    ensures may { MayChange members.new (X.depot disks.new).held }
+    ensures makes { (a : Line) → IsPlannedOn members.old a made → MakesOn D.state (X.depot disks.old) members.old a result.0 (X.depot disks.new) members.new }
     ensures state { members.new.net.state ≡ state_after result.1 made members.old.net.state }
 {
     match made {
@@ -197,9 +196,9 @@ impl<D: Disk> Cluster<D> {
         plan: Plan,
     ) -> (Answer, bool)
         requires planned { (a : Line) × IsPlannedBy self.old a plan }
-        requires owned { MayServeCluster self.old (X.held disks.old) }
-        ensures owned { MayServeCluster self.new (X.held disks.new) }
-        ensures served { (a : Line) → IsPlannedBy self.old a plan → Serves D.state (depot_by X.held X.counted X.all_faults disks.old) self.old a result.0 (depot_by X.held X.counted X.all_faults disks.new) self.new }
+        requires owned { MayServeCluster self.old (X.depot disks.old).held }
+        ensures owned { MayServeCluster self.new (X.depot disks.new).held }
+        ensures served { (a : Line) → IsPlannedBy self.old a plan → Serves D.state (X.depot disks.old) self.old a result.0 (X.depot disks.new) self.new }
         ensures state { state_of self.new ≡ option_map (state_after result.1 plan) (state_of self.old) }
     {
         match &mut self.members {

@@ -24,7 +24,7 @@ pub mod of_m3_model {
 }
 /// Of `m3_outside`.
 pub mod of_m3_outside {
-    pub use commit_log::of_m3_outside::{Disk, DiskErr, Failed, FileName, take_away};
+    pub use commit_log::of_m3_outside::{Disk, DiskErr, Failed, FileName, sync_all, take_away};
 }
 /// Of `wire_bytes`.
 pub mod of_wire_bytes {

@@ -1,5 +1,3 @@
-pub mod Counts
-pub mod SyncLemmas
 pub mod OnceLemmas
 pub mod ToldLemmas
 pub mod OpenLemmas

@@ -8,7 +8,6 @@ mod log;
 mod newest;
 mod once;
 mod rows;
-mod sync;
 mod told;
 pub mod volumes;
 

@@ -16,11 +16,11 @@ use crate::claims::claim_by_tenure;
 use crate::log::held_entries;
 use crate::newest::{Newest, read_newest};
 use crate::once::each_once;
-use crate::sync::sync_all;
 use crate::volumes::{OpenVolume, open_volumes};
 use boot_chain::Claims;
 use m3_model::{Memory, Point, Seq};
 use snapshot_files::of_m3_outside::Disk;
+use snapshot_files::of_m3_outside::sync_all::sync_all;
 use snapshot_files::of_shard_files::{Amount, LoadErr, join_entries};
 use std::alloc::Global;
 

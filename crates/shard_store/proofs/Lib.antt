@@ -24,5 +24,5 @@ pub mod commit_log_proofs
 pub mod shard_files_proofs
 pub use Rattle.store_log.proofs.LogStepLemmas
 pub use Rattle.store_log.proofs.WholeLemmas
-pub use Rattle.shard_open.proofs.Counts
+pub mod Counts
 pub use Rattle.shard_open.proofs.ToldLemmas

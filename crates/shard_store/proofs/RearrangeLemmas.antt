@@ -8,7 +8,7 @@ use Rattle.m3_outside.proofs.Moments.{elapses_then, counts_then}
 use Rattle.store_log.specs.listed_volumes.shard_files.Keeps.{Keeps, Rearranges}
 use Rattle.store_log.specs.listed_volumes.shard_files.Parts.{KnownVolume}
 use Rattle.store_log.proofs.listed_volumes_proofs.shard_files_proofs.KeepLemmas.{keeps_then}
-use Rattle.shard_open.proofs.Counts.{counts_for}
+use Rattle.shard_store.proofs.Counts.{counts_for}
 use Rattle.store_log.specs.snapshot_steps.volume_steps.Known.{HoldsKnown}
 use Rattle.store_log.proofs.snapshot_steps_proofs.volume_steps_proofs.LawLemmas.{join_is_there}
 use Rattle.store_log.proofs.snapshot_steps_proofs.volume_steps_proofs.RemovalLemmas.{left_moment}

@@ -36,7 +36,7 @@ pub mod of_fileset_read {
 }
 /// Of `m3_outside`.
 pub mod of_m3_outside {
-    pub use fileset_check::of_m3_outside::{Disk, DiskErr, FileName};
+    pub use fileset_check::of_m3_outside::{Disk, DiskErr, FileName, sync_all};
 }
 /// Of `shard_files`.
 pub mod of_shard_files {

@@ -95,8 +95,8 @@ fn tell_one<X: Disks>(
     word: &str,
     out: &mut String,
 ) -> Result<bool, Memory>
-    requires may { MayServeSaved X.D.state cluster.old (X.held disks.old) }
-    ensures may { IfOk result (λ on. on ≡ true → MayServeSaved X.D.state cluster.new (X.held disks.new)) }
+    requires may { MayServeSaved X.D.state cluster.old (X.depot disks.old).held }
+    ensures may { IfOk result (λ on. on ≡ true → MayServeSaved X.D.state cluster.new (X.depot disks.new).held) }
 {
     let mut answer = String::new(alloc);
     let goes_on = tell_word(alloc, cluster, disks, word, &mut answer)?;
@@ -125,8 +125,8 @@ fn begin<X: Disks>(
     disks: &mut X,
     head: &str,
 ) -> Result<bool, Memory>
-    requires may { MayServeSaved X.D.state cluster.old (X.held disks.old) }
-    ensures may { IfOk result (λ on. on ≡ true → MayServeSaved X.D.state cluster.new (X.held disks.new)) }
+    requires may { MayServeSaved X.D.state cluster.old (X.depot disks.old).held }
+    ensures may { IfOk result (λ on. on ≡ true → MayServeSaved X.D.state cluster.new (X.depot disks.new).held) }
 {
     let mut answer = String::new(alloc);
     let goes_on = tell_word(alloc, cluster, disks, head, &mut answer)?;
@@ -145,7 +145,7 @@ fn tell_words<X: Disks>(
     script: &str,
     out: &mut String,
 ) -> Result<(), Memory>
-    requires may { MayServeSaved X.D.state cluster.old (X.held disks.old) }
+    requires may { MayServeSaved X.D.state cluster.old (X.depot disks.old).held }
 {
     let (head, words) = script.split_once(' ').unwrap_or(("", ""));
     let mut goes_on = begin(alloc, double, cluster, disks, head)?;

@@ -2,7 +2,7 @@
 ghost use Rattle.std.specs.Prelude.{None};
 
 use crate::case_err::CaseErr;
-use m3_outside::{Failed, Sink, Source};
+use m3_outside::{Failed, Passed, Sink, Source};
 use std::alloc::Global;
 use std::cell::Cell;
 
@@ -49,10 +49,16 @@ pub struct TrialSource<'a> {
     pub reads: u64,
     pub faults: u64,
     pub calls: &'a Cell<u64>,
+    pub gave: Passed,
+    pub ended: bool,
 }
 
 impl Source for TrialSource<'_> {
     ghost left = { λ _. None };
+
+    ghost gave = { λ s. s.gave };
+
+    ghost ended = { λ s. s.ended };
 
     ghost faulted = { λ s. s.faults };
 
@@ -60,6 +66,7 @@ impl Source for TrialSource<'_> {
         note(self.calls, 1);
         let number = self.reads;
         self.reads = self.reads.saturating_add(1);
+        self.ended = false;
         if self.fail.contains(&number) {
             self.faults = self.faults.saturating_add(1);
             return Err(Failed);
@@ -69,6 +76,8 @@ impl Source for TrialSource<'_> {
         let count = most.min(left.len()).min(buf.len());
         buf[..count].copy_from_slice(&left[..count]);
         self.at = self.at.saturating_add(count);
+        self.gave.add(&buf[..count]);
+        self.ended = count == 0 && !buf.is_empty();
         Ok(count)
     }
 
@@ -91,6 +100,8 @@ pub struct TrialSink<'a> {
 
 impl Sink for TrialSink<'_> {
     ghost written = { λ _. None };
+
+    ghost took = { λ s. s.bytes.items };
 
     ghost faulted = { λ s. s.faults };
 

@@ -16,7 +16,7 @@ returns-then-index-clause-booting g c = (
 )
 
 pub open_running-requires-clause-runs : goal.open_running-requires-clause-runs
-open_running-requires-clause-runs g c κs within = (
+open_running-requires-clause-runs g c = (
   record {
     runs =
         node_is c.args.members.now c.args.name c.as_str.result.now c.as_slice-instances.result.now c.in-Some.node false c.index.result.now c.as_str.ensures c.as_slice-instances.ensures c.in-Some.ensures.found c.in-Some.ensures.below

@@ -4,13 +4,13 @@ use Rattle.cluster_joins.proofs.BootLemmas.{err_ready, err_still, joined_few, jo
 use Rattle.cluster_joins.proofs.boots.open_running.Goals as goal
 
 pub open_all-requires-clause-placed : goal.open_all-requires-clause-placed
-open_all-requires-clause-placed g c κs within = let net = (c.args.members.now).net in (may_call net.state net.replicas net.bag c.requires.ready).place
+open_all-requires-clause-placed g c = let net = (c.args.members.now).net in (may_call net.state net.replicas net.bag c.requires.ready).place
 
 pub to_mark-requires-clause-joining : goal.to_mark-requires-clause-joining
-to_mark-requires-clause-joining g c κs within = joining_done g.D.Disk.state c.args.members.now c.args.name c.args.asked c.args.node c.requires.runs c.requires.ready c.open_all.new.replicas c.in-Ok.joined c.in-Ok.ensures.tried
+to_mark-requires-clause-joining g c = joining_done g.D.Disk.state c.args.members.now c.args.name c.args.asked c.args.node c.requires.runs c.requires.ready c.open_all.new.replicas c.in-Ok.joined c.in-Ok.ensures.tried
 
 pub to_mark-requires-clause-few : goal.to_mark-requires-clause-few
-to_mark-requires-clause-few g c κs within = joined_few g.D.Disk.state c.args.members.now c.args.name c.args.asked c.args.node c.requires.runs c.requires.ready c.open_all.new.replicas c.in-Ok.joined c.in-Ok.ensures.tried
+to_mark-requires-clause-few g c = joined_few g.D.Disk.state c.args.members.now c.args.name c.args.asked c.args.node c.requires.runs c.requires.ready c.open_all.new.replicas c.in-Ok.joined c.in-Ok.ensures.tried
 
 pub returns-in-Ok-clause-booting : goal.returns-in-Ok-clause-booting
 returns-in-Ok-clause-booting g c =

@@ -2,8 +2,8 @@ use Rattle.std.proofs.Common.{refl, sym, ◌∙◌, arith}
 use Rattle.cluster_joins.proofs.PartLemmas.{few_sources, none_of, prepared_so, some_of, unmoved_so}
 use Rattle.cluster_joins.proofs.boots.to_mark.Goals as goal
 
-pub prepared-requires-clause-few : goal.prepared-requires-clause-few
-prepared-requires-clause-few g c κs within = few_sources c.args.node c.args.joined c.in-Ok.marking c.in-Ok.ensures.parts c.requires.few
+pub prepared-requires : goal.prepared-requires
+prepared-requires g c = record { few = few_sources c.args.node c.args.joined c.in-Ok.marking c.in-Ok.ensures.parts c.requires.few }
 
 pub returns-in-Ok : goal.returns-in-Ok
 returns-in-Ok g c =

@@ -7,7 +7,7 @@ use Rattle.cluster_placements.proofs.PlaceLemmas.{place_lawful}
 use Rattle.cluster_joins.proofs.events.place_ended.Goals as goal
 
 pub answer-requires-clause-lawful : goal.answer-requires-clause-lawful
-answer-requires-clause-lawful g c κs within tells =
+answer-requires-clause-lawful g c tells =
     let next = c.args.next.now in
     let done = c.args.done.now in
     let behind = (c.ask.new.replicas).events in

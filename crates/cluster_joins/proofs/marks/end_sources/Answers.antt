@@ -10,10 +10,10 @@ use Rattle.cluster_joins.proofs.StillLemmas.{ends_quiet, still_on}
 use Rattle.cluster_joins.proofs.marks.end_sources.Goals as goal
 
 pub end_all-requires-clause-there : goal.end_all-requires-clause-there
-end_all-requires-clause-there g c κs lives s i = c.requires.there s (subst (λ xs. IsIn xs s) c.as_slice.ensures.value i)
+end_all-requires-clause-there g c s i = c.requires.there s (subst (λ xs. IsIn xs s) c.as_slice.ensures.value i)
 
 pub end_all-requires-clause-room : goal.end_all-requires-clause-room
-end_all-requires-clause-room g c κs lives = subst (λ xs. HasRoom (2 * length xs) (((c.args.members.now).net).replicas).events) (sym c.as_slice.ensures.value) c.requires.room
+end_all-requires-clause-room g c = subst (λ xs. HasRoom (2 * length xs) (((c.args.members.now).net).replicas).events) (sym c.as_slice.ensures.value) c.requires.room
 
 pub returns-clause-ended : goal.returns-clause-ended
 returns-clause-ended g c = record {

@@ -10,7 +10,7 @@ use Rattle.cluster_joins.proofs.StillLemmas.{change_still, room_first, slots_nex
 use Rattle.cluster_joins.proofs.marks.mark.Goals as goal
 
 pub place_ended-requires-clause-room : goal.place_ended-requires-clause-room
-place_ended-requires-clause-room g c κs lives = room_first ((c.args.members.now).net).replicas.events (length ((c.args.marking).marked).sources.items) c.requires.room
+place_ended-requires-clause-room g c = room_first ((c.args.members.now).net).replicas.events (length ((c.args.marking).marked).sources.items) c.requires.room
 
 pub returns-clause-marked : goal.returns-clause-marked
 returns-clause-marked g c =

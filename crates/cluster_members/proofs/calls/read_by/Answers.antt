@@ -5,10 +5,12 @@ use Rattle.cluster_members.specs.Calls.{IsReadAnswer, wish}
 use Rattle.cluster_members.proofs.ExchangeLemmas.{made_by, keeps, state_same, fates_same, past_same, at_back, bag_same, read_refused}
 use Rattle.cluster_members.proofs.calls.read_by.Goals as goal
 
-pub exchange-requires-2-clause-there : goal.exchange-requires-2-clause-there
-exchange-requires-2-clause-there g c κs within =
-    let net = c.args.net.now in
-    (net.state.place, at_back c.args.net.now c.exchange.new.net c.fetch-said.new.net c.args.past.now c.exchange.new.past c.args.kept c.requires.there.0 c.requires.there.1 c.exchange.ensures.by c.exchange.ensures.past c.fetch-said.ensures.state c.fetch-said.ensures.fates, net.some_shards, net.few_shards)
+pub exchange-requires-2 : goal.exchange-requires-2
+exchange-requires-2 g c = record {
+  there =
+      let net = c.args.net.now in
+      (net.state.place, at_back c.args.net.now c.exchange.new.net c.fetch-said.new.net c.args.past.now c.exchange.new.past c.args.kept c.requires.there.0 c.requires.there.1 c.exchange.ensures.by c.exchange.ensures.past c.fetch-said.ensures.state c.fetch-said.ensures.fates, net.some_shards, net.few_shards);
+}
 
 pub returns-in-Ok-clause-by : goal.returns-in-Ok-clause-by
 returns-in-Ok-clause-by g c place at =

@@ -6,7 +6,7 @@ use Rattle.cluster_members.proofs.ClockLemmas.{clock_lawful}
 use Rattle.cluster_members.proofs.clock.tick.Goals as goal
 
 pub answer-requires-clause-lawful : goal.answer-requires-clause-lawful
-answer-requires-clause-lawful g c κs within tells =
+answer-requires-clause-lawful g c tells =
     clock_lawful c.args.rules.now (c.args.replicas.now).events (c.ask.new.replicas).events c.tell_apart.ensures (c.know.ensures.legal false (λ e. cc)) c.requires.next (c.ask.ensures).grew tells
 
 pub returns : goal.returns

@@ -11,13 +11,13 @@ use Rattle.cluster_placements.proofs.PlacedLemmas.{next_place, ready_placed, ser
 use Rattle.cluster_placements.proofs.change.make.Goals as goal
 
 pub place-requires-clause-next : goal.place-requires-clause-next
-place-requires-clause-next g c κs lives = let net = (c.args.members.now).net in next_place net.state net.replicas net.bag c.args.change.next c.requires.ready c.requires.step
+place-requires-clause-next g c = let net = (c.args.members.now).net in next_place net.state net.replicas net.bag c.args.change.next c.requires.ready c.requires.step
 
 pub place-requires-clause-room : goal.place-requires-clause-room
-place-requires-clause-room g c κs lives = room_first ((c.args.members.now).net).replicas c.args.change.left.items c.requires.room
+place-requires-clause-room g c = room_first ((c.args.members.now).net).replicas c.args.change.left.items c.requires.room
 
 pub end_all-requires-clause-there : goal.end_all-requires-clause-there
-end_all-requires-clause-there g c κs lives s i =
+end_all-requires-clause-there g c s i =
     let net = (c.args.members.now).net in
     there_after g.D.Disk.state net.replicas c.place.new.replicas (place_events c.args.change.next) s c.place.ensures (left_there net.state net.replicas net.bag c.args.change.next c.as_slice.result.now c.requires.ready (c.as_slice.ensures.value ∙ c.requires.left_are) s i)
 

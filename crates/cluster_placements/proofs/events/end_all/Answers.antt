@@ -13,12 +13,12 @@ pub loop-slot-init : goal.loop-slot-init
 loop-slot-init g c = ran_nothing g.D.Disk.state c.args.replicas.now
 
 pub end_one-requires-clause-there : goal.end_one-requires-clause-there
-end_one-requires-clause-there g c κs within =
+end_one-requires-clause-there g c =
     let i = c.loop-slot.slot-index in
     there_after g.D.Disk.state c.args.replicas.now c.loop-slot.replicas (flat_map end_at (take i c.args.slots.now)) _ c.loop-slot.invariant (c.requires.there _ (IsIn-from_index c.args.slots.now i _ c.loop-slot-test.true))
 
 pub end_one-requires-clause-room : goal.end_one-requires-clause-room
-end_one-requires-clause-room g c κs within =
+end_one-requires-clause-room g c =
     let i = c.loop-slot.slot-index in
     let low = c.loop-slot-test.true in
     let short = take_short c.args.slots.now i in

@@ -6,7 +6,7 @@ use Rattle.cluster_placements.proofs.PlaceLemmas.{next_asked, place_lawful}
 use Rattle.cluster_placements.proofs.events.place.Goals as goal
 
 pub answer-requires-clause-lawful : goal.answer-requires-clause-lawful
-answer-requires-clause-lawful g c κs within tells =
+answer-requires-clause-lawful g c tells =
     let next = c.args.next.now in
     let past = (c.args.replicas.now).events in
     let behind = (c.ask.new.replicas).events in

@@ -19,13 +19,13 @@ loop-row-init g c = record {
 }
 
 pub report_one-report-requires-clause-there : goal.report_one-report-requires-clause-there
-report_one-report-requires-clause-there g c κs within =
+report_one-report-requires-clause-there g c =
     let was = c.loop-row.invariant in
     let r : Row = get_or c.args.rows.now c.loop-row.row-index _ in
     there_after g.D.Disk.state c.args.replicas.now c.loop-row.replicas (flat_map told_at c.loop-row.lines.items) r.slot was.ran (c.requires.there r (IsIn-get_or c.args.rows.now c.loop-row.row-index _ c.loop-row-test.true))
 
 pub report_one-report-requires-clause-room : goal.report_one-report-requires-clause-room
-report_one-report-requires-clause-room g c κs within =
+report_one-report-requires-clause-room g c =
     let was = c.loop-row.invariant in
     room_left g.D.Disk.state c.args.rows.now c.loop-row.row-index c.loop-row.lines.items c.args.replicas.now c.loop-row.replicas c.loop-row-test.true was.of_rows was.ran c.requires.room
 

@@ -29,13 +29,13 @@ pub returns-in_default-with_capacity-clause-told : goal.returns-in_default-with_
 returns-in_default-with_capacity-clause-told g c = same_state c.args.members.now _ refl _ _ _ _ _ _ _ _ _ _
 
 pub report_all-requires-clause-there : goal.report_all-requires-clause-there
-report_all-requires-clause-there g c κs within r m =
+report_all-requires-clause-there g c r m =
     let place = (c.args.members.now).net.state.place in
     c.requires.ready.there r.slot.node r.slot.shard
     (row_member place c.requires.ready.lawful c.in-Ok.rows.items c.in-Ok.ensures r (subst (λ rows. IsIn rows r) c.as_slice.ensures.value m))
 
 pub report_all-requires-clause-room : goal.report_all-requires-clause-room
-report_all-requires-clause-room g c κs within =
+report_all-requires-clause-room g c =
     has_room (c.args.members.now).net.replicas.events _ _ c.has_room.result (c.len.ensures ∙ sym c.as_slice.ensures.len) c.has_room.ensures c.if-not-has_room.false
 
 pub returns-clause-told : goal.returns-clause-told

@@ -24,18 +24,18 @@ loop-row-init g c = record {
 }
 
 pub run_one-said-requires-clause-clock : goal.run_one-said-requires-clause-clock
-run_one-said-requires-clause-clock g c κs within =
+run_one-said-requires-clause-clock g c =
     let was = c.loop-row.invariant in
     any_after g.D.Disk.state (IsClock c.args.rules.now) c.args.replicas.now c.loop-row.replicas (flat_map (asked_at (call_by c.args.job c.args.rules.now)) was.entries) was.ran c.requires.clock
 
 pub run_one-said-requires-clause-there : goal.run_one-said-requires-clause-there
-run_one-said-requires-clause-there g c κs within =
+run_one-said-requires-clause-there g c =
     let was = c.loop-row.invariant in
     let r : Row = get_or c.args.rows.now c.loop-row.row-index _ in
     there_after g.D.Disk.state c.args.replicas.now c.loop-row.replicas (flat_map (asked_at (call_by c.args.job c.args.rules.now)) was.entries) r.slot was.ran (c.requires.there r (IsIn-get_or c.args.rows.now c.loop-row.row-index _ c.loop-row-test.true))
 
 pub run_one-said-requires-clause-room : goal.run_one-said-requires-clause-room
-run_one-said-requires-clause-room g c κs within =
+run_one-said-requires-clause-room g c =
     let was = c.loop-row.invariant in
     room_here g.D.Disk.state (call_by c.args.job c.args.rules.now) c.args.rows.now c.loop-row.row-index c.loop-row-test.true was.entries was.of_rows c.args.replicas.now c.loop-row.replicas was.ran c.requires.room
 

@@ -37,19 +37,19 @@ pub returns-in_default-with_room-clause-swept : goal.returns-in_default-with_roo
 returns-in_default-with_room-clause-swept g c = same_state c.args.members.now _ refl _ _ _ _ _ _ _ _ _ _
 
 pub run_all-requires-clause-clock : goal.run_all-requires-clause-clock
-run_all-requires-clause-clock g c κs within = clock_there (c.args.members.now).net.replicas.events (c.args.members.now).net.state.rules c.requires.ready.clock
+run_all-requires-clause-clock g c = clock_there (c.args.members.now).net.replicas.events (c.args.members.now).net.state.rules c.requires.ready.clock
 
 pub run_all-requires-clause-sizes : goal.run_all-requires-clause-sizes
-run_all-requires-clause-sizes g c κs within = (c.args.members.now).sizes
+run_all-requires-clause-sizes g c = (c.args.members.now).sizes
 
 pub run_all-requires-clause-there : goal.run_all-requires-clause-there
-run_all-requires-clause-there g c κs within r m =
+run_all-requires-clause-there g c r m =
     let place = (c.args.members.now).net.state.place in
     c.requires.ready.there r.slot.node r.slot.shard
     (row_member place c.requires.ready.lawful c.in-Ok.rows.items c.in-Ok.ensures r (subst (λ rows. IsIn rows r) c.as_slice.ensures.value m))
 
 pub run_all-requires-clause-room : goal.run_all-requires-clause-room
-run_all-requires-clause-room g c κs within =
+run_all-requires-clause-room g c =
     has_room (c.args.members.now).net.replicas.events _ _ c.has_room.result (ap (λ n. 2 * n) (c.len.ensures ∙ sym c.as_slice.ensures.len)) c.has_room.ensures c.if-not-has_room.false
 
 pub returns-clause-swept : goal.returns-clause-swept

@@ -23,7 +23,7 @@ returns-in_err-names-clause-files g c = λ t.
     left_all _ (segments_below c.args.number (g.D.Disk.state c.args.disk.now).files) (g.D.Disk.state c.args.disk.now) (g.D.Disk.state c.find_below.new.disk) c.find_below.ensures.leaves t
 
 pub take_away-requires-clause-present : goal.take_away-requires-clause-present
-take_away-requires-clause-present g c = λ a b h.
+take_away-requires-clause-present g c = λ h.
     let t = sym c.find_below.ensures.leaves.proceeds.tells ∙ h in
     let same = c.find_below.ensures.leaves.files t in
     subst (λ (l : List FileName). AreRemovable l (g.D.Disk.state c.find_below.new.disk).files) (sym (c.deref.ensures.value ∙ c.in_ok-names.ensures.ok t))
@@ -33,7 +33,7 @@ pub returns-in_err-take_away-clause-any_moment : goal.returns-in_err-take_away-c
 returns-in_err-take_away-clause-any_moment g c = λ t.
     let told = c.find_below.ensures.leaves.proceeds.tells ∙ t in
     then_elapses _ (segments_below c.args.number (g.D.Disk.state c.args.disk.now).files) (g.D.Disk.state c.args.disk.now) (g.D.Disk.state c.find_below.new.disk) c.find_below.ensures.leaves (g.D.Disk.state c.take_away.new.disk) t
-    (subst (λ (l : List FileName). Elapses (MayTakeAway l) (g.D.Disk.state c.find_below.new.disk) (g.D.Disk.state c.take_away.new.disk)) (c.deref.ensures.value ∙ c.in_ok-names.ensures.ok t) (c.take_away.ensures.any_moment told))
+    (subst (λ (l : List FileName). Elapses (MayTakeAway l) (g.D.Disk.state c.find_below.new.disk) (g.D.Disk.state c.take_away.new.disk)) (c.deref.ensures.value ∙ c.in_ok-names.ensures.ok t) (c.take_away.ensures.proceeds.told told))
 
 pub returns-in_err-take_away-clause-files : goal.returns-in_err-take_away-clause-files
 returns-in_err-take_away-clause-files g c = λ t.
@@ -45,7 +45,7 @@ pub returns-clause-any_moment : goal.returns-clause-any_moment
 returns-clause-any_moment g c = λ t.
     let told = c.find_below.ensures.leaves.proceeds.tells ∙ t in
     then_elapses _ (segments_below c.args.number (g.D.Disk.state c.args.disk.now).files) (g.D.Disk.state c.args.disk.now) (g.D.Disk.state c.find_below.new.disk) c.find_below.ensures.leaves (g.D.Disk.state c.take_away.new.disk) t
-    (subst (λ (l : List FileName). Elapses (MayTakeAway l) (g.D.Disk.state c.find_below.new.disk) (g.D.Disk.state c.take_away.new.disk)) (c.deref.ensures.value ∙ c.in_ok-names.ensures.ok t) (c.take_away.ensures.any_moment told))
+    (subst (λ (l : List FileName). Elapses (MayTakeAway l) (g.D.Disk.state c.find_below.new.disk) (g.D.Disk.state c.take_away.new.disk)) (c.deref.ensures.value ∙ c.in_ok-names.ensures.ok t) (c.take_away.ensures.proceeds.told told))
 
 pub returns-clause-ok : goal.returns-clause-ok
 returns-clause-ok g c = λ t.
@@ -65,11 +65,11 @@ returns-in_err-names-clause-log_stands g c = λ log le st.
 
 pub returns-in_err-take_away-clause-log_stands : goal.returns-in_err-take_away-clause-log_stands
 returns-in_err-take_away-clause-log_stands g c = λ log le st.
-    stands_cut log c.args.number (g.D.Disk.state c.args.disk.now) (g.D.Disk.state c.take_away.new.disk) le (c.take_away.ensures.tells ∙ c.find_below.ensures.leaves.proceeds.tells)
+    stands_cut log c.args.number (g.D.Disk.state c.args.disk.now) (g.D.Disk.state c.take_away.new.disk) le (c.take_away.ensures.proceeds.tells ∙ c.find_below.ensures.leaves.proceeds.tells)
     (λ t.
     let told = c.find_below.ensures.leaves.proceeds.tells ∙ t in
     then_elapses _ (segments_below c.args.number (g.D.Disk.state c.args.disk.now).files) (g.D.Disk.state c.args.disk.now) (g.D.Disk.state c.find_below.new.disk) c.find_below.ensures.leaves (g.D.Disk.state c.take_away.new.disk) t
-    (subst (λ (l : List FileName). Elapses (MayTakeAway l) (g.D.Disk.state c.find_below.new.disk) (g.D.Disk.state c.take_away.new.disk)) (c.deref.ensures.value ∙ c.in_ok-names.ensures.ok t) (c.take_away.ensures.any_moment told)))
+    (subst (λ (l : List FileName). Elapses (MayTakeAway l) (g.D.Disk.state c.find_below.new.disk) (g.D.Disk.state c.take_away.new.disk)) (c.deref.ensures.value ∙ c.in_ok-names.ensures.ok t) (c.take_away.ensures.proceeds.told told)))
     (λ t.
     let told = c.find_below.ensures.leaves.proceeds.tells ∙ t in
     then_taken _ (segments_below c.args.number (g.D.Disk.state c.args.disk.now).files) (g.D.Disk.state c.args.disk.now) (g.D.Disk.state c.find_below.new.disk) c.find_below.ensures.leaves (g.D.Disk.state c.take_away.new.disk) t
@@ -78,11 +78,11 @@ returns-in_err-take_away-clause-log_stands g c = λ log le st.
 
 pub returns-clause-log_stands : goal.returns-clause-log_stands
 returns-clause-log_stands g c = λ log le st.
-    stands_cut log c.args.number (g.D.Disk.state c.args.disk.now) (g.D.Disk.state c.take_away.new.disk) le (c.take_away.ensures.tells ∙ c.find_below.ensures.leaves.proceeds.tells)
+    stands_cut log c.args.number (g.D.Disk.state c.args.disk.now) (g.D.Disk.state c.take_away.new.disk) le (c.take_away.ensures.proceeds.tells ∙ c.find_below.ensures.leaves.proceeds.tells)
     (λ t.
     let told = c.find_below.ensures.leaves.proceeds.tells ∙ t in
     then_elapses _ (segments_below c.args.number (g.D.Disk.state c.args.disk.now).files) (g.D.Disk.state c.args.disk.now) (g.D.Disk.state c.find_below.new.disk) c.find_below.ensures.leaves (g.D.Disk.state c.take_away.new.disk) t
-    (subst (λ (l : List FileName). Elapses (MayTakeAway l) (g.D.Disk.state c.find_below.new.disk) (g.D.Disk.state c.take_away.new.disk)) (c.deref.ensures.value ∙ c.in_ok-names.ensures.ok t) (c.take_away.ensures.any_moment told)))
+    (subst (λ (l : List FileName). Elapses (MayTakeAway l) (g.D.Disk.state c.find_below.new.disk) (g.D.Disk.state c.take_away.new.disk)) (c.deref.ensures.value ∙ c.in_ok-names.ensures.ok t) (c.take_away.ensures.proceeds.told told)))
     (λ t.
     let told = c.find_below.ensures.leaves.proceeds.tells ∙ t in
     then_taken _ (segments_below c.args.number (g.D.Disk.state c.args.disk.now).files) (g.D.Disk.state c.args.disk.now) (g.D.Disk.state c.find_below.new.disk) c.find_below.ensures.leaves (g.D.Disk.state c.take_away.new.disk) t

@@ -12,7 +12,7 @@ use Rattle.fileset_check.proofs.WholeLemmas.{listed_there}
 use Rattle.fileset_check.proofs.listing.volumes.Goals as goal
 
 pub check_each-requires-clause-counted : goal.check_each-requires-clause-counted
-check_each-requires-clause-counted g c κs outlives = λ t. c.as_slice.ensures ∙ c.in_ok-names.ensures.ok (sym c.counted.ensures.leaves.proceeds.tells ∙ t) ∙ ap counted_volumes (sym (c.counted.ensures.leaves.files (sym c.counted.ensures.leaves.proceeds.tells ∙ t)))
+check_each-requires-clause-counted g c = λ t. c.as_slice.ensures ∙ c.in_ok-names.ensures.ok (sym c.counted.ensures.leaves.proceeds.tells ∙ t) ∙ ap counted_volumes (sym (c.counted.ensures.leaves.files (sym c.counted.ensures.leaves.proceeds.tells ∙ t)))
 
 pub returns-in_err-check_each-clause-leaves : goal.returns-in_err-check_each-clause-leaves
 returns-in_err-check_each-clause-leaves g c =

@@ -7,8 +7,8 @@ use Rattle.fileset_read.specs.Volumes.{IsThere}
 use Rattle.fileset_check.specs.declared.volume.Volume.{Volume}
 use Rattle.fileset_tests.proofs.joins.find.Goals as goal
 
-pub read-requires-after_bounds : goal.read-requires-after_bounds
-read-requires-after_bounds g c κs within = λ t h m.
+pub read-requires : goal.read-requires
+read-requires g c = λ t h m.
     let files = (g.D.Disk.state c.args.disk.now).files in
     let of = IsIn-map (λ (v : Volume). v.head) c.args.all.now h (subst (λ (l : List Head). IsIn l h) (c.deref.ensures.value ∙ c.in-Ok.ensures) m) in
     subst (λ (x : Head). IsThere (head_of x) files) of.2 (c.requires.there t of.0 of.1)

@@ -9,10 +9,12 @@ use Rattle.fileset_tests.proofs.tells.tell_volumes.Goals as goal
 pub loop-volume-init : goal.loop-volume-init
 loop-volume-init g c = c.requires.there
 
-pub tell_volume-requires-clause-there : goal.tell_volume-requires-clause-there
-tell_volume-requires-clause-there g c κs outlives = λ t.
-    let none : Volume = record { head = record { ns = 0; start = 0; size = 0; number = 0 }; series = 0; points = 0 } in
-    c.loop-volume.invariant t (get_or c.args.volumes.now c.loop-volume.volume-index none) (IsIn-get_or c.args.volumes.now c.loop-volume.volume-index none c.loop-volume-test.true)
+pub tell_volume-requires : goal.tell_volume-requires
+tell_volume-requires g c = record {
+  there = λ t.
+      let none : Volume = record { head = record { ns = 0; start = 0; size = 0; number = 0 }; series = 0; points = 0 } in
+      c.loop-volume.invariant t (get_or c.args.volumes.now c.loop-volume.volume-index none) (IsIn-get_or c.args.volumes.now c.loop-volume.volume-index none c.loop-volume-test.true);
+}
 
 pub loop-volume-preserved : goal.loop-volume-preserved
 loop-volume-preserved g c = λ t v m.

@@ -4,7 +4,7 @@ use Rattle.fileset_write.proofs.GateLemmas.{all1, none1, read1, absent, all2, no
 use Rattle.fileset_write.proofs.gate.put_all.Goals as goal
 
 pub put_files-requires-clause-absent : goal.put_files-requires-clause-absent
-put_files-requires-clause-absent g c = λ a b t q m. c.requires.absent t q (inr m)
+put_files-requires-clause-absent g c = λ t q m. c.requires.absent t q (inr m)
 
 pub returns-in_err-put_files-clause-any_moment : goal.returns-in_err-put_files-clause-any_moment
 returns-in_err-put_files-clause-any_moment g c = λ t.
@@ -23,7 +23,7 @@ returns-in_err-put_files-clause-shut g c = λ t m.
     read1 c.args.files.now c.args.checkpoint c.args.digest.now c.requires.apart.0 (g.D.Disk.state c.args.disk.now) (g.D.Disk.state c.put_files.new.disk) t (c.requires.absent t c.args.checkpoint (inl refl)) (c.requires.none t) (c.put_files.ensures.any_moment t) (c.put_files.ensures.files t)
 
 pub put_file-requires-clause-absent : goal.put_file-requires-clause-absent
-put_file-requires-clause-absent g c = λ a b h.
+put_file-requires-clause-absent g c = λ h.
     let t = sym c.put_files.ensures.tells ∙ h in
     absent c.args.files.now c.args.checkpoint c.args.digest.now c.requires.apart.0 (g.D.Disk.state c.args.disk.now) (g.D.Disk.state c.put_files.new.disk) t (c.requires.absent t c.args.checkpoint (inl refl)) (c.requires.none t) (c.put_files.ensures.any_moment t) (c.put_files.ensures.files t)
 
@@ -47,16 +47,18 @@ returns-in_err-put_file-clause-shut g c = λ t m.
     let t1 = c.put_files.ensures.tells ∙ t in
     read2 c.args.files.now c.args.checkpoint c.args.digest.now c.requires.apart.0 (g.D.Disk.state c.args.disk.now) (g.D.Disk.state c.put_files.new.disk) t (c.requires.absent t c.args.checkpoint (inl refl)) (c.requires.none t) (c.put_files.ensures.any_moment t) (c.put_files.ensures.files t) (c.in_ok-put_files.ensures.ok t) (g.D.Disk.state c.put_file.new.disk) (c.put_file.ensures.any_moment t1) (c.put_file.ensures.files t1)
 
-pub open_gate-requires-clause-shut : goal.open_gate-requires-clause-shut
-open_gate-requires-clause-shut g c = λ a b. record {
-  told = λ h.
-      let t1 = sym c.put_file.ensures.tells ∙ h in
-      let t = sym c.put_files.ensures.tells ∙ t1 in
-      shut_told c.args.files.now c.args.checkpoint c.args.digest.now c.requires.apart.0 (g.D.Disk.state c.args.disk.now) (g.D.Disk.state c.put_files.new.disk) t (c.requires.absent t c.args.checkpoint (inl refl)) (c.requires.none t) (c.put_files.ensures.any_moment t) (c.put_files.ensures.files t) (c.in_ok-put_files.ensures.ok t) (g.D.Disk.state c.put_file.new.disk) (c.put_file.ensures.any_moment t1) (c.put_file.ensures.files t1) (c.in_ok-put_file.ensures.ok t1);
-  each = λ h f image.
-      let t1 = sym c.put_file.ensures.tells ∙ h in
-      let t = sym c.put_files.ensures.tells ∙ t1 in
-      shut_each c.args.files.now c.args.checkpoint c.args.digest.now c.requires.apart.0 (g.D.Disk.state c.args.disk.now) (g.D.Disk.state c.put_files.new.disk) t (c.requires.absent t c.args.checkpoint (inl refl)) (c.requires.none t) (c.put_files.ensures.any_moment t) (c.put_files.ensures.files t) (c.in_ok-put_files.ensures.ok t) (g.D.Disk.state c.put_file.new.disk) (c.put_file.ensures.any_moment t1) (c.put_file.ensures.files t1) (c.in_ok-put_file.ensures.ok t1) f image;
+pub open_gate-requires : goal.open_gate-requires
+open_gate-requires g c = record {
+  shut = record {
+    told = λ h.
+        let t1 = sym c.put_file.ensures.tells ∙ h in
+        let t = sym c.put_files.ensures.tells ∙ t1 in
+        shut_told c.args.files.now c.args.checkpoint c.args.digest.now c.requires.apart.0 (g.D.Disk.state c.args.disk.now) (g.D.Disk.state c.put_files.new.disk) t (c.requires.absent t c.args.checkpoint (inl refl)) (c.requires.none t) (c.put_files.ensures.any_moment t) (c.put_files.ensures.files t) (c.in_ok-put_files.ensures.ok t) (g.D.Disk.state c.put_file.new.disk) (c.put_file.ensures.any_moment t1) (c.put_file.ensures.files t1) (c.in_ok-put_file.ensures.ok t1);
+    each = λ h f image.
+        let t1 = sym c.put_file.ensures.tells ∙ h in
+        let t = sym c.put_files.ensures.tells ∙ t1 in
+        shut_each c.args.files.now c.args.checkpoint c.args.digest.now c.requires.apart.0 (g.D.Disk.state c.args.disk.now) (g.D.Disk.state c.put_files.new.disk) t (c.requires.absent t c.args.checkpoint (inl refl)) (c.requires.none t) (c.put_files.ensures.any_moment t) (c.put_files.ensures.files t) (c.in_ok-put_files.ensures.ok t) (g.D.Disk.state c.put_file.new.disk) (c.put_file.ensures.any_moment t1) (c.put_file.ensures.files t1) (c.in_ok-put_file.ensures.ok t1) f image;
+  };
 }
 
 pub returns-clause-any_moment : goal.returns-clause-any_moment

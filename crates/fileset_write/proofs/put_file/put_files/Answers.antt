@@ -13,7 +13,7 @@ pub loop-file-init : goal.loop-file-init
 loop-file-init g c = put_none c.args.files.now (g.D.Disk.state c.args.disk.now) c.requires.apart c.requires.absent
 
 pub put_file-requires-clause-absent : goal.put_file-requires-clause-absent
-put_file-requires-clause-absent g c = λ a b h. absent_here c.args.files.now c.loop-file.file-index c.file-item.result c.loop-file-test.true c.file-item.is (g.D.Disk.state c.args.disk.now) (g.D.Disk.state c.loop-file.disk) (g.D.Disk.state c.loop-file.disk) c.loop-file.invariant c.as_slice.result.now c.as_slice.ensures (sym c.loop-file.invariant.tells ∙ h)
+put_file-requires-clause-absent g c = λ h. absent_here c.args.files.now c.loop-file.file-index c.file-item.result c.loop-file-test.true c.file-item.is (g.D.Disk.state c.args.disk.now) (g.D.Disk.state c.loop-file.disk) (g.D.Disk.state c.loop-file.disk) c.loop-file.invariant c.as_slice.result.now c.as_slice.ensures (sym c.loop-file.invariant.tells ∙ h)
 
 pub returns-in_err-put_file-clause-any_moment : goal.returns-in_err-put_file-clause-any_moment
 returns-in_err-put_file-clause-any_moment g c = λ t. put_elapses c.args.files.now c.loop-file.file-index c.file-item.result c.loop-file-test.true c.file-item.is (g.D.Disk.state c.args.disk.now) (g.D.Disk.state c.loop-file.disk) (g.D.Disk.state c.put_file.new.disk) c.loop-file.invariant c.as_slice.result.now c.as_slice.ensures t (c.put_file.ensures.any_moment (c.loop-file.invariant.tells ∙ t))

@@ -34,7 +34,7 @@ returns-in_err-reserve-clause-memory g c = λ t m.
     becomes_stays _ (g.D.Disk.state c.args.disk.now) (g.D.Disk.state c.reserve.new.self) (leaves_then _ _ (g.D.Disk.state c.args.disk.now) (g.D.Disk.state c.find_there.new.disk) (g.D.Disk.state c.reserve.new.self) c.find_there.ensures.leaves c.reserve.ensures.leaves) t
 
 pub take_away-requires-clause-present : goal.take_away-requires-clause-present
-take_away-requires-clause-present g c = λ a b h.
+take_away-requires-clause-present g c = λ h.
     let t = sym c.find_there.ensures.leaves.proceeds.tells ∙ (sym c.reserve.ensures.leaves.proceeds.tells ∙ h) in
     let same = (leaves_then _ _ (g.D.Disk.state c.args.disk.now) (g.D.Disk.state c.find_there.new.disk) (g.D.Disk.state c.reserve.new.self) c.find_there.ensures.leaves c.reserve.ensures.leaves).files t in
     subst (λ (l : List FileName). AreRemovable l (g.D.Disk.state c.reserve.new.self).files) (sym (c.in_ok-count.ensures.ok t ∙ ap (λ (l : List FileName). those_there l (g.D.Disk.state c.args.disk.now).files) c.files_in_order-names.ensures)) (subst (AreRemovable (parts_there c.args.ns c.args.start c.args.number (g.D.Disk.state c.args.disk.now).files)) (sym same) (parts_removable c.args.ns c.args.start c.args.number (g.D.Disk.state c.args.disk.now).files))
@@ -42,7 +42,7 @@ take_away-requires-clause-present g c = λ a b h.
 pub returns-in_err-take_away-clause-any_moment : goal.returns-in_err-take_away-clause-any_moment
 returns-in_err-take_away-clause-any_moment g c = λ t.
     let told = c.reserve.ensures.leaves.proceeds.tells ∙ (c.find_there.ensures.leaves.proceeds.tells ∙ t) in
-    then_elapses _ (parts_there c.args.ns c.args.start c.args.number (g.D.Disk.state c.args.disk.now).files) (g.D.Disk.state c.args.disk.now) (g.D.Disk.state c.reserve.new.self) (leaves_then _ _ (g.D.Disk.state c.args.disk.now) (g.D.Disk.state c.find_there.new.disk) (g.D.Disk.state c.reserve.new.self) c.find_there.ensures.leaves c.reserve.ensures.leaves) (g.D.Disk.state c.take_away.new.disk) t (subst (λ (l : List FileName). Elapses (MayTakeAway l) (g.D.Disk.state c.reserve.new.self) (g.D.Disk.state c.take_away.new.disk)) (c.in_ok-count.ensures.ok t ∙ ap (λ (l : List FileName). those_there l (g.D.Disk.state c.args.disk.now).files) c.files_in_order-names.ensures) (c.take_away.ensures.any_moment told))
+    then_elapses _ (parts_there c.args.ns c.args.start c.args.number (g.D.Disk.state c.args.disk.now).files) (g.D.Disk.state c.args.disk.now) (g.D.Disk.state c.reserve.new.self) (leaves_then _ _ (g.D.Disk.state c.args.disk.now) (g.D.Disk.state c.find_there.new.disk) (g.D.Disk.state c.reserve.new.self) c.find_there.ensures.leaves c.reserve.ensures.leaves) (g.D.Disk.state c.take_away.new.disk) t (subst (λ (l : List FileName). Elapses (MayTakeAway l) (g.D.Disk.state c.reserve.new.self) (g.D.Disk.state c.take_away.new.disk)) (c.in_ok-count.ensures.ok t ∙ ap (λ (l : List FileName). those_there l (g.D.Disk.state c.args.disk.now).files) c.files_in_order-names.ensures) (c.take_away.ensures.proceeds.told told))
 
 pub returns-in_err-take_away-clause-files : goal.returns-in_err-take_away-clause-files
 returns-in_err-take_away-clause-files g c = λ t.
@@ -52,7 +52,7 @@ returns-in_err-take_away-clause-files g c = λ t.
 pub returns-clause-any_moment : goal.returns-clause-any_moment
 returns-clause-any_moment g c = λ t.
     let told = c.reserve.ensures.leaves.proceeds.tells ∙ (c.find_there.ensures.leaves.proceeds.tells ∙ t) in
-    then_elapses _ (parts_there c.args.ns c.args.start c.args.number (g.D.Disk.state c.args.disk.now).files) (g.D.Disk.state c.args.disk.now) (g.D.Disk.state c.reserve.new.self) (leaves_then _ _ (g.D.Disk.state c.args.disk.now) (g.D.Disk.state c.find_there.new.disk) (g.D.Disk.state c.reserve.new.self) c.find_there.ensures.leaves c.reserve.ensures.leaves) (g.D.Disk.state c.take_away.new.disk) t (subst (λ (l : List FileName). Elapses (MayTakeAway l) (g.D.Disk.state c.reserve.new.self) (g.D.Disk.state c.take_away.new.disk)) (c.in_ok-count.ensures.ok t ∙ ap (λ (l : List FileName). those_there l (g.D.Disk.state c.args.disk.now).files) c.files_in_order-names.ensures) (c.take_away.ensures.any_moment told))
+    then_elapses _ (parts_there c.args.ns c.args.start c.args.number (g.D.Disk.state c.args.disk.now).files) (g.D.Disk.state c.args.disk.now) (g.D.Disk.state c.reserve.new.self) (leaves_then _ _ (g.D.Disk.state c.args.disk.now) (g.D.Disk.state c.find_there.new.disk) (g.D.Disk.state c.reserve.new.self) c.find_there.ensures.leaves c.reserve.ensures.leaves) (g.D.Disk.state c.take_away.new.disk) t (subst (λ (l : List FileName). Elapses (MayTakeAway l) (g.D.Disk.state c.reserve.new.self) (g.D.Disk.state c.take_away.new.disk)) (c.in_ok-count.ensures.ok t ∙ ap (λ (l : List FileName). those_there l (g.D.Disk.state c.args.disk.now).files) c.files_in_order-names.ensures) (c.take_away.ensures.proceeds.told told))
 
 pub returns-clause-files : goal.returns-clause-files
 returns-clause-files g c = λ t.

@@ -9,15 +9,15 @@ pub loop-start-init : goal.loop-start-init
 loop-start-init g c = begun_none g.D.Disk.state c.args.replicas.now
 
 pub begin_first-requires-clause-tenure : goal.begin_first-requires-clause-tenure
-begin_first-requires-clause-tenure g c κs lives =
+begin_first-requires-clause-tenure g c =
     tenure_at g.D.Disk.state c.args.starts.now c.loop-start.start-index _ c.loop-start-test.true c.requires.apart c.args.replicas.now c.loop-start.replicas c.loop-start.invariant (c.requires.tenures _ (from_loop c.args.starts.now c.loop-start.start-index _ c.loop-start-test.true))
 
 pub begin_first-requires-clause-there : goal.begin_first-requires-clause-there
-begin_first-requires-clause-there g c κs lives =
+begin_first-requires-clause-there g c =
     there_at g.D.Disk.state c.args.starts.now c.loop-start.start-index _ c.loop-start-test.true c.requires.apart c.args.replicas.now c.loop-start.replicas c.loop-start.invariant (c.requires.there _ (from_loop c.args.starts.now c.loop-start.start-index _ c.loop-start-test.true))
 
 pub begin_first-requires-clause-room : goal.begin_first-requires-clause-room
-begin_first-requires-clause-room g c κs lives =
+begin_first-requires-clause-room g c =
     room_at g.D.Disk.state c.args.starts.now c.loop-start.start-index (record { slot = record { shard = 0; node = 0 }; tenure = 0 }) c.loop-start-test.true c.requires.apart c.args.replicas.now c.loop-start.replicas c.loop-start.invariant c.requires.room
 
 pub loop-start-preserved : goal.loop-start-preserved

@@ -1,7 +1,7 @@
 use Rattle.std.proofs.Common.{◌<◌, ◌≤◌, ap, arith, false, length, subst, ◌∙◌}
 use Rattle.std.proofs.lemmas.List.{length-replicate}
 use Rattle.m3_model.specs.Members.{IsIn}
-use Rattle.first_cluster.specs.Depots.{depot_by, disk_slot_of}
+use Rattle.first_cluster.specs.Depots.{disk_slot_of}
 use Rattle.first_cluster.specs.Lending.{HasTaken, IsUnopened, MayNotOpen}
 use Rattle.first_cluster.specs.Slots.{slots_in}
 use Rattle.first_cluster.proofs.FirstLemmas.{at_first_moment, few_spaces, planned_slots, refused_by, sized_spaces, slots_few}
@@ -9,13 +9,13 @@ use Rattle.first_cluster.proofs.PlacedSlots.{few_slots, no_meta, node_low}
 use Rattle.first_cluster.proofs.first.lend_first.Goals as goal
 
 pub lent-requires-clause-lawful : goal.lent-requires-clause-lawful
-lent-requires-clause-lawful g c κs lives = c.requires.planned.is.lawful
+lent-requires-clause-lawful g c = c.requires.planned.is.lawful
 
 pub lent-requires-clause-slots : goal.lent-requires-clause-slots
-lent-requires-clause-slots g c κs lives = planned_slots c.args.plan c.requires.planned
+lent-requires-clause-slots g c = planned_slots c.args.plan c.requires.planned
 
 pub lent-requires-clause-free : goal.lent-requires-clause-free
-lent-requires-clause-free g c κs lives = λ s i.
+lent-requires-clause-free g c = λ s i.
     let plan = c.requires.planned in
     let place = c.args.plan.state.place in
     let low = node_low place plan.rf plan.shards plan.nodes plan.is.place s (subst (λ slots. IsIn slots s) (planned_slots c.args.plan plan) i) in
@@ -25,13 +25,13 @@ lent-requires-clause-free g c κs lives = λ s i.
 pub untaken-requires : goal.untaken-requires
 untaken-requires g c =
     let plan = c.requires.planned in
-    let cause = subst (MayNotOpen c.args.plan.slots.items (depot_by g.X.Disks.held g.X.Disks.counted g.X.Disks.all_faults c.args.disks.now) (depot_by g.X.Disks.held g.X.Disks.counted g.X.Disks.all_faults c.lent.new.disks)) c.in-Err-Disk.field-0-is c.in-Err-Disk.ensures.err.cause in
+    let cause = subst (MayNotOpen c.args.plan.slots.items (g.X.Disks.depot c.args.disks.now) (g.X.Disks.depot c.lent.new.disks)) c.in-Err-Disk.field-0-is c.in-Err-Disk.ensures.err.cause in
     node_low c.args.plan.state.place plan.rf plan.shards plan.nodes plan.is.place c.in-Err-Disk.slot (subst (λ slots. IsIn slots c.in-Err-Disk.slot) (planned_slots c.args.plan plan) cause.0)
 
 pub returns-in-Err-Disk-clause-refused : goal.returns-in-Err-Disk-clause-refused
 returns-in-Err-Disk-clause-refused g c = λ rf shards seed nodes is.
-    refused_by g.D.Disk.state rf shards seed nodes c.args.plan.state.place c.args.plan.slots.items c.in-Err-Disk.slot (depot_by g.X.Disks.held g.X.Disks.counted g.X.Disks.all_faults c.args.disks.now) (depot_by g.X.Disks.held g.X.Disks.counted g.X.Disks.all_faults c.lent.new.disks) c.untaken.result is.place (planned_slots c.args.plan c.requires.planned)
-    (subst (IsUnopened g.D.Disk.state c.args.plan.slots.items (depot_by g.X.Disks.held g.X.Disks.counted g.X.Disks.all_faults c.args.disks.now) (depot_by g.X.Disks.held g.X.Disks.counted g.X.Disks.all_faults c.lent.new.disks)) c.in-Err-Disk.field-0-is c.in-Err-Disk.ensures.err) c.untaken.ensures
+    refused_by g.D.Disk.state rf shards seed nodes c.args.plan.state.place c.args.plan.slots.items c.in-Err-Disk.slot (g.X.Disks.depot c.args.disks.now) (g.X.Disks.depot c.lent.new.disks) c.untaken.result is.initial is.place (planned_slots c.args.plan c.requires.planned)
+    (subst (IsUnopened g.D.Disk.state c.args.plan.slots.items (g.X.Disks.depot c.args.disks.now) (g.X.Disks.depot c.lent.new.disks)) c.in-Err-Disk.field-0-is c.in-Err-Disk.ensures.err) c.untaken.ensures
 
 pub returns-in-Err-Memory-clause-refused : goal.returns-in-Err-Memory-clause-refused
 returns-in-Err-Memory-clause-refused g c = λ rf shards seed nodes is. (c.in-Err-Memory.ensures.err).returned

@@ -1,4 +1,4 @@
-use Rattle.std.proofs.Common.{◌∙◌}
+use Rattle.std.proofs.Common.{rules, ◌∙◌}
 use Rattle.std.proofs.lemmas.Result.{on_ok_weaker}
 use Rattle.listed_volumes.proofs.commit_log_proofs.Leaves.{leaves_none, leaves_then}
 use Rattle.listed_volumes.specs.Listed.{known_in}
@@ -7,16 +7,16 @@ use Rattle.joined_reads.proofs.BesideLemmas.{adds_all, first_bounded, held_left,
 use Rattle.joined_reads.proofs.rising.+add_all.Goals as goal
 
 pub add_risen-requires-clause-bounded : goal.add_risen-requires-clause-bounded
-add_risen-requires-clause-bounded g t c κs within = first_bounded c.args.points.now c.in-Some.later.now c.in-Some.first.now c.in-Some.ensures.cases.0 c.requires.bounded
+add_risen-requires-clause-bounded g t c = first_bounded c.args.points.now c.in-Some.later.now c.in-Some.first.now c.in-Some.ensures.cases.0 c.requires.bounded
 
-pub add_all-requires-clause-bounded : goal.add_all-requires-clause-bounded
-add_all-requires-clause-bounded g t c κs within = later_bounded c.args.points.now c.in-Some.later.now c.in-Some.first.now c.in-Some.ensures.cases.0 c.requires.bounded
-
-pub add_all-requires-clause-there : goal.add_all-requires-clause-there
-add_all-requires-clause-there g t c κs within = held_left (known_in c.args.volumes.now) _ (g.D.Disk.state c.args.disk.now) (g.D.Disk.state c.add_risen.new.disk) c.add_risen.ensures.leaves c.requires.there
-
-pub add_all-requires-clause-cached : goal.add_all-requires-clause-cached
-add_all-requires-clause-cached g t c κs within = c.add_risen.ensures.cached
+pub add_all-requires : goal.add_all-requires
+add_all-requires g t c κs within = (
+  search rules,
+  (
+    search rules,
+    (later_bounded c.args.points.now c.in-Some.later.now c.in-Some.first.now c.in-Some.ensures.cases.0 c.requires.bounded, (c.requires.room, (held_left (known_in c.args.volumes.now) _ (g.D.Disk.state c.args.disk.now) (g.D.Disk.state c.add_risen.new.disk) c.add_risen.ensures.leaves c.requires.there, c.add_risen.ensures.cached))),
+  ),
+)
 
 pub returns-clause-points : goal.returns-clause-points
 returns-clause-points g t c = λ tells.

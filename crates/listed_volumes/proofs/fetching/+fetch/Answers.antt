@@ -1,4 +1,4 @@
-use Rattle.std.proofs.Common.{◌∙◌, ◌/◌, ℕ, List, length, sym, subst}
+use Rattle.std.proofs.Common.{rules, ◌∙◌, ◌/◌, ℕ, List, length, sym, subst}
 use Rattle.std.proofs.lemmas.Result.{IfOk-weaker}
 use Rattle.m3_model.specs.Answers.{IsAnswer}
 use Rattle.m3_model.specs.Contents.{content_of}
@@ -18,20 +18,42 @@ use Rattle.listed_volumes.proofs.FetchLemmas.{answers_both, answers_first, answe
 use Rattle.listed_volumes.proofs.fetching.+fetch.Goals as goal
 
 pub fetch_one-requires-clause-there : goal.fetch_one-requires-clause-there
-fetch_one-requires-clause-there g t c κs outlives = λ tells. held_first (g.D.Disk.state c.args.disk.now).files c.args.volumes.now c.volume-item.result c.in-len1.len_at_least c.volume-item.is (c.requires.there tells)
+fetch_one-requires-clause-there g t c = λ tells. held_first (g.D.Disk.state c.args.disk.now).files c.args.volumes.now c.volume-item.result c.in-len1.len_at_least c.volume-item.is (c.requires.there tells)
 
-pub fetch-requires-clause-there : goal.fetch-requires-clause-there
-fetch-requires-clause-there g t c κs within = λ tells.
-    let files = (g.D.Disk.state c.args.disk.now).files in
-    subst (λ (l : List ListedVolume). AreHeld (known_in l) files) (sym c.split_at.ensures.front) (held_front files _ c.args.volumes.now (c.requires.there tells))
+pub fetch-requires : goal.fetch-requires
+fetch-requires g t c κs within = (
+  search rules,
+  (
+    search rules,
+    (
+      (λ tells.
+          let files = (g.D.Disk.state c.args.disk.now).files in
+          subst (λ (l : List ListedVolume). AreHeld (known_in l) files) (sym c.split_at.ensures.front) (held_front files _ c.args.volumes.now (c.requires.there tells))),
+      (λ tells.
+          subst (λ (l : List ListedVolume). AreRight (known_in l) c.args.kept.now) (sym c.split_at.ensures.front) (λ k m. c.requires.right tells k (in_front _ c.args.volumes.now k m))),
+    ),
+  ),
+)
 
-pub fetch-requires-in_default-clause-there : goal.fetch-requires-in_default-clause-there
-fetch-requires-in_default-clause-there g t c κs within = λ later.
-    let files = (g.D.Disk.state c.args.disk.now).files in
-    let leaves = c.fetch.ensures.leaves in
-    let tells = sym leaves.proceeds.tells ∙ later in
-    subst (λ (m : Files). AreHeld (known_in c.split_at.result.1.now) m) (sym (leaves.files tells))
-    (subst (λ (l : List ListedVolume). AreHeld (known_in l) files) (sym c.split_at.ensures.back) (held_back files _ c.args.volumes.now (c.requires.there tells)))
+pub fetch-requires-in_default : goal.fetch-requires-in_default
+fetch-requires-in_default g t c κs within = (
+  search rules,
+  (
+    search rules,
+    (
+      (λ later.
+          let files = (g.D.Disk.state c.args.disk.now).files in
+          let leaves = c.fetch.ensures.leaves in
+          let tells = sym leaves.proceeds.tells ∙ later in
+          subst (λ (m : Files). AreHeld (known_in c.split_at.result.1.now) m) (sym (leaves.files tells))
+          (subst (λ (l : List ListedVolume). AreHeld (known_in l) files) (sym c.split_at.ensures.back) (held_back files _ c.args.volumes.now (c.requires.there tells)))),
+      (λ later.
+          let tells = sym c.fetch.ensures.leaves.proceeds.tells ∙ later in
+          let right = c.fetch.ensures.right tells (known_in c.args.volumes.now) (c.requires.there tells) (c.requires.right tells) in
+          subst (λ (l : List ListedVolume). AreRight (known_in l) c.fetch.new.kept) (sym c.split_at.ensures.back) (λ k m. right k (in_back _ c.args.volumes.now k m))),
+    ),
+  ),
+)
 
 pub returns-in_err-late-in_default-clause-leaves : goal.returns-in_err-late-in_default-clause-leaves
 returns-in_err-late-in_default-clause-leaves g t c =
@@ -76,16 +98,6 @@ returns-in_ok-late-in_default-clause-answer g t c = λ tells.
     c.both.ensures.ok
 
 -- ---- what is kept of the volumes
-
-pub fetch-requires-clause-right : goal.fetch-requires-clause-right
-fetch-requires-clause-right g t c κs within = λ tells.
-    subst (λ (l : List ListedVolume). AreRight (known_in l) c.args.kept.now) (sym c.split_at.ensures.front) (λ k m. c.requires.right tells k (in_front _ c.args.volumes.now k m))
-
-pub fetch-requires-in_default-clause-right : goal.fetch-requires-in_default-clause-right
-fetch-requires-in_default-clause-right g t c κs within = λ later.
-    let tells = sym c.fetch.ensures.leaves.proceeds.tells ∙ later in
-    let right = c.fetch.ensures.right tells (known_in c.args.volumes.now) (c.requires.there tells) (c.requires.right tells) in
-    subst (λ (l : List ListedVolume). AreRight (known_in l) c.fetch.new.kept) (sym c.split_at.ensures.back) (λ k m. right k (in_back _ c.args.volumes.now k m))
 
 pub returns-in_err-early-in_default-clause-kept : goal.returns-in_err-early-in_default-clause-kept
 returns-in_err-early-in_default-clause-kept g t c = λ known among listed. c.fetch.ensures.kept known (λ k m. among k (in_front _ c.args.volumes.now k (subst (λ (l : List ListedVolume). IsIn (known_in l) k) c.split_at.ensures.front m))) listed

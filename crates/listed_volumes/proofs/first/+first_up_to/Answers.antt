@@ -1,4 +1,4 @@
-use Rattle.std.proofs.Common.{◌∙◌, ◌/◌, ◌++◌, ℕ, List, length, take, drop, sym, subst}
+use Rattle.std.proofs.Common.{rules, ◌∙◌, ◌/◌, ◌++◌, ℕ, List, length, take, drop, sym, subst}
 use Rattle.std.specs.Prelude.{IfOk}
 use Rattle.std.proofs.lemmas.Result.{IfOk-weaker}
 use Rattle.std.specs.Option.{option_copied}
@@ -23,20 +23,42 @@ use Rattle.listed_volumes.proofs.NeededLemmas.{first_of_join, join_of_parts}
 use Rattle.listed_volumes.proofs.first.+first_up_to.Goals as goal
 
 pub first_of_one-requires-clause-there : goal.first_of_one-requires-clause-there
-first_of_one-requires-clause-there g t c κs outlives = λ tells. held_first (g.D.Disk.state c.args.disk.now).files c.args.volumes.now c.volume-item.result c.in-len1.len_at_least c.volume-item.is (c.requires.there tells)
+first_of_one-requires-clause-there g t c = λ tells. held_first (g.D.Disk.state c.args.disk.now).files c.args.volumes.now c.volume-item.result c.in-len1.len_at_least c.volume-item.is (c.requires.there tells)
 
-pub first_up_to-requires-clause-there : goal.first_up_to-requires-clause-there
-first_up_to-requires-clause-there g t c κs within = λ tells.
-    let files = (g.D.Disk.state c.args.disk.now).files in
-    subst (λ (l : List ListedVolume). AreHeld (known_in l) files) (sym c.split_at.ensures.front) (held_front files _ c.args.volumes.now (c.requires.there tells))
+pub first_up_to-requires : goal.first_up_to-requires
+first_up_to-requires g t c κs within = (
+  search rules,
+  (
+    search rules,
+    (
+      (λ tells.
+          let files = (g.D.Disk.state c.args.disk.now).files in
+          subst (λ (l : List ListedVolume). AreHeld (known_in l) files) (sym c.split_at.ensures.front) (held_front files _ c.args.volumes.now (c.requires.there tells))),
+      (λ tells.
+          subst (λ (l : List ListedVolume). AreRight (known_in l) c.args.kept.now) (sym c.split_at.ensures.front) (λ k m. c.requires.right tells k (in_front _ c.args.volumes.now k m))),
+    ),
+  ),
+)
 
-pub first_up_to-requires-in_default-clause-there : goal.first_up_to-requires-in_default-clause-there
-first_up_to-requires-in_default-clause-there g t c κs within = λ later.
-    let files = (g.D.Disk.state c.args.disk.now).files in
-    let leaves = c.first_up_to.ensures.leaves in
-    let tells = sym leaves.proceeds.tells ∙ later in
-    subst (λ (m : Files). AreHeld (known_in c.split_at.result.1.now) m) (sym (leaves.files tells))
-    (subst (λ (l : List ListedVolume). AreHeld (known_in l) files) (sym c.split_at.ensures.back) (held_back files _ c.args.volumes.now (c.requires.there tells)))
+pub first_up_to-requires-in_default : goal.first_up_to-requires-in_default
+first_up_to-requires-in_default g t c κs within = (
+  search rules,
+  (
+    search rules,
+    (
+      (λ later.
+          let files = (g.D.Disk.state c.args.disk.now).files in
+          let leaves = c.first_up_to.ensures.leaves in
+          let tells = sym leaves.proceeds.tells ∙ later in
+          subst (λ (m : Files). AreHeld (known_in c.split_at.result.1.now) m) (sym (leaves.files tells))
+          (subst (λ (l : List ListedVolume). AreHeld (known_in l) files) (sym c.split_at.ensures.back) (held_back files _ c.args.volumes.now (c.requires.there tells)))),
+      (λ later.
+          let tells = sym c.first_up_to.ensures.leaves.proceeds.tells ∙ later in
+          let right = c.first_up_to.ensures.right tells (known_in c.args.volumes.now) (c.requires.there tells) (c.requires.right tells) in
+          subst (λ (l : List ListedVolume). AreRight (known_in l) c.first_up_to.new.kept) (sym c.split_at.ensures.back) (λ k m. right k (in_back _ c.args.volumes.now k m))),
+    ),
+  ),
+)
 
 pub returns-in_err-late-in_default-clause-leaves : goal.returns-in_err-late-in_default-clause-leaves
 returns-in_err-late-in_default-clause-leaves g t c =
@@ -53,16 +75,6 @@ returns-in_ok-late-in_default-clause-leaves g t c =
     (leaves_as _ _ (g.D.Disk.state c.first_up_to.new.disk) (g.D.Disk.state c.first_up_to-in_default.new.disk) (λ f. absurd (not_fault c.both.result c.both.ensures.err f)) c.first_up_to-in_default.ensures.leaves)
 
 -- ---- what is kept of the volumes
-
-pub first_up_to-requires-clause-right : goal.first_up_to-requires-clause-right
-first_up_to-requires-clause-right g t c κs within = λ tells.
-    subst (λ (l : List ListedVolume). AreRight (known_in l) c.args.kept.now) (sym c.split_at.ensures.front) (λ k m. c.requires.right tells k (in_front _ c.args.volumes.now k m))
-
-pub first_up_to-requires-in_default-clause-right : goal.first_up_to-requires-in_default-clause-right
-first_up_to-requires-in_default-clause-right g t c κs within = λ later.
-    let tells = sym c.first_up_to.ensures.leaves.proceeds.tells ∙ later in
-    let right = c.first_up_to.ensures.right tells (known_in c.args.volumes.now) (c.requires.there tells) (c.requires.right tells) in
-    subst (λ (l : List ListedVolume). AreRight (known_in l) c.first_up_to.new.kept) (sym c.split_at.ensures.back) (λ k m. right k (in_back _ c.args.volumes.now k m))
 
 pub returns-in_err-early-in_default-clause-kept : goal.returns-in_err-early-in_default-clause-kept
 returns-in_err-early-in_default-clause-kept g t c = λ known among listed. c.first_up_to.ensures.kept known (λ k m. among k (in_front _ c.args.volumes.now k (subst (λ (l : List ListedVolume). IsIn (known_in l) k) c.split_at.ensures.front m))) listed

@@ -26,12 +26,12 @@ use Rattle.listed_volumes.proofs.first.first_listed.Goals as goal
 -- ---- the volumes from the key's block on
 
 pub first_up_to-requires-clause-there : goal.first_up_to-requires-clause-there
-first_up_to-requires-clause-there g c κs within = λ tells.
+first_up_to-requires-clause-there g c = λ tells.
     let files = (g.D.Disk.state c.args.disk.now).files in
     subst (λ (l : List ListedVolume). AreHeld (known_in l) files) (sym c.split_at.ensures.back) (held_back files _ c.args.volumes.now (c.requires.there tells))
 
 pub first_up_to-requires-clause-right : goal.first_up_to-requires-clause-right
-first_up_to-requires-clause-right g c κs within = λ tells.
+first_up_to-requires-clause-right g c = λ tells.
     subst (λ (l : List ListedVolume). AreRight (known_in l) c.args.kept.now) (sym c.split_at.ensures.back) (λ k m. c.requires.right tells k (in_back _ c.args.volumes.now k m))
 
 pub returns-in_err-first-clause-kept : goal.returns-in_err-first-clause-kept
@@ -40,7 +40,7 @@ returns-in_err-first-clause-kept g c = λ known among listed. c.first_up_to.ensu
 -- ---- those before
 
 pub first_up_to-requires-2-clause-there : goal.first_up_to-requires-2-clause-there
-first_up_to-requires-2-clause-there g c κs within = λ later.
+first_up_to-requires-2-clause-there g c = λ later.
     let files = (g.D.Disk.state c.args.disk.now).files in
     let leaves = c.first_up_to.ensures.leaves in
     let tells = sym leaves.proceeds.tells ∙ later in
@@ -48,7 +48,7 @@ first_up_to-requires-2-clause-there g c κs within = λ later.
     (subst (λ (l : List ListedVolume). AreHeld (known_in l) files) (sym c.split_at.ensures.front) (held_front files _ c.args.volumes.now (c.requires.there tells)))
 
 pub first_up_to-requires-2-clause-right : goal.first_up_to-requires-2-clause-right
-first_up_to-requires-2-clause-right g c κs within = λ later.
+first_up_to-requires-2-clause-right g c = λ later.
     let tells = sym c.first_up_to.ensures.leaves.proceeds.tells ∙ later in
     let right = c.first_up_to.ensures.right tells (known_in c.args.volumes.now) (c.requires.there tells) (c.requires.right tells) in
     subst (λ (l : List ListedVolume). AreRight (known_in l) c.first_up_to.new.kept) (sym c.split_at.ensures.front) (λ k m. right k (in_front _ c.args.volumes.now k m))

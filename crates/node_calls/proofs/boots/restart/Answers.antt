@@ -36,17 +36,17 @@ returns-then-not-has_room-clause-restarted g c = (
 )
 
 pub restart_all-requires-clause-room : goal.restart_all-requires-clause-room
-restart_all-requires-clause-room g c κs within =
+restart_all-requires-clause-room g c =
     let room = has_room (c.args.members.now).net.replicas.events (4 * length (slots_of_node c.in-Some.node c.as_slice-slots.result.now)) _ c.has_room.result (ap (λ n. 4 * n) c.slots_of.ensures.count) c.has_room.ensures c.if-not-has_room.false in
     omega (arith, room)
 
 pub stop_all-requires-clause-manned : goal.stop_all-requires-clause-manned
-stop_all-requires-clause-manned g c κs within s m =
+stop_all-requires-clause-manned g c s m =
     let h = c.in-Err.ensures.err in
     there_after g.D.Disk.state (c.args.members.now).net.replicas c.restart_all.new.replicas h.tried s h.ran (c.requires.manned s (subst (λ xs. IsIn xs s) c.as_slice-slots.ensures.value m))
 
 pub stop_all-requires-clause-room : goal.stop_all-requires-clause-room
-stop_all-requires-clause-room g c κs within =
+stop_all-requires-clause-room g c =
     let slots = slots_of_node c.in-Some.node c.as_slice-slots.result.now in
     room_again g.D.Disk.state slots c.in-Err.refused.shard c.in-Err.refused.why (c.args.members.now).net.replicas c.restart_all.new.replicas
     (has_room (c.args.members.now).net.replicas.events (4 * length slots) _ c.has_room.result (ap (λ n. 4 * n) c.slots_of.ensures.count) c.has_room.ensures c.if-not-has_room.false) c.in-Err.ensures.err

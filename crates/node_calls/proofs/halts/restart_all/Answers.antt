@@ -21,12 +21,12 @@ pub loop-slot-init : goal.loop-slot-init
 loop-slot-init g c = ran_nothing g.D.Disk.state c.args.replicas.now
 
 pub restart_one-requires-clause-there : goal.restart_one-requires-clause-there
-restart_one-requires-clause-there g c κs within =
+restart_one-requires-clause-there g c =
     let i = c.loop-slot.slot-index in
     there_after g.D.Disk.state c.args.replicas.now c.loop-slot.replicas (flat_map restart_at (slots_of_node c.args.node (take i c.args.slots.now))) _ c.loop-slot.invariant (c.requires.manned _ (IsIn-get_or c.args.slots.now i _ c.loop-slot-test.true))
 
 pub restart_one-requires-clause-room : goal.restart_one-requires-clause-room
-restart_one-requires-clause-room g c κs within =
+restart_one-requires-clause-room g c =
     let i = c.loop-slot.slot-index in
     room_here g.D.Disk.state restart_at (λ s. refl) (λ (s : Slot). nat_eq s.node c.args.node) c.args.slots.now i _ c.args.replicas.now c.loop-slot.replicas c.loop-slot-test.true c.loop-slot.invariant c.requires.room
     (eq-eqb _ c.args.node c.if-slot-node.true)

@@ -18,12 +18,12 @@ pub loop-slot-init : goal.loop-slot-init
 loop-slot-init g c = ran_nothing g.D.Disk.state c.args.replicas.now
 
 pub stop_one-requires-clause-there : goal.stop_one-requires-clause-there
-stop_one-requires-clause-there g c κs within =
+stop_one-requires-clause-there g c =
     let i = c.loop-slot.slot-index in
     there_after g.D.Disk.state c.args.replicas.now c.loop-slot.replicas (flat_map stop_at (slots_of_node c.args.node (take i c.args.slots.now))) _ c.loop-slot.invariant (c.requires.manned _ (IsIn-get_or c.args.slots.now i _ c.loop-slot-test.true))
 
 pub stop_one-requires-clause-room : goal.stop_one-requires-clause-room
-stop_one-requires-clause-room g c κs within =
+stop_one-requires-clause-room g c =
     let i = c.loop-slot.slot-index in
     room_here g.D.Disk.state stop_at (λ s. refl) (λ (s : Slot). nat_eq s.node c.args.node) c.args.slots.now i _ c.args.replicas.now c.loop-slot.replicas c.loop-slot-test.true c.loop-slot.invariant c.requires.room
     (eq-eqb _ c.args.node c.if-slot-node.true)

@@ -7,7 +7,7 @@ use Rattle.node_joins.proofs.UnownedLemmas.{came_then, join_came}
 use Rattle.node_joins.proofs.opens.open_joining.Goals as goal
 
 pub begin-requires-clause-there : goal.begin-requires-clause-there
-begin-requires-clause-there g c κs within = c.requires.there (c.args.own.now).node (own_node c.args.place.now c.args.shard c.args.own.now c.requires.among)
+begin-requires-clause-there g c = c.requires.there (c.args.own.now).node (own_node c.args.place.now c.args.shard c.args.own.now c.requires.among)
 
 pub returns-in_err-begin-clause-tried : goal.returns-in_err-begin-clause-tried
 returns-in_err-begin-clause-tried g c =
@@ -29,7 +29,7 @@ returns-then-not-branch-clause-tried g c =
     passed_by state c.args.place.now c.args.shard own c.requires.below c.requires.among old new (subst (λ (b : Bool). IsBeginTried state c.args.shard own.node own.tenure old new (Ok b)) c.if-not-branch.true c.in_ok-begin.ensures.tried)
 
 pub join_shard-requires-clause-joins : goal.join_shard-requires-clause-joins
-join_shard-requires-clause-joins g c κs within = own_node c.args.place.now c.args.shard c.args.own.now c.requires.among
+join_shard-requires-clause-joins g c = own_node c.args.place.now c.args.shard c.args.own.now c.requires.among
 
 pub returns-in-Ok-clause-tried : goal.returns-in-Ok-clause-tried
 returns-in-Ok-clause-tried g c =

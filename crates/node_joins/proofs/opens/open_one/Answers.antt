@@ -10,4 +10,4 @@ unreachable-requires g c =
     cc
 
 pub open_alone-requires-clause-there : goal.open_alone-requires-clause-there
-open_alone-requires-clause-there g c κs within = c.requires.there (c.args.own.now).node (own_node c.args.place.now c.args.shard c.args.own.now c.requires.among)
+open_alone-requires-clause-there g c = c.requires.there (c.args.own.now).node (own_node c.args.place.now c.args.shard c.args.own.now c.requires.among)

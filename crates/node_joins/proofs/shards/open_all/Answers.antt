@@ -23,12 +23,12 @@ loop-shard-init g c =
     }
 
 pub open_shard-requires-clause-placed : goal.open_shard-requires-clause-placed
-open_shard-requires-clause-placed g c κs within =
+open_shard-requires-clause-placed g c =
     let was = c.loop-shard.invariant.opened in
     any_after g.D.Disk.state (Places c.args.place.now) c.args.replicas.now c.loop-shard.replicas (opened_events was.opened) was.ran c.requires.placed
 
 pub open_shard-requires-clause-there : goal.open_shard-requires-clause-there
-open_shard-requires-clause-there g c κs within =
+open_shard-requires-clause-there g c =
     let was = c.loop-shard.invariant.opened in
     λ n s m. there_after g.D.Disk.state c.args.replicas.now c.loop-shard.replicas (opened_events was.opened) (slot_at n s) was.ran (c.requires.there n s m)
 

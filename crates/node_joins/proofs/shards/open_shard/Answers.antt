@@ -7,12 +7,12 @@ pub returns-then-not-is_covering-clause-tried : goal.returns-then-not-is_coverin
 returns-then-not-is_covering-clause-tried g c = not_asked g.D.Disk.state c.args.node c.args.asked c.args.place.now c.args.shard c.args.replicas.now (sym c.is_covering.ensures ∙ c.if-not-is_covering.true)
 
 pub open_one-requires-clause-among : goal.open_one-requires-clause-among
-open_one-requires-clause-among g c κs within =
+open_one-requires-clause-among g c =
     (assignment_is c.args.node (shard_at c.args.place.now c.args.shard) c.in-Some.own
     (assignment_at c.args.place.now c.args.node c.args.shard c.as_slice.result.now c.index-as_slice-shard.result c.as_slice-2.result.now _ c.assignment_in.result c.as_slice.ensures c.requires.below c.index-as_slice-shard.is c.as_slice-2.ensures c.assignment_in.ensures ∙ c.in-Some.is)).0
 
 pub open_one-requires-clause-tenure : goal.open_one-requires-clause-tenure
-open_one-requires-clause-tenure g c κs within =
+open_one-requires-clause-tenure g c =
     let own =
     assignment_is c.args.node (shard_at c.args.place.now c.args.shard) c.in-Some.own
     (assignment_at c.args.place.now c.args.node c.args.shard c.as_slice.result.now c.index-as_slice-shard.result c.as_slice-2.result.now _ c.assignment_in.result c.as_slice.ensures c.requires.below c.index-as_slice-shard.is c.as_slice-2.ensures c.assignment_in.ensures ∙ c.in-Some.is) in

@@ -22,18 +22,18 @@ loop-peer-init g c =
     }
 
 pub ask-requires-clause-from_there : goal.ask-requires-clause-from_there
-ask-requires-clause-from_there g c κs within =
+ask-requires-clause-from_there g c =
     let was = c.loop-peer.invariant.so_far in
     let q : ℕ = get_or c.args.peers.now c.loop-peer.peer-index 0 in
     there_after g.D.Disk.state c.args.replicas.now c.loop-peer.replicas (asked_events was.peers) (slot_at q c.args.to.shard) was.ran (c.requires.there q (IsIn-from_index c.args.peers.now c.loop-peer.peer-index 0 c.loop-peer-test.true))
 
 pub ask-requires-clause-to_there : goal.ask-requires-clause-to_there
-ask-requires-clause-to_there g c κs within =
+ask-requires-clause-to_there g c =
     let was = c.loop-peer.invariant.so_far in
     there_after g.D.Disk.state c.args.replicas.now c.loop-peer.replicas (asked_events was.peers) c.args.to was.ran c.requires.to_there
 
 pub ask-requires-clause-counts : goal.ask-requires-clause-counts
-ask-requires-clause-counts g c κs within = let below = c.loop-peer-test.true in c.loop-peer.invariant.room 1 (omega (arith, below))
+ask-requires-clause-counts g c = let below = c.loop-peer-test.true in c.loop-peer.invariant.room 1 (omega (arith, below))
 
 pub returns-in_err-ask : goal.returns-in_err-ask
 returns-in_err-ask g c =

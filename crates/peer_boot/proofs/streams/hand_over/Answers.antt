@@ -5,7 +5,7 @@ use Rattle.peer_boot.proofs.StreamLemmas.{page_given, page_there, room_is}
 use Rattle.peer_boot.proofs.streams.hand_over.Goals as goal
 
 pub take_in-requires-clause-given : goal.take_in-requires-clause-given
-take_in-requires-clause-given g c κs within =
+take_in-requires-clause-given g c =
     subst (λ s. HasPage (c.page_once.new.replicas).events s c.in-Ok.page) c.requires.one_shard (page_there g.D.Disk.state c.args.from.shard c.args.from.node c.args.to.node _ c.in-Ok.page c.args.replicas.now c.page_once.new.replicas c.in-Ok.ensures)
 
 pub returns-in-Ok : goal.returns-in-Ok

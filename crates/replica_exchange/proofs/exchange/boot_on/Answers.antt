@@ -8,7 +8,7 @@ use Rattle.replica_exchange.proofs.exchange.boot_on.Given.{Over}
 use Rattle.replica_exchange.proofs.exchange.boot_on.Goals as goal
 
 pub answer-requires-clause-answers : goal.answer-requires-clause-answers
-answer-requires-clause-answers g c κs lives =
+answer-requires-clause-answers g c =
     is_answer g.D.Disk.state c.args.slot c.args.trail.now c.ask.new.trail c.args.member.now c.boot-said.new.self (call.Begin c.args.tenure) c.begin-call.result c.begin-call.result (reply_by (λ began. reply.Began began.fence began.points) c.boot-said.result) c.began_view-reply.result c.ask.ensures c.begin-call.ensures c.begin-call.ensures c.began_view-reply.ensures
     c.requires.opened c.requires.tenure c.requires.is c.boot-said.ensures.step (λ e. cc)
 

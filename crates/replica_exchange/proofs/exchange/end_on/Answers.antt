@@ -9,7 +9,7 @@ use Rattle.replica_exchange.proofs.exchange.end_on.Given.{Over}
 use Rattle.replica_exchange.proofs.exchange.end_on.Goals as goal
 
 pub answer-requires-clause-answers : goal.answer-requires-clause-answers
-answer-requires-clause-answers g c κs lives =
+answer-requires-clause-answers g c =
     is_answer g.D.Disk.state c.args.slot c.args.trail.now c.ask.new.trail c.args.member.now c.end.new.self call.End c.end-call.result c.end-call.result (reply_by (λ _. reply.Done) (Ok (tt {0}))) c.done-reply.result c.ask.ensures c.end-call.ensures c.end-call.ensures c.done-reply.ensures
     c.requires.opened tt c.requires.is c.end.ensures.step (λ e. cc)
 

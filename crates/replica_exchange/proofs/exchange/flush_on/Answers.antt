@@ -8,7 +8,7 @@ use Rattle.replica_exchange.proofs.exchange.flush_on.Given.{Over}
 use Rattle.replica_exchange.proofs.exchange.flush_on.Goals as goal
 
 pub answer-requires-clause-answers : goal.answer-requires-clause-answers
-answer-requires-clause-answers g c κs lives =
+answer-requires-clause-answers g c =
     is_answer g.D.Disk.state c.args.slot c.args.trail.now c.ask.new.trail c.args.member.now c.flush-said.new.self (call.Flush c.args.rules.now) c.flush-call.result c.flush-call.result (reply_by (λ n. reply.Count n) c.flush-said.result) c.count_view-reply.result c.ask.ensures c.flush-call.ensures c.flush-call.ensures c.count_view-reply.ensures
     c.requires.opened c.requires.clock c.requires.is c.flush-said.ensures.step (λ e. cc)
 

@@ -8,7 +8,7 @@ use Rattle.replica_exchange.proofs.exchange.merge_on.Given.{Over}
 use Rattle.replica_exchange.proofs.exchange.merge_on.Goals as goal
 
 pub answer-requires-clause-answers : goal.answer-requires-clause-answers
-answer-requires-clause-answers g c κs lives =
+answer-requires-clause-answers g c =
     is_answer g.D.Disk.state c.args.slot c.args.trail.now c.ask.new.trail c.args.member.now c.merge-said.new.self (call.Merge c.args.page.now) c.merge-call.result c.merge-call.result (reply_by (λ n. reply.Count n) c.merge-said.result) c.count_view-reply.result c.ask.ensures c.merge-call.ensures c.merge-call.ensures c.count_view-reply.ensures
     c.requires.opened c.requires.given c.requires.is c.merge-said.ensures.step (λ e. cc)
 

@@ -9,7 +9,7 @@ use Rattle.replica_exchange.proofs.exchange.page_on.Given.{Over}
 use Rattle.replica_exchange.proofs.exchange.page_on.Goals as goal
 
 pub answer-requires-clause-answers : goal.answer-requires-clause-answers
-answer-requires-clause-answers g c κs lives =
+answer-requires-clause-answers g c =
     is_answer g.D.Disk.state c.args.slot c.args.trail.now c.ask.new.trail c.args.member.now c.page-said.new.self (call.Page (option_copied c.args.after)) c.page-call.result c.page-call.result (reply_by (λ page. reply.Paged page) c.page-said.result) c.paged_view-reply.result c.ask.ensures c.page-call.ensures c.page-call.ensures c.paged_view-reply.ensures
     c.requires.opened tt c.requires.is c.page-said.ensures.step (λ e. cc)
 

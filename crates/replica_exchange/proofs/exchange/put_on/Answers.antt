@@ -8,7 +8,7 @@ use Rattle.replica_exchange.proofs.exchange.put_on.Given.{Over}
 use Rattle.replica_exchange.proofs.exchange.put_on.Goals as goal
 
 pub answer-requires-clause-answers : goal.answer-requires-clause-answers
-answer-requires-clause-answers g c κs lives =
+answer-requires-clause-answers g c =
     is_answer g.D.Disk.state c.args.slot c.args.trail.now c.ask.new.trail c.args.member.now c.put-said.new.self (call.Put c.args.id.client c.args.id.number c.args.rules.now c.args.version c.args.point.now) c.put-call.result c.put-call.result (reply_by (λ _. reply.Done) c.put-said.result) c.done_view-reply.result c.ask.ensures c.put-call.ensures c.put-call.ensures c.done_view-reply.ensures
     c.requires.opened (c.requires.clock, c.requires.sent) c.requires.is (c.put-said.ensures.step c.args.id.client c.args.id.number) (λ e. cc)
 

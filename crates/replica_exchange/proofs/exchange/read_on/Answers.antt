@@ -8,7 +8,7 @@ use Rattle.replica_exchange.proofs.exchange.read_on.Given.{Over}
 use Rattle.replica_exchange.proofs.exchange.read_on.Goals as goal
 
 pub answer-requires-clause-answers : goal.answer-requires-clause-answers
-answer-requires-clause-answers g c κs lives =
+answer-requires-clause-answers g c =
     is_answer g.D.Disk.state c.args.slot c.args.trail.now c.ask.new.trail c.args.member.now c.read-said.new.self (call.Read c.args.id.client c.args.id.number c.args.rules.now c.args.version c.args.pick.now c.args.from c.args.to) c.read-call.result c.read-call.result (reply_by (λ series. reply.Found series) c.read-said.result) c.found_view-reply.result c.ask.ensures c.read-call.ensures c.read-call.ensures c.found_view-reply.ensures
     c.requires.opened c.requires.clock c.requires.is (c.read-said.ensures.step c.args.id.client c.args.id.number) (λ e. cc)
 

@@ -8,7 +8,7 @@ use Rattle.replica_exchange.proofs.exchange.report_on.Given.{Over}
 use Rattle.replica_exchange.proofs.exchange.report_on.Goals as goal
 
 pub tell-requires-clause-lawful : goal.tell-requires-clause-lawful
-tell-requires-clause-lawful g c κs lives = tell_lawful g.D.Disk.state c.args.slot (reply.Told c.report-report.result) c.args.trail.now c.args.member.now c.requires.opened c.requires.is c.report-report.ensures.step
+tell-requires-clause-lawful g c = tell_lawful g.D.Disk.state c.args.slot (reply.Told c.report-report.result) c.args.trail.now c.args.member.now c.requires.opened c.requires.is c.report-report.ensures.step
 
 both : (g : Over) (c : goal.After-tell g) → Went g.D.Disk.state c.args.slot (AddsStep c.args.slot) call.Report (reply.Told c.report-report.result) c.args.trail.now c.tell.new.trail c.args.member.now
 both g c = told g.D.Disk.state c.args.slot (reply.Told c.report-report.result) c.args.trail.now c.args.member.now c.tell.new.trail c.tell.ensures c.requires.is c.report-report.ensures.step

@@ -8,7 +8,7 @@ use Rattle.replica_exchange.proofs.exchange.restart_on.Given.{Over}
 use Rattle.replica_exchange.proofs.exchange.restart_on.Goals as goal
 
 pub answer-requires-clause-answers : goal.answer-requires-clause-answers
-answer-requires-clause-answers g c κs lives =
+answer-requires-clause-answers g c =
     is_answer g.D.Disk.state c.args.slot c.args.trail.now c.ask.new.trail c.args.member.now c.restart-said.new.self call.Restart c.restart-call.result c.restart-call.result (reply_by (λ _. reply.Done) c.restart-said.result) c.done_view-reply.result c.ask.ensures c.restart-call.ensures c.restart-call.ensures c.done_view-reply.ensures
     c.requires.opened tt c.requires.is c.restart-said.ensures.step (λ e. cc)
 

@@ -8,7 +8,7 @@ use Rattle.replica_exchange.proofs.exchange.snapshot_on.Given.{Over}
 use Rattle.replica_exchange.proofs.exchange.snapshot_on.Goals as goal
 
 pub answer-requires-clause-answers : goal.answer-requires-clause-answers
-answer-requires-clause-answers g c κs lives =
+answer-requires-clause-answers g c =
     is_answer g.D.Disk.state c.args.slot c.args.trail.now c.ask.new.trail c.args.member.now c.snapshot-said.new.self call.Snapshot c.snapshot-call.result c.snapshot-call.result (reply_by (λ n. reply.Count n) c.snapshot-said.result) c.count_view-reply.result c.ask.ensures c.snapshot-call.ensures c.snapshot-call.ensures c.count_view-reply.ensures
     c.requires.opened tt c.requires.is c.snapshot-said.ensures.step (λ e. cc)
 

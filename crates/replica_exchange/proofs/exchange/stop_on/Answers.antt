@@ -9,7 +9,7 @@ use Rattle.replica_exchange.proofs.exchange.stop_on.Given.{Over}
 use Rattle.replica_exchange.proofs.exchange.stop_on.Goals as goal
 
 pub answer-requires-clause-answers : goal.answer-requires-clause-answers
-answer-requires-clause-answers g c κs lives =
+answer-requires-clause-answers g c =
     is_answer g.D.Disk.state c.args.slot c.args.trail.now c.ask.new.trail c.args.member.now c.stop.new.self call.Stop c.stop-call.result c.stop-call.result (reply_by (λ _. reply.Done) (Ok (tt {0}))) c.done-reply.result c.ask.ensures c.stop-call.ensures c.stop-call.ensures c.done-reply.ensures
     c.requires.opened tt c.requires.is c.stop.ensures.step (λ e. cc)
 

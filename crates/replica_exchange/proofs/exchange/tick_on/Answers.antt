@@ -8,7 +8,7 @@ use Rattle.replica_exchange.proofs.exchange.tick_on.Given.{Over}
 use Rattle.replica_exchange.proofs.exchange.tick_on.Goals as goal
 
 pub answer-requires-clause-answers : goal.answer-requires-clause-answers
-answer-requires-clause-answers g c κs lives =
+answer-requires-clause-answers g c =
     is_answer g.D.Disk.state c.args.slot c.args.trail.now c.ask.new.trail c.args.member.now c.tick-said.new.self (call.Tick c.args.rules.now) c.tick-call.result c.tick-call.result (reply_by (λ n. reply.Count n) c.tick-said.result) c.count_view-reply.result c.ask.ensures c.tick-call.ensures c.tick-call.ensures c.count_view-reply.ensures
     c.requires.opened c.requires.clock c.requires.is c.tick-said.ensures.step (λ e. cc)
 

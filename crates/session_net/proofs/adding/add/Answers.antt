@@ -4,7 +4,7 @@ use Rattle.session_net.proofs.RunLemmas.{ran_added}
 use Rattle.session_net.proofs.adding.add.Goals as goal
 
 pub add-requires-clause-lawful : goal.add-requires-clause-lawful
-add-requires-clause-lawful g c κs within tells all =
+add-requires-clause-lawful g c tells all =
     let events = (c.args.replicas.now).events in
     lawful_later tells (length events) events c.args.event.now c.know.ensures.opened (c.requires.lawful tells)
 

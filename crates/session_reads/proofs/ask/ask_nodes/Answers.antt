@@ -30,12 +30,12 @@ loop-node-init g c =
     }
 
 pub read_by_fate-said-requires-clause-clock : goal.read_by_fate-said-requires-clause-clock
-read_by_fate-said-requires-clause-clock g c κs within =
+read_by_fate-said-requires-clause-clock g c =
     let was = c.loop-node.invariant in
     any_after g.D.Disk.state (IsClock c.args.state.now.rules) c.args.replicas.now c.loop-node.replicas was.asked.reads was.asked.ran c.requires.clock
 
 pub read_by_fate-said-requires-clause-there : goal.read_by_fate-said-requires-clause-there
-read_by_fate-said-requires-clause-there g c κs within =
+read_by_fate-said-requires-clause-there g c =
     let was = c.loop-node.invariant in
     let n = get_or c.args.nodes.now c.loop-node.node-index 0 in
     there_after g.D.Disk.state c.args.replicas.now c.loop-node.replicas was.asked.reads (slot_at n c.args.shard) was.asked.ran (c.requires.there n (IsIn-from_index c.args.nodes.now c.loop-node.node-index 0 (omega arith)))

@@ -21,7 +21,7 @@ loop-shard-init g c =
     }
 
 pub ask_shard-requires-clause-ready : goal.ask_shard-requires-clause-ready
-ask_shard-requires-clause-ready g c κs within =
+ask_shard-requires-clause-ready g c =
     let state = c.args.state.now in
     let was = c.loop-shard.invariant.so_far in
     callable_left g.D.Disk.state state c.args.replicas.now c.loop-shard.replicas [] c.requires.ready

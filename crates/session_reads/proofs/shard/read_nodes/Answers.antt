@@ -8,17 +8,17 @@ use Rattle.session_reads.proofs.ShardLemmas.{counted_member, has_shard, may_end_
 use Rattle.session_reads.proofs.shard.read_nodes.Goals as goal
 
 pub start-position-requires-clause-clock : goal.start-position-requires-clause-clock
-start-position-requires-clause-clock g c κs within = clock_there (c.args.replicas.now).events c.args.state.now.rules c.requires.ready.clock
+start-position-requires-clause-clock g c = clock_there (c.args.replicas.now).events c.args.state.now.rules c.requires.ready.clock
 
 pub start-position-requires-clause-shard : goal.start-position-requires-clause-shard
-start-position-requires-clause-shard g c κs within = (has_shard c.args.state.now c.args.replicas.now c.args.shard c.requires.ready c.requires.shard)
+start-position-requires-clause-shard g c = (has_shard c.args.state.now c.args.replicas.now c.args.shard c.requires.ready c.requires.shard)
 
 pub ask_nodes-requires-clause-clock : goal.ask_nodes-requires-clause-clock
-ask_nodes-requires-clause-clock g c κs within =
+ask_nodes-requires-clause-clock g c =
     any_after g.D.Disk.state (IsClock c.args.state.now.rules) c.args.replicas.now c.start-position.new.replicas _ c.start-position.ensures.ran (clock_there (c.args.replicas.now).events c.args.state.now.rules c.requires.ready.clock)
 
 pub ask_nodes-requires-clause-there : goal.ask_nodes-requires-clause-there
-ask_nodes-requires-clause-there g c κs within n m =
+ask_nodes-requires-clause-there g c n m =
     there_after g.D.Disk.state c.args.replicas.now c.start-position.new.replicas _ (slot_at n c.args.shard) c.start-position.ensures.ran (c.requires.ready.there n c.args.shard (counted_member c.args.state.now.place c.args.shard c.args.nodes.now c.requires.counted n m))
 
 pub returns-in_err-ask_nodes-clause-err : goal.returns-in_err-ask_nodes-clause-err
@@ -33,7 +33,7 @@ returns-in_err-ask_nodes-clause-err g c =
     asked.2))
 
 pub settle-requires-clause-ends : goal.settle-requires-clause-ends
-settle-requires-clause-ends g c κs within =
+settle-requires-clause-ends g c =
     let asking = c.args.asking.now in
     let state = c.args.state.now in
     let w = wish_of c.args.pick.now asking in

@@ -8,10 +8,10 @@ use Rattle.session_writes.proofs.LeftLemmas.{IsBoundedLate}
 use Rattle.session_writes.proofs.deliver.deliver.Goals as goal
 
 pub put_late-requires-clause-clock : goal.put_late-requires-clause-clock
-put_late-requires-clause-clock g c κs within = clock_there (c.args.net.now).replicas.events (c.args.net.now).state.rules c.requires.ready.clock
+put_late-requires-clause-clock g c = clock_there (c.args.net.now).replicas.events (c.args.net.now).state.rules c.requires.ready.clock
 
 pub put_late-requires-clause-bounded : goal.put_late-requires-clause-bounded
-put_late-requires-clause-bounded g c κs within = subst (All IsBoundedLate) (sym (c.as_slice.ensures ∙ c.in_ok-late.ensures.all)) (c.args.net.now).bounded_late
+put_late-requires-clause-bounded g c = subst (All IsBoundedLate) (sym (c.as_slice.ensures ∙ c.in_ok-late.ensures.all)) (c.args.net.now).bounded_late
 
 pub returns-clause-ready : goal.returns-clause-ready
 returns-clause-ready g c =

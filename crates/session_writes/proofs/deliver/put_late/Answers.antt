@@ -25,12 +25,12 @@ loop-one-init g c = record {
 }
 
 pub put_once-said-requires-clause-clock : goal.put_once-said-requires-clause-clock
-put_once-said-requires-clause-clock g c κs within =
+put_once-said-requires-clause-clock g c =
     let was = c.loop-one.invariant in
     any_after g.D.Disk.state (IsClock c.args.rules.now) c.args.replicas.now c.loop-one.replicas was.puts was.ran c.requires.clock
 
 pub put_once-said-requires-clause-sent : goal.put_once-said-requires-clause-sent
-put_once-said-requires-clause-sent g c κs within =
+put_once-said-requires-clause-sent g c =
     let was = c.loop-one.invariant in
     let one = c.one-item.result in
     let i = c.loop-one.one-index in
@@ -38,7 +38,7 @@ put_once-said-requires-clause-sent g c κs within =
     any_after g.D.Disk.state (IsSend one.version one.shard one.point) c.args.replicas.now c.loop-one.replicas was.puts was.ran (c.requires.sent one member)
 
 pub put_once-said-requires-clause-there : goal.put_once-said-requires-clause-there
-put_once-said-requires-clause-there g c κs within =
+put_once-said-requires-clause-there g c =
     let was = c.loop-one.invariant in
     let one = c.one-item.result in
     let i = c.loop-one.one-index in

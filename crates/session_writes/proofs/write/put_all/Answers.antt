@@ -29,12 +29,12 @@ loop-member-init g c = record {
 }
 
 pub put_by_fate-said-requires-clause-sent : goal.put_by_fate-said-requires-clause-sent
-put_by_fate-said-requires-clause-sent g c κs within =
+put_by_fate-said-requires-clause-sent g c =
     let was = c.loop-member.invariant in
     any_after g.D.Disk.state (IsSend c.args.sending.now.version c.args.sending.now.shard c.args.point.now) c.args.replicas.now c.loop-member.replicas was.puts was.ran c.requires.sent
 
 pub put_by_fate-said-requires-clause-there : goal.put_by_fate-said-requires-clause-there
-put_by_fate-said-requires-clause-there g c κs within =
+put_by_fate-said-requires-clause-there g c =
     let was = c.loop-member.invariant in
     let a = get_or c.args.members.now c.loop-member.member-index _ in
     there_after g.D.Disk.state c.args.replicas.now c.loop-member.replicas was.puts (slot_at a.node c.args.sending.now.shard) was.ran (c.requires.there a (IsIn-from_index c.args.members.now c.loop-member.member-index _ (omega arith)))

@@ -3,7 +3,7 @@ use Rattle.session_writes.proofs.SendLemmas.{may_ack, settled, unsettled}
 use Rattle.session_writes.proofs.write.send_all.Goals as goal
 
 pub settle-requires-clause-acks : goal.settle-requires-clause-acks
-settle-requires-clause-acks g c κs within =
+settle-requires-clause-acks g c =
     let sending = c.args.sending.now in
     let w : Putting = record { id = sending.id; rules = c.args.rules.now; version = sending.version; shard = sending.shard; point = c.args.point.now } in
     let put = c.put_all.ensures in

@@ -6,25 +6,25 @@ use Rattle.session_writes.proofs.WriteLemmas.{same_net, putting, wanted, acknowl
 use Rattle.session_writes.proofs.write.write.Goals as goal
 
 pub send_all-requires-clause-clock : goal.send_all-requires-clause-clock
-send_all-requires-clause-clock g c κs within = clock_there (c.args.net.now).replicas.events (c.args.net.now).state.rules c.requires.ready.clock
+send_all-requires-clause-clock g c = clock_there (c.args.net.now).replicas.events (c.args.net.now).state.rules c.requires.ready.clock
 
 pub send_all-requires-clause-shard : goal.send_all-requires-clause-shard
-send_all-requires-clause-shard g c κs within =
+send_all-requires-clause-shard g c =
     has_shard c.args.net.now c.requires.ready c.args.point.now c.in_ok-to.to.shard c.as_slice.result.now
     (goes_to (c.args.net.now).state c.args.point.now c.in_ok-to.to.shard c.in_ok-to.to.members c.as_slice.result.now c.in_ok-to.ensures.shard c.in_ok-to.ensures.members c.as_slice.ensures)
 
 pub send_all-requires-clause-counted : goal.send_all-requires-clause-counted
-send_all-requires-clause-counted g c κs within =
+send_all-requires-clause-counted g c =
     are_counted c.args.net.now c.requires.ready c.args.point.now c.in_ok-to.to.shard c.as_slice.result.now
     (goes_to (c.args.net.now).state c.args.point.now c.in_ok-to.to.shard c.in_ok-to.to.members c.as_slice.result.now c.in_ok-to.ensures.shard c.in_ok-to.ensures.members c.as_slice.ensures)
 
 pub send_all-requires-clause-differ : goal.send_all-requires-clause-differ
-send_all-requires-clause-differ g c κs within =
+send_all-requires-clause-differ g c =
     members_differ c.args.net.now c.requires.ready c.args.point.now c.in_ok-to.to.shard c.as_slice.result.now
     (goes_to (c.args.net.now).state c.args.point.now c.in_ok-to.to.shard c.in_ok-to.to.members c.as_slice.result.now c.in_ok-to.ensures.shard c.in_ok-to.ensures.members c.as_slice.ensures)
 
 pub send_all-requires-clause-there : goal.send_all-requires-clause-there
-send_all-requires-clause-there g c κs within =
+send_all-requires-clause-there g c =
     member_there c.args.net.now c.requires.ready c.args.point.now c.in_ok-to.to.shard c.as_slice.result.now
     (goes_to (c.args.net.now).state c.args.point.now c.in_ok-to.to.shard c.in_ok-to.to.members c.as_slice.result.now c.in_ok-to.ensures.shard c.in_ok-to.ensures.members c.as_slice.ensures)
 

@@ -26,8 +26,8 @@ loop-volume-init g c =
       points = sym (ap (λ (l : List OpenVolume). before ++ volume_points (map known_of l)) empty ∙ append-nil before);
     }
 
-pub open_one-requires-after_bounds : goal.open_one-requires-after_bounds
-open_one-requires-after_bounds g c κs within = λ t.
+pub open_one-requires : goal.open_one-requires
+open_one-requires g c = λ t.
     let inv = c.loop-volume.invariant in
     let told = sym inv.leaves.proceeds.tells ∙ t in
     let volume : Volume = get_or c.args.listed.now c.loop-volume.volume-index none in

@@ -21,7 +21,7 @@ returns-in_err-older-clause-files g c = λ t.
     left_all _ (snapshots_below c.args.number (g.D.Disk.state c.args.disk.now).files) (g.D.Disk.state c.args.disk.now) (g.D.Disk.state c.find_below.new.disk) c.find_below.ensures.leaves t
 
 pub take_away-requires-clause-present : goal.take_away-requires-clause-present
-take_away-requires-clause-present g c = λ a b h.
+take_away-requires-clause-present g c = λ h.
     let t = sym c.find_below.ensures.leaves.proceeds.tells ∙ h in
     let same = c.find_below.ensures.leaves.files t in
     subst (λ (l : List FileName). AreRemovable l (g.D.Disk.state c.find_below.new.disk).files) (sym (c.deref.ensures.value ∙ c.in_ok-older.ensures.ok t))
@@ -31,7 +31,7 @@ pub returns-in_err-take_away-clause-any_moment : goal.returns-in_err-take_away-c
 returns-in_err-take_away-clause-any_moment g c = λ t.
     let told = c.find_below.ensures.leaves.proceeds.tells ∙ t in
     then_elapses _ (snapshots_below c.args.number (g.D.Disk.state c.args.disk.now).files) (g.D.Disk.state c.args.disk.now) (g.D.Disk.state c.find_below.new.disk) c.find_below.ensures.leaves (g.D.Disk.state c.take_away.new.disk) t
-    (subst (λ (l : List FileName). Elapses (MayTakeAway l) (g.D.Disk.state c.find_below.new.disk) (g.D.Disk.state c.take_away.new.disk)) (c.deref.ensures.value ∙ c.in_ok-older.ensures.ok t) (c.take_away.ensures.any_moment told))
+    (subst (λ (l : List FileName). Elapses (MayTakeAway l) (g.D.Disk.state c.find_below.new.disk) (g.D.Disk.state c.take_away.new.disk)) (c.deref.ensures.value ∙ c.in_ok-older.ensures.ok t) (c.take_away.ensures.proceeds.told told))
 
 pub returns-in_err-take_away-clause-files : goal.returns-in_err-take_away-clause-files
 returns-in_err-take_away-clause-files g c = λ t.
@@ -43,7 +43,7 @@ pub returns-clause-any_moment : goal.returns-clause-any_moment
 returns-clause-any_moment g c = λ t.
     let told = c.find_below.ensures.leaves.proceeds.tells ∙ t in
     then_elapses _ (snapshots_below c.args.number (g.D.Disk.state c.args.disk.now).files) (g.D.Disk.state c.args.disk.now) (g.D.Disk.state c.find_below.new.disk) c.find_below.ensures.leaves (g.D.Disk.state c.take_away.new.disk) t
-    (subst (λ (l : List FileName). Elapses (MayTakeAway l) (g.D.Disk.state c.find_below.new.disk) (g.D.Disk.state c.take_away.new.disk)) (c.deref.ensures.value ∙ c.in_ok-older.ensures.ok t) (c.take_away.ensures.any_moment told))
+    (subst (λ (l : List FileName). Elapses (MayTakeAway l) (g.D.Disk.state c.find_below.new.disk) (g.D.Disk.state c.take_away.new.disk)) (c.deref.ensures.value ∙ c.in_ok-older.ensures.ok t) (c.take_away.ensures.proceeds.told told))
 
 pub returns-clause-ok : goal.returns-clause-ok
 returns-clause-ok g c = λ t.

@@ -12,11 +12,11 @@ use Rattle.snapshot_files.proofs.saving.save.Goals as goal
 
 pub returns-in_err-bytes-clause-any_moment : goal.returns-in_err-bytes-clause-any_moment
 returns-in_err-bytes-clause-any_moment g c = λ t.
-    moment0 (seen c.args.snap.now) (g.D.Disk.state c.args.disk.now) ((g.met.D.Disk g.world.𝓛 g.world.𝓜 g.world.𝓡 ((λ s x. x), (λ x. x), (λ x. x), (λ x. x))).lawful c.args.disk.now) t (c.requires.fresh t)
+    moment0 (seen c.args.snap.now) (g.D.Disk.state c.args.disk.now) (g.met.D.Disk.lawful c.args.disk.now) t (c.requires.fresh t)
 
 pub returns-in_err-bytes-clause-memory : goal.returns-in_err-bytes-clause-memory
 returns-in_err-bytes-clause-memory g c = λ t m.
-    none0 (seen c.args.snap.now) (g.D.Disk.state c.args.disk.now) ((g.met.D.Disk g.world.𝓛 g.world.𝓜 g.world.𝓡 ((λ s x. x), (λ x. x), (λ x. x), (λ x. x))).lawful c.args.disk.now) t (c.requires.fresh t)
+    none0 (seen c.args.snap.now) (g.D.Disk.state c.args.disk.now) (g.met.D.Disk.lawful c.args.disk.now) t (c.requires.fresh t)
 
 pub returns-clause-any_moment : goal.returns-clause-any_moment
 returns-clause-any_moment g c = λ t.

@@ -19,15 +19,15 @@ returns-in_err-number-clause-log_stands g c log stands =
     stands_stays log _ (g.D.Disk.state c.args.disk.now) (g.D.Disk.state c.next_number.new.disk) c.next_number.ensures.leaves stands
 
 pub save-requires-clause-fresh : goal.save-requires-clause-fresh
-save-requires-clause-fresh g c κs within = next_is_new c.in_ok-number.number (g.D.Disk.state c.args.disk.now) (g.D.Disk.state c.next_number.new.disk) _ c.next_number.ensures.leaves c.in_ok-number.ensures.ok
+save-requires-clause-fresh g c = next_is_new c.in_ok-number.number (g.D.Disk.state c.args.disk.now) (g.D.Disk.state c.next_number.new.disk) _ c.next_number.ensures.leaves c.in_ok-number.ensures.ok
 
 pub returns-in_err-save-clause-any_moment : goal.returns-in_err-save-clause-any_moment
 returns-in_err-save-clause-any_moment g c kept memory known each points have tells =
-    save_moment (snapshot_of c.in_ok-number.number c.args.tenure c.args.fence c.args.first c.args.points) _ (g.D.Disk.state c.args.disk.now) (g.D.Disk.state c.next_number.new.disk) (g.D.Disk.state c.save.new.disk) ((g.met.D.Disk g.world.𝓛 g.world.𝓜 g.world.𝓡 ((λ s x. x), (λ x. x), (λ x. x), (λ x. x))).lawful c.next_number.new.disk) c.next_number.ensures.leaves c.in_ok-number.ensures.ok memory known points kept each have tells (c.save.ensures.any_moment (c.next_number.ensures.leaves.proceeds.tells ∙ tells))
+    save_moment (snapshot_of c.in_ok-number.number c.args.tenure c.args.fence c.args.first c.args.points) _ (g.D.Disk.state c.args.disk.now) (g.D.Disk.state c.next_number.new.disk) (g.D.Disk.state c.save.new.disk) (g.met.D.Disk.lawful c.next_number.new.disk) c.next_number.ensures.leaves c.in_ok-number.ensures.ok memory known points kept each have tells (c.save.ensures.any_moment (c.next_number.ensures.leaves.proceeds.tells ∙ tells))
 
 pub returns-in_err-save-clause-memory : goal.returns-in_err-save-clause-memory
 returns-in_err-save-clause-memory g c memory known t f each wanted =
-    save_none (snapshot_of c.in_ok-number.number c.args.tenure c.args.fence c.args.first c.args.points) _ (g.D.Disk.state c.args.disk.now) (g.D.Disk.state c.next_number.new.disk) (g.D.Disk.state c.save.new.disk) ((g.met.D.Disk g.world.𝓛 g.world.𝓜 g.world.𝓡 ((λ s x. x), (λ x. x), (λ x. x), (λ x. x))).lawful c.next_number.new.disk) c.next_number.ensures.leaves c.in_ok-number.ensures.ok memory known t f c.save.ensures.tells each (λ told. c.save.ensures.memory told (err_to c.save.result c.from_residual-in_err-save.result c.in_err-save.field-0.0 Memory c.in_err-save.was (err_is c.from_residual-in_err-save.result c.in_err-save.field-0.0 c.from_residual-in_err-save.ensures) wanted))
+    save_none (snapshot_of c.in_ok-number.number c.args.tenure c.args.fence c.args.first c.args.points) _ (g.D.Disk.state c.args.disk.now) (g.D.Disk.state c.next_number.new.disk) (g.D.Disk.state c.save.new.disk) (g.met.D.Disk.lawful c.next_number.new.disk) c.next_number.ensures.leaves c.in_ok-number.ensures.ok memory known t f c.save.ensures.tells each (λ told. c.save.ensures.memory told (err_to c.save.result c.from_residual-in_err-save.result c.in_err-save.field-0.0 Memory c.in_err-save.was (err_is c.from_residual-in_err-save.result c.in_err-save.field-0.0 c.from_residual-in_err-save.ensures) wanted))
 
 pub returns-in_err-save-clause-segments : goal.returns-in_err-save-clause-segments
 returns-in_err-save-clause-segments g c tells =
@@ -39,11 +39,11 @@ returns-in_err-save-clause-log_stands g c log stands =
 
 pub returns-clause-any_moment : goal.returns-clause-any_moment
 returns-clause-any_moment g c kept memory known each points have tells =
-    save_moment (snapshot_of c.in_ok-number.number c.args.tenure c.args.fence c.args.first c.args.points) _ (g.D.Disk.state c.args.disk.now) (g.D.Disk.state c.next_number.new.disk) (g.D.Disk.state c.save.new.disk) ((g.met.D.Disk g.world.𝓛 g.world.𝓜 g.world.𝓡 ((λ s x. x), (λ x. x), (λ x. x), (λ x. x))).lawful c.next_number.new.disk) c.next_number.ensures.leaves c.in_ok-number.ensures.ok memory known points kept each have tells (c.save.ensures.any_moment (c.next_number.ensures.leaves.proceeds.tells ∙ tells))
+    save_moment (snapshot_of c.in_ok-number.number c.args.tenure c.args.fence c.args.first c.args.points) _ (g.D.Disk.state c.args.disk.now) (g.D.Disk.state c.next_number.new.disk) (g.D.Disk.state c.save.new.disk) (g.met.D.Disk.lawful c.next_number.new.disk) c.next_number.ensures.leaves c.in_ok-number.ensures.ok memory known points kept each have tells (c.save.ensures.any_moment (c.next_number.ensures.leaves.proceeds.tells ∙ tells))
 
 pub returns-clause-saved : goal.returns-clause-saved
 returns-clause-saved g c memory known each points =
-    save_known (snapshot_of c.in_ok-number.number c.args.tenure c.args.fence c.args.first c.args.points) _ (g.D.Disk.state c.args.disk.now) (g.D.Disk.state c.next_number.new.disk) (g.D.Disk.state c.save.new.disk) ((g.met.D.Disk g.world.𝓛 g.world.𝓜 g.world.𝓡 ((λ s x. x), (λ x. x), (λ x. x), (λ x. x))).lawful c.next_number.new.disk) c.next_number.ensures.leaves c.in_ok-number.ensures.ok memory known points c.save.ensures.tells each c.in_ok-save.ensures.acknowledged
+    save_known (snapshot_of c.in_ok-number.number c.args.tenure c.args.fence c.args.first c.args.points) _ (g.D.Disk.state c.args.disk.now) (g.D.Disk.state c.next_number.new.disk) (g.D.Disk.state c.save.new.disk) (g.met.D.Disk.lawful c.next_number.new.disk) c.next_number.ensures.leaves c.in_ok-number.ensures.ok memory known points c.save.ensures.tells each c.in_ok-save.ensures.acknowledged
 
 pub returns-clause-segments : goal.returns-clause-segments
 returns-clause-segments g c tells =

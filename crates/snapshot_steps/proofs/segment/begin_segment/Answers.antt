@@ -30,11 +30,11 @@ returns-in_err-log-clause-unchanged g c tells wanted =
 pub returns-in_err-log-clause-any_moment : goal.returns-in_err-log-clause-any_moment
 returns-in_err-log-clause-any_moment g c kept memory known tenure fence each have tells =
     then_keeps kept (g.D.Disk.state c.args.disk.now) (g.D.Disk.state c.list_segments.new.disk) (g.D.Disk.state c.begin.new.disk) (left_moment _ (g.D.Disk.state c.args.disk.now) (g.D.Disk.state c.list_segments.new.disk) c.list_segments.ensures.leaves kept memory known tenure fence each have tells)
-    (begin_moment c.in_ok-segments.segments.next (g.D.Disk.state c.list_segments.new.disk) (g.D.Disk.state c.begin.new.disk) ((g.met.D.Disk g.world.𝓛 g.world.𝓜 g.world.𝓡 ((λ s x. x), (λ x. x), (λ x. x), (λ x. x))).lawful c.list_segments.new.disk) c.in_ok-segments.ensures.fresh kept memory known tenure fence (left_known _ (g.D.Disk.state c.args.disk.now) (g.D.Disk.state c.list_segments.new.disk) c.list_segments.ensures.leaves each) have (c.list_segments.ensures.leaves.proceeds.tells ∙ tells) (c.begin.ensures.any_moment (c.list_segments.ensures.leaves.proceeds.tells ∙ tells)))
+    (begin_moment c.in_ok-segments.segments.next (g.D.Disk.state c.list_segments.new.disk) (g.D.Disk.state c.begin.new.disk) (g.met.D.Disk.lawful c.list_segments.new.disk) c.in_ok-segments.ensures.fresh kept memory known tenure fence (left_known _ (g.D.Disk.state c.args.disk.now) (g.D.Disk.state c.list_segments.new.disk) c.list_segments.ensures.leaves each) have (c.list_segments.ensures.leaves.proceeds.tells ∙ tells) (c.begin.ensures.any_moment (c.list_segments.ensures.leaves.proceeds.tells ∙ tells)))
 
 pub returns-in_err-log-clause-known : goal.returns-in_err-log-clause-known
 returns-in_err-log-clause-known g c memory known tenure fence each =
-    begin_known c.in_ok-segments.segments.next (g.D.Disk.state c.list_segments.new.disk) (g.D.Disk.state c.begin.new.disk) ((g.met.D.Disk g.world.𝓛 g.world.𝓜 g.world.𝓡 ((λ s x. x), (λ x. x), (λ x. x), (λ x. x))).lawful c.list_segments.new.disk) c.in_ok-segments.ensures.fresh memory known tenure fence c.begin.ensures.tells c.begin.ensures.any_moment (left_known _ (g.D.Disk.state c.args.disk.now) (g.D.Disk.state c.list_segments.new.disk) c.list_segments.ensures.leaves each)
+    begin_known c.in_ok-segments.segments.next (g.D.Disk.state c.list_segments.new.disk) (g.D.Disk.state c.begin.new.disk) (g.met.D.Disk.lawful c.list_segments.new.disk) c.in_ok-segments.ensures.fresh memory known tenure fence c.begin.ensures.tells c.begin.ensures.any_moment (left_known _ (g.D.Disk.state c.args.disk.now) (g.D.Disk.state c.list_segments.new.disk) c.list_segments.ensures.leaves each)
 
 pub returns-in_err-log-clause-log_stands : goal.returns-in_err-log-clause-log_stands
 returns-in_err-log-clause-log_stands g c wanted stands =
@@ -43,11 +43,11 @@ returns-in_err-log-clause-log_stands g c wanted stands =
 pub returns-clause-any_moment : goal.returns-clause-any_moment
 returns-clause-any_moment g c kept memory known tenure fence each have tells =
     then_keeps kept (g.D.Disk.state c.args.disk.now) (g.D.Disk.state c.list_segments.new.disk) (g.D.Disk.state c.begin.new.disk) (left_moment _ (g.D.Disk.state c.args.disk.now) (g.D.Disk.state c.list_segments.new.disk) c.list_segments.ensures.leaves kept memory known tenure fence each have tells)
-    (begin_moment c.in_ok-segments.segments.next (g.D.Disk.state c.list_segments.new.disk) (g.D.Disk.state c.begin.new.disk) ((g.met.D.Disk g.world.𝓛 g.world.𝓜 g.world.𝓡 ((λ s x. x), (λ x. x), (λ x. x), (λ x. x))).lawful c.list_segments.new.disk) c.in_ok-segments.ensures.fresh kept memory known tenure fence (left_known _ (g.D.Disk.state c.args.disk.now) (g.D.Disk.state c.list_segments.new.disk) c.list_segments.ensures.leaves each) have (c.list_segments.ensures.leaves.proceeds.tells ∙ tells) (c.begin.ensures.any_moment (c.list_segments.ensures.leaves.proceeds.tells ∙ tells)))
+    (begin_moment c.in_ok-segments.segments.next (g.D.Disk.state c.list_segments.new.disk) (g.D.Disk.state c.begin.new.disk) (g.met.D.Disk.lawful c.list_segments.new.disk) c.in_ok-segments.ensures.fresh kept memory known tenure fence (left_known _ (g.D.Disk.state c.args.disk.now) (g.D.Disk.state c.list_segments.new.disk) c.list_segments.ensures.leaves each) have (c.list_segments.ensures.leaves.proceeds.tells ∙ tells) (c.begin.ensures.any_moment (c.list_segments.ensures.leaves.proceeds.tells ∙ tells)))
 
 pub returns-clause-known : goal.returns-clause-known
 returns-clause-known g c memory known tenure fence each =
-    begin_known c.in_ok-segments.segments.next (g.D.Disk.state c.list_segments.new.disk) (g.D.Disk.state c.begin.new.disk) ((g.met.D.Disk g.world.𝓛 g.world.𝓜 g.world.𝓡 ((λ s x. x), (λ x. x), (λ x. x), (λ x. x))).lawful c.list_segments.new.disk) c.in_ok-segments.ensures.fresh memory known tenure fence c.begin.ensures.tells c.begin.ensures.any_moment (left_known _ (g.D.Disk.state c.args.disk.now) (g.D.Disk.state c.list_segments.new.disk) c.list_segments.ensures.leaves each)
+    begin_known c.in_ok-segments.segments.next (g.D.Disk.state c.list_segments.new.disk) (g.D.Disk.state c.begin.new.disk) (g.met.D.Disk.lawful c.list_segments.new.disk) c.in_ok-segments.ensures.fresh memory known tenure fence c.begin.ensures.tells c.begin.ensures.any_moment (left_known _ (g.D.Disk.state c.args.disk.now) (g.D.Disk.state c.list_segments.new.disk) c.list_segments.ensures.leaves each)
 
 pub returns-in_err-segments-clause-snapshots : goal.returns-in_err-segments-clause-snapshots
 returns-in_err-segments-clause-snapshots g c tells = ap next_snapshot (c.list_segments.ensures.leaves.files tells)

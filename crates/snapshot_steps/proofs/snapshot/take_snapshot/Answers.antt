@@ -116,7 +116,7 @@ returns-in_err-cut_log-clause-counted g c memory known each points tells fine ha
     let told = c.begin_segment.ensures.tells ∙ tells in
     let then = c.save_snapshot.ensures.tells ∙ told in
     let files = (g.D.Disk.state c.save_snapshot.new.disk).files in
-    let saved = c.in_ok-number.ensures.saved memory known (c.begin_segment.ensures.known memory known c.args.tenure c.args.fence each) points then files (((g.met.D.Disk g.world.𝓛 g.world.𝓜 g.world.𝓡 ((λ s x. x), (λ x. x), (λ x. x), (λ x. x))).lawful c.save_snapshot.new.disk).read_is_image then) in
+    let saved = c.in_ok-number.ensures.saved memory known (c.begin_segment.ensures.known memory known c.args.tenure c.args.fence each) points then files ((g.met.D.Disk.lawful c.save_snapshot.new.disk).read_is_image then) in
     subst (λ (f : Files). AreCounted c.begin_segment.new.log c.args.counts.now.missing c.in_ok-number.number f) (sym (c.cut_log.ensures.memory then wanted).files)
     (counted_alike c.begin_segment.new.log c.args.counts.now.missing c.args.counts.now.snapshot c.in_ok-number.number (g.D.Disk.state c.begin_segment.new.disk).files files
     (c.save_snapshot.ensures.segments told) (saved_newest (snapshot_of c.in_ok-number.number c.args.tenure c.args.fence c.in_ok-first.first c.args.points) memory known c.args.tenure c.args.fence files saved) (counted_next c.args.log.now c.begin_segment.new.log c.in_ok-first.first (g.D.Disk.state c.args.disk.now).files (g.D.Disk.state c.begin_segment.new.disk).files (c.in_ok-first.ensures.number tells) (c.in_ok-first.ensures.made tells)
@@ -132,7 +132,7 @@ returns-in_err-clear_snapshots-clause-counted g c memory known each points tells
     ∙ ap (λ (l : List ℕ). filter (λ n. not (nat_lt n c.in_ok-first.first)) l) (c.save_snapshot.ensures.segments (c.begin_segment.ensures.tells ∙ tells))
     ∙ only_last c.in_ok-first.first (g.D.Disk.state c.begin_segment.new.disk).files (c.in_ok-first.ensures.there tells) (subst (λ (n : ℕ). NoneAbove n (g.D.Disk.state c.begin_segment.new.disk).files) here (c.in_ok-first.ensures.stands.above (c.begin_segment.ensures.tells ∙ tells))))
     (saved_newest (snapshot_of c.in_ok-number.number c.args.tenure c.args.fence c.in_ok-first.first c.args.points) memory known c.args.tenure c.args.fence files
-    (c.clear_snapshots.ensures.saved (snapshot_of c.in_ok-number.number c.args.tenure c.args.fence c.in_ok-first.first c.args.points) memory known c.args.tenure c.args.fence (omega arith) (c.cut_log.ensures.saved (snapshot_of c.in_ok-number.number c.args.tenure c.args.fence c.in_ok-first.first c.args.points) memory known c.args.tenure c.args.fence (c.in_ok-number.ensures.saved memory known (c.begin_segment.ensures.known memory known c.args.tenure c.args.fence each) points)) then files (((g.met.D.Disk g.world.𝓛 g.world.𝓜 g.world.𝓡 ((λ s x. x), (λ x. x), (λ x. x), (λ x. x))).lawful c.clear_snapshots.new.disk).read_is_image then)))
+    (c.clear_snapshots.ensures.saved (snapshot_of c.in_ok-number.number c.args.tenure c.args.fence c.in_ok-first.first c.args.points) memory known c.args.tenure c.args.fence (omega arith) (c.cut_log.ensures.saved (snapshot_of c.in_ok-number.number c.args.tenure c.args.fence c.in_ok-first.first c.args.points) memory known c.args.tenure c.args.fence (c.in_ok-number.ensures.saved memory known (c.begin_segment.ensures.known memory known c.args.tenure c.args.fence each) points)) then files ((g.met.D.Disk.lawful c.clear_snapshots.new.disk).read_is_image then)))
 
 pub returns-clause-counted : goal.returns-clause-counted
 returns-clause-counted g c memory known each points tells fine has =
@@ -144,4 +144,4 @@ returns-clause-counted g c memory known each points tells fine has =
     ∙ ap (λ (l : List ℕ). filter (λ n. not (nat_lt n c.in_ok-first.first)) l) (c.save_snapshot.ensures.segments (c.begin_segment.ensures.tells ∙ tells))
     ∙ only_last c.in_ok-first.first (g.D.Disk.state c.begin_segment.new.disk).files (c.in_ok-first.ensures.there tells) (subst (λ (n : ℕ). NoneAbove n (g.D.Disk.state c.begin_segment.new.disk).files) here (c.in_ok-first.ensures.stands.above (c.begin_segment.ensures.tells ∙ tells))))
     (saved_newest (snapshot_of c.in_ok-number.number c.args.tenure c.args.fence c.in_ok-first.first c.args.points) memory known c.args.tenure c.args.fence files
-    (c.clear_snapshots.ensures.saved (snapshot_of c.in_ok-number.number c.args.tenure c.args.fence c.in_ok-first.first c.args.points) memory known c.args.tenure c.args.fence (omega arith) (c.cut_log.ensures.saved (snapshot_of c.in_ok-number.number c.args.tenure c.args.fence c.in_ok-first.first c.args.points) memory known c.args.tenure c.args.fence (c.in_ok-number.ensures.saved memory known (c.begin_segment.ensures.known memory known c.args.tenure c.args.fence each) points)) then files (((g.met.D.Disk g.world.𝓛 g.world.𝓜 g.world.𝓡 ((λ s x. x), (λ x. x), (λ x. x), (λ x. x))).lawful c.clear_snapshots.new.disk).read_is_image then)))
+    (c.clear_snapshots.ensures.saved (snapshot_of c.in_ok-number.number c.args.tenure c.args.fence c.in_ok-first.first c.args.points) memory known c.args.tenure c.args.fence (omega arith) (c.cut_log.ensures.saved (snapshot_of c.in_ok-number.number c.args.tenure c.args.fence c.in_ok-first.first c.args.points) memory known c.args.tenure c.args.fence (c.in_ok-number.ensures.saved memory known (c.begin_segment.ensures.known memory known c.args.tenure c.args.fence each) points)) then files ((g.met.D.Disk.lawful c.clear_snapshots.new.disk).read_is_image then)))

@@ -5,18 +5,18 @@ use Rattle.store_log.proofs.WholeLemmas.{append_whole}
 use Rattle.store_log.proofs.log_step.append_entry.Goals as goal
 
 pub returns-clause-any_moment : goal.returns-clause-any_moment
-returns-clause-any_moment g c e is tells = append_elapses c.args.log.now (g.D.Disk.state c.args.disk.now) (g.D.Disk.state c.append.new.disk) ((g.met.D.Disk g.world.𝓛 g.world.𝓜 g.world.𝓡 ((λ s x. x), (λ x. x), (λ x. x), (λ x. x))).lawful c.args.disk.now) c.requires.ready.stands c.args.bytes.now e is tells (c.append.ensures.any_moment tells)
+returns-clause-any_moment g c e is tells = append_elapses c.args.log.now (g.D.Disk.state c.args.disk.now) (g.D.Disk.state c.append.new.disk) (g.met.D.Disk.lawful c.args.disk.now) c.requires.ready.stands c.args.bytes.now e is tells (c.append.ensures.any_moment tells)
 
 pub returns-clause-whole : goal.returns-clause-whole
-returns-clause-whole g c e is tells = append_whole c.args.log.now (g.D.Disk.state c.args.disk.now) (g.D.Disk.state c.append.new.disk) ((g.met.D.Disk g.world.𝓛 g.world.𝓜 g.world.𝓡 ((λ s x. x), (λ x. x), (λ x. x), (λ x. x))).lawful c.args.disk.now) c.requires.ready.stands c.args.bytes.now e is tells (c.append.ensures.any_moment tells)
+returns-clause-whole g c e is tells = append_whole c.args.log.now (g.D.Disk.state c.args.disk.now) (g.D.Disk.state c.append.new.disk) (g.met.D.Disk.lawful c.args.disk.now) c.requires.ready.stands c.args.bytes.now e is tells (c.append.ensures.any_moment tells)
 
 pub returns-clause-acknowledged : goal.returns-clause-acknowledged
 returns-clause-acknowledged g c e is tells =
-    on_ok_as c.append.result (append_added c.args.log.now (g.D.Disk.state c.args.disk.now) (g.D.Disk.state c.append.new.disk) ((g.met.D.Disk g.world.𝓛 g.world.𝓜 g.world.𝓡 ((λ s x. x), (λ x. x), (λ x. x), (λ x. x))).lawful c.args.disk.now) c.requires.ready.stands c.args.bytes.now e is tells) (c.append.ensures.acknowledged tells)
+    on_ok_as c.append.result (append_added c.args.log.now (g.D.Disk.state c.args.disk.now) (g.D.Disk.state c.append.new.disk) (g.met.D.Disk.lawful c.args.disk.now) c.requires.ready.stands c.args.bytes.now e is tells) (c.append.ensures.acknowledged tells)
 
 pub returns-clause-kept : goal.returns-clause-kept
 returns-clause-kept g c e is memory known tenure fence kept =
-    kept_by_entry c.append.result e c.args.bytes.now is c.args.log.now c.append.new.self memory known tenure fence (g.D.Disk.state c.args.disk.now) (g.D.Disk.state c.append.new.disk) ((g.met.D.Disk g.world.𝓛 g.world.𝓜 g.world.𝓡 ((λ s x. x), (λ x. x), (λ x. x), (λ x. x))).lawful c.args.disk.now) c.requires.ready.stands c.append.ensures.tells c.append.ensures.stands c.append.ensures.acknowledged kept
+    kept_by_entry c.append.result e c.args.bytes.now is c.args.log.now c.append.new.self memory known tenure fence (g.D.Disk.state c.args.disk.now) (g.D.Disk.state c.append.new.disk) (g.met.D.Disk.lawful c.args.disk.now) c.requires.ready.stands c.append.ensures.tells c.append.ensures.stands c.append.ensures.acknowledged kept
 
 pub returns-clause-counts : goal.returns-clause-counts
 returns-clause-counts g c = λ tells.

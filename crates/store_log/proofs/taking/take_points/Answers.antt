@@ -15,7 +15,7 @@ use Rattle.store_log.proofs.taking.take_points.Given.{Over}
 use Rattle.store_log.proofs.taking.take_points.Goals as goal
 
 pub append_entry-requires-clause-entry : goal.append_entry-requires-clause-entry
-append_entry-requires-clause-entry g c = λ a b. (entry.Points (points_of c.args.rises.now), record { within = c.requires.points; is = c.deref.ensures.value ∙ c.in_ok-spell.ensures.ok })
+append_entry-requires-clause-entry g c = (entry.Points (points_of c.args.rises.now), record { within = c.requires.points; is = c.deref.ensures.value ∙ c.in_ok-spell.ensures.ok })
 
 pub returns-in_err-spell-clause-disk : goal.returns-in_err-spell-clause-disk
 returns-in_err-spell-clause-disk g c =

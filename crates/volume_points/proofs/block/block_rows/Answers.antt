@@ -19,8 +19,8 @@ use Rattle.volume_points.proofs.block.block_rows.Goals as goal
 pub returns-in_err-found-clause-leaves : goal.returns-in_err-found-clause-leaves
 returns-in_err-found-clause-leaves g c = leaves_none _ (g.D.Disk.state c.args.disk.now) (memory_alone c.from_residual.result c.from_residual.ensures.1)
 
-pub read-requires-after_bounds : goal.read-requires-after_bounds
-read-requires-after_bounds g c κs within = λ tells.
+pub read-requires : goal.read-requires
+read-requires g c = λ tells.
     let files = (g.D.Disk.state c.args.disk.now).files in
     let test = λ (h : Head). is_head_of c.args.ns c.args.start c.args.size (head_of h) in
     subst (λ (l : List Head). AreThere l files) (sym (c.deref.ensures.value ∙ c.in_ok-found.ensures)) (there_some test c.args.volumes.now files (c.requires.there tells))

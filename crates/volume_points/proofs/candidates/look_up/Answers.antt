@@ -9,13 +9,13 @@ use Rattle.volume_rows.specs.Seekers.{IsSeekerOf}
 use Rattle.volume_points.proofs.candidates.look_up.Goals as goal
 
 pub row_of-requires-clause-there : goal.row_of-requires-clause-there
-row_of-requires-clause-there g c κs outlives = λ later.
+row_of-requires-clause-there g c = λ later.
     let leaves = c.in_ok-seeker.ensures.leaves in
     let tells = sym leaves.proceeds.tells ∙ later in
     subst (IsThere (head_of c.args.head.now)) (sym (leaves.files tells)) (c.requires tells)
 
 pub row_of-requires-clause-seeker : goal.row_of-requires-clause-seeker
-row_of-requires-clause-seeker g c κs outlives = λ later.
+row_of-requires-clause-seeker g c = λ later.
     let leaves = c.in_ok-seeker.ensures.leaves in
     let tells = sym leaves.proceeds.tells ∙ later in
     subst (λ (m : Files). IsSeekerOf (head_of c.args.head.now) c.in_ok-seeker.seeker m) (sym (leaves.files tells)) (c.in_ok-seeker.ensures.ok tells)

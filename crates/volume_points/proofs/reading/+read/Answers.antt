@@ -1,4 +1,4 @@
-use Rattle.std.proofs.Common.{◌∙◌, ◌/◌, ℕ, List, length, take, drop, sym, subst}
+use Rattle.std.proofs.Common.{rules, ◌∙◌, ◌/◌, ℕ, List, length, take, drop, sym, subst}
 use Rattle.std.proofs.lemmas.Result.{IfOk-weaker}
 use Rattle.m3_model.specs.Answers.{IsAnswer}
 use Rattle.m3_model.specs.Contents.{content_of}
@@ -16,18 +16,30 @@ use Rattle.volume_points.proofs.KnownLemmas.{of_back, of_front, there_back, ther
 use Rattle.volume_points.proofs.ReadLemmas.{answer_both, answer_first, answer_none, not_fault}
 use Rattle.volume_points.proofs.reading.+read.Goals as goal
 
-pub read-requires-after_bounds : goal.read-requires-after_bounds
-read-requires-after_bounds g t c κs within = λ tells.
-    let files = (g.D.Disk.state c.args.disk.now).files in
-    subst (λ (l : List Head). AreThere l files) (sym c.split_at.ensures.front) (there_front _ c.args.volumes.now files (c.requires tells))
+pub read-requires : goal.read-requires
+read-requires g t c κs within = (
+  search rules,
+  (
+    search rules,
+    λ tells.
+        let files = (g.D.Disk.state c.args.disk.now).files in
+        subst (λ (l : List Head). AreThere l files) (sym c.split_at.ensures.front) (there_front _ c.args.volumes.now files (c.requires tells)),
+  ),
+)
 
-pub read-requires-in_default-after_bounds : goal.read-requires-in_default-after_bounds
-read-requires-in_default-after_bounds g t c κs within = λ later.
-    let files = (g.D.Disk.state c.args.disk.now).files in
-    let leaves = c.read.ensures.leaves in
-    let tells = sym leaves.proceeds.tells ∙ later in
-    subst (λ (m : Files). AreThere c.split_at.result.1.now m) (sym (leaves.files tells))
-    (subst (λ (l : List Head). AreThere l files) (sym c.split_at.ensures.back) (there_back _ c.args.volumes.now files (c.requires tells)))
+pub read-requires-in_default : goal.read-requires-in_default
+read-requires-in_default g t c κs within = (
+  search rules,
+  (
+    search rules,
+    λ later.
+        let files = (g.D.Disk.state c.args.disk.now).files in
+        let leaves = c.read.ensures.leaves in
+        let tells = sym leaves.proceeds.tells ∙ later in
+        subst (λ (m : Files). AreThere c.split_at.result.1.now m) (sym (leaves.files tells))
+        (subst (λ (l : List Head). AreThere l files) (sym c.split_at.ensures.back) (there_back _ c.args.volumes.now files (c.requires tells))),
+  ),
+)
 
 pub returns-in_err-late-in_default-clause-leaves : goal.returns-in_err-late-in_default-clause-leaves
 returns-in_err-late-in_default-clause-leaves g t c =

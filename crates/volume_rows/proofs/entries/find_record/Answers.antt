@@ -6,8 +6,8 @@ use Rattle.volume_rows.proofs.StretchLemmas.{record_found}
 use Rattle.volume_rows.proofs.DiskLemmas.{entries_inside, entries_read, run_values}
 use Rattle.volume_rows.proofs.entries.find_record.Goals as goal
 
-pub read_stretch-requires-after_bounds : goal.read_stretch-requires-after_bounds
-read_stretch-requires-after_bounds g c κs outlives = λ t.
+pub read_stretch-requires : goal.read_stretch-requires
+read_stretch-requires g c = λ t.
     let there = c.requires.there t in
     entries_inside (head_of c.args.head.now) c.args.id.now there.rows (g.D.Disk.state c.args.disk.now).files c.part_name-file.result there.holds c.args.stretch (c.part_name-file.ensures Index refl)
     (c.requires.entries t there.rows there.holds)

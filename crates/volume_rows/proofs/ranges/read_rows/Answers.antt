@@ -15,8 +15,8 @@ pub returns-then-extent-eq0-clause-ok : goal.returns-then-extent-eq0-clause-ok
 returns-then-extent-eq0-clause-ok g c = λ t rows holds some h.
     c.new.ensures ∙ sym (no_records some (sym h.len ∙ c.if-extent-eq0.true))
 
-pub read_stretch-requires-after_bounds : goal.read_stretch-requires-after_bounds
-read_stretch-requires-after_bounds g c κs outlives = λ t.
+pub read_stretch-requires : goal.read_stretch-requires
+read_stretch-requires g c = λ t.
     let there = c.requires.there t in
     let h = c.requires.records t there.rows there.holds in
     records_inside (head_of c.args.head.now) there.rows (g.D.Disk.state c.args.disk.now).files c.part_name-file.result there.holds h.some c.args.extent (c.part_name-file.ensures Data refl) h.stand

@@ -14,8 +14,8 @@ pub returns-then-stretch-eq0-clause-ok : goal.returns-then-stretch-eq0-clause-ok
 returns-then-stretch-eq0-clause-ok g c = λ t rows holds.
     none_found 1 c.args.id.now (option_copied c.args.last) c.args.most rows c.args.stretch (c.requires.entries t rows holds) c.if-stretch-eq0.true
 
-pub read_stretch-requires-after_bounds : goal.read_stretch-requires-after_bounds
-read_stretch-requires-after_bounds g c κs outlives = λ t.
+pub read_stretch-requires : goal.read_stretch-requires
+read_stretch-requires g c = λ t.
     let there = c.requires.there t in
     range_inside (head_of c.args.head.now) c.args.id.now (option_copied c.args.last) there.rows (g.D.Disk.state c.args.disk.now).files c.part_name-file.result there.holds c.args.stretch (c.part_name-file.ensures Index refl)
     (c.requires.entries t there.rows there.holds)

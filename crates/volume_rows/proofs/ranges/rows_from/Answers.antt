@@ -19,7 +19,7 @@ returns-in-Err-clause-sound g c = λ t.
     absurd (c.in-Err.ensures v there.rows there.holds.values (seeks v there.rows c.args.seeker.now (g.D.Disk.state c.args.disk.now).files (c.requires.seeker t) there.holds))
 
 pub records_from-requires-clause-entries : goal.records_from-requires-clause-entries
-records_from-requires-clause-entries g c κs outlives = λ t rows holds.
+records_from-requires-clause-entries g c = λ t rows holds.
     let v = head_of c.args.head.now in
     c.in-Ok.ensures v rows holds.values (seeks v rows c.args.seeker.now (g.D.Disk.state c.args.disk.now).files (c.requires.seeker t) holds)
 

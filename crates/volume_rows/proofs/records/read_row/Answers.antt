@@ -9,8 +9,8 @@ use Rattle.volume_rows.proofs.StretchLemmas.{record_in}
 use Rattle.volume_rows.proofs.DiskLemmas.{record_inside, record_read}
 use Rattle.volume_rows.proofs.records.read_row.Goals as goal
 
-pub read_stretch-requires-after_bounds : goal.read_stretch-requires-after_bounds
-read_stretch-requires-after_bounds g c κs outlives = λ t.
+pub read_stretch-requires : goal.read_stretch-requires
+read_stretch-requires g c = λ t.
     let there = c.requires.there t in
     record_inside (head_of c.args.head.now) c.args.id.now there.rows (g.D.Disk.state c.args.disk.now).files c.part_name-file.result there.holds c.args.spot c.from.result (c.part_name-file.ensures Data refl)
     (c.requires.record_there t there.rows there.holds) c.from.ensures

@@ -27,7 +27,7 @@ returns-in-Err-clause-sound g c = λ t.
     absurd (c.in-Err.ensures v there.rows there.holds.values (seeks v there.rows c.args.seeker.now (g.D.Disk.state c.args.disk.now).files (c.requires.seeker t) there.holds))
 
 pub find_record-requires-clause-entries : goal.find_record-requires-clause-entries
-find_record-requires-clause-entries g c κs outlives = λ t rows holds.
+find_record-requires-clause-entries g c = λ t rows holds.
     let v = head_of c.args.head.now in
     let found : HasEntries 1 c.args.id.now rows c.in-Ok-Some.stretch =
     subst (FindsEntries 1 c.args.id.now rows) c.in-Ok-Some.field-0-is (c.in-Ok-Some.ensures v rows holds.values (seeks v rows c.args.seeker.now (g.D.Disk.state c.args.disk.now).files (c.requires.seeker t) holds)) in

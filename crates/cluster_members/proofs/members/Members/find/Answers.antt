@@ -9,7 +9,7 @@ pub returns-in_default-kept_of-clause-fetched : goal.returns-in_default-kept_of-
 returns-in_default-kept_of-clause-fetched g c = inl (inr (record { position = c.in-Some.position; found = cc; unkept = c.unkept.ensures c.args.self.now.net.state.place c.args.self.now.past.items (subst (λ (xs : List Placement). KeepsNone c.args.self.now.net.state.place xs c.args.version) c.deref.ensures.value (c.in_default-kept_of.ensures.none refl)); same = same_members c.args.self.now _ _ _ _ _ _ _ }))
 
 pub read_by-requires-clause-there : goal.read_by-requires-clause-there
-read_by-requires-clause-there g c κs within =
+read_by-requires-clause-there g c =
     let now = c.args.self.now in
     let used = c.in-Some-kept_of.ensures.some in
     let at : StandsAt now.net.state.place now.past.items c.in-Some-kept_of.kept used.0 = subst (λ (xs : List Placement). StandsAt now.net.state.place xs c.in-Some-kept_of.kept used.0) c.deref.ensures.value used.1 in

@@ -11,7 +11,7 @@ pub returns-in_default-kept_of-clause-written : goal.returns-in_default-kept_of-
 returns-in_default-kept_of-clause-written g c = inl (inr (record { position = c.in-Some.position; found = cc; unkept = c.unkept.ensures c.args.self.now.net.state.place c.args.self.now.past.items (subst (λ (xs : List Placement). KeepsNone c.args.self.now.net.state.place xs c.args.version) c.deref.ensures.value (c.in_default-kept_of.ensures.none refl)); same = same_members c.args.self.now _ _ _ _ _ _ _ }))
 
 pub write_by-requires-clause-there : goal.write_by-requires-clause-there
-write_by-requires-clause-there g c κs within =
+write_by-requires-clause-there g c =
     let now = c.args.self.now in
     let used = c.in-Some-kept_of.ensures.some in
     let at : StandsAt now.net.state.place now.past.items c.in-Some-kept_of.kept used.0 = subst (λ (xs : List Placement). StandsAt now.net.state.place xs c.in-Some-kept_of.kept used.0) c.deref.ensures.value used.1 in

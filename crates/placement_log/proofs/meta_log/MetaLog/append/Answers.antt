@@ -7,7 +7,7 @@ pub returns-clause-any_moment : goal.returns-clause-any_moment
 returns-clause-any_moment g c = λ t.
     let begun = sym (ap (λ (v : MetaEnd). v.log) c.self.view_is) ∙ c.in-Some.is in
     append_moment c.args.self.now c.args.state.now (g.D.Disk.state c.args.disk.now) c.requires c.in-Some.log begun (g.D.Disk.state c.append.new.disk) c.deref.result.now (c.deref.ensures.value ∙ ap (λ (v : MetaEnd). v.payload) c.self.view_is)
-    ((g.met.D.Disk g.world.𝓛 g.world.𝓜 g.world.𝓡 ((λ s x. x), (λ x. x), (λ x. x), (λ x. x))).lawful c.args.disk.now) t (c.append.ensures.any_moment t)
+    (g.met.D.Disk.lawful c.args.disk.now) t (c.append.ensures.any_moment t)
 
 pub returns-clause-appended : goal.returns-clause-appended
 returns-clause-appended g c =

@@ -12,17 +12,17 @@ returns-then-self-ge-NUMBER_END-clause-any_moment g c = λ t. keeps_none (g.D.Di
 
 pub returns-in-Ok-clause-any_moment : goal.returns-in-Ok-clause-any_moment
 returns-in-Ok-clause-any_moment g c = λ t.
-    begin_moment c.args.self.now (g.D.Disk.state c.args.disk.now) (g.D.Disk.state c.begin.new.disk) ((g.met.D.Disk g.world.𝓛 g.world.𝓜 g.world.𝓡 ((λ s x. x), (λ x. x), (λ x. x), (λ x. x))).lawful c.args.disk.now) c.requires.none c.requires.stands t
+    begin_moment c.args.self.now (g.D.Disk.state c.args.disk.now) (g.D.Disk.state c.begin.new.disk) (g.met.D.Disk.lawful c.args.disk.now) c.requires.none c.requires.stands t
     (subst (λ (n : ℕ). Elapses (MayBeginSegment n) (g.D.Disk.state c.args.disk.now) (g.D.Disk.state c.begin.new.disk)) (ap (λ (v : MetaEnd). v.next) c.self.view_is) (c.begin.ensures.any_moment t))
 
 pub returns-in-Err-Memory-clause-any_moment : goal.returns-in-Err-Memory-clause-any_moment
 returns-in-Err-Memory-clause-any_moment g c = λ t.
-    begin_moment c.args.self.now (g.D.Disk.state c.args.disk.now) (g.D.Disk.state c.begin.new.disk) ((g.met.D.Disk g.world.𝓛 g.world.𝓜 g.world.𝓡 ((λ s x. x), (λ x. x), (λ x. x), (λ x. x))).lawful c.args.disk.now) c.requires.none c.requires.stands t
+    begin_moment c.args.self.now (g.D.Disk.state c.args.disk.now) (g.D.Disk.state c.begin.new.disk) (g.met.D.Disk.lawful c.args.disk.now) c.requires.none c.requires.stands t
     (subst (λ (n : ℕ). Elapses (MayBeginSegment n) (g.D.Disk.state c.args.disk.now) (g.D.Disk.state c.begin.new.disk)) (ap (λ (v : MetaEnd). v.next) c.self.view_is) (c.begin.ensures.any_moment t))
 
 pub returns-in-Err-Failed-clause-any_moment : goal.returns-in-Err-Failed-clause-any_moment
 returns-in-Err-Failed-clause-any_moment g c = λ t.
-    begin_moment c.args.self.now (g.D.Disk.state c.args.disk.now) (g.D.Disk.state c.begin.new.disk) ((g.met.D.Disk g.world.𝓛 g.world.𝓜 g.world.𝓡 ((λ s x. x), (λ x. x), (λ x. x), (λ x. x))).lawful c.args.disk.now) c.requires.none c.requires.stands t
+    begin_moment c.args.self.now (g.D.Disk.state c.args.disk.now) (g.D.Disk.state c.begin.new.disk) (g.met.D.Disk.lawful c.args.disk.now) c.requires.none c.requires.stands t
     (subst (λ (n : ℕ). Elapses (MayBeginSegment n) (g.D.Disk.state c.args.disk.now) (g.D.Disk.state c.begin.new.disk)) (ap (λ (v : MetaEnd). v.next) c.self.view_is) (c.begin.ensures.any_moment t))
 
 pub returns-in-Err-Failed-clause-stands : goal.returns-in-Err-Failed-clause-stands

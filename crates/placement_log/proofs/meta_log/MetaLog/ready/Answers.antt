@@ -2,7 +2,7 @@ use Rattle.std.proofs.Common.{◌≡◌, ◌+◌, ◌≤◌, ℕ, length, Vec, G
 use Rattle.m3_outside.specs.declared.file_name.FileName.{FileName}
 use Rattle.placement_log.specs.MetaHolds.{MetaEnd}
 use Rattle.placement_log.proofs.CallLemmas.{is_ready}
-use Rattle.placement_log.proofs.DiskLemmas.{keeps_none, keeps_left}
+use Rattle.placement_log.proofs.DiskLemmas.{keeps_none, keeps_left, meta_stays}
 use Rattle.placement_log.proofs.meta_log.MetaLog.ready.Goals as goal
 
 pub returns-in_err-payload-clause-any_moment : goal.returns-in_err-payload-clause-any_moment
@@ -16,6 +16,11 @@ pub returns-in_err-reserve-clause-any_moment : goal.returns-in_err-reserve-claus
 returns-in_err-reserve-clause-any_moment g c =
     keeps_left _ (g.D.Disk.state c.args.disk.now) (g.D.Disk.state c.older_segments.new.disk) (g.D.Disk.state c.reserve.new.self) (c.older_segments.ensures.leaves.proceeds.tells ∙ c.make_room.ensures.tells)
     (keeps_left _ (g.D.Disk.state c.args.disk.now) (g.D.Disk.state c.make_room.new.disk) (g.D.Disk.state c.older_segments.new.disk) c.make_room.ensures.tells c.make_room.ensures.any_moment c.older_segments.ensures.leaves) c.reserve.ensures.leaves
+
+pub returns-in_err-reserve-clause-stands : goal.returns-in_err-reserve-clause-stands
+returns-in_err-reserve-clause-stands g c =
+    meta_stays c.make_room.new.self _ (g.D.Disk.state c.older_segments.new.disk) (g.D.Disk.state c.reserve.new.self) c.reserve.ensures.leaves
+    (meta_stays c.make_room.new.self _ (g.D.Disk.state c.make_room.new.disk) (g.D.Disk.state c.older_segments.new.disk) c.older_segments.ensures.leaves c.make_room.ensures.stands)
 
 pub returns-clause-ok : goal.returns-clause-ok
 returns-clause-ok g c =
@@ -31,3 +36,6 @@ pub returns-clause-any_moment : goal.returns-clause-any_moment
 returns-clause-any_moment g c =
     keeps_left _ (g.D.Disk.state c.args.disk.now) (g.D.Disk.state c.older_segments.new.disk) (g.D.Disk.state c.reserve.new.self) (c.older_segments.ensures.leaves.proceeds.tells ∙ c.make_room.ensures.tells)
     (keeps_left _ (g.D.Disk.state c.args.disk.now) (g.D.Disk.state c.make_room.new.disk) (g.D.Disk.state c.older_segments.new.disk) c.make_room.ensures.tells c.make_room.ensures.any_moment c.older_segments.ensures.leaves) c.reserve.ensures.leaves
+
+pub returns-clause-stands : goal.returns-clause-stands
+returns-clause-stands g c = (returns-clause-ok g c).stands

@@ -6,4 +6,4 @@ use Rattle.placement_log.proofs.meta_log.MetaLog.ready_log.Goals as goal
 pub returns-clause-any_moment : goal.returns-clause-any_moment
 returns-clause-any_moment g c = λ t.
     let begun = sym (ap (λ (v : MetaEnd). v.log) c.self.view_is) ∙ c.in-Some.is in
-    next_moment c.in-Some.log (g.D.Disk.state c.args.disk.now) (g.D.Disk.state c.ready.new.disk) ((g.met.D.Disk g.world.𝓛 g.world.𝓜 g.world.𝓡 ((λ s x. x), (λ x. x), (λ x. x), (λ x. x))).lawful c.args.disk.now) (end_stands c.args.self.now c.in-Some.log (g.D.Disk.state c.args.disk.now) begun c.requires.stands) t (c.ready.ensures.any_moment t)
+    next_moment c.in-Some.log (g.D.Disk.state c.args.disk.now) (g.D.Disk.state c.ready.new.disk) (g.met.D.Disk.lawful c.args.disk.now) (end_stands c.args.self.now c.in-Some.log (g.D.Disk.state c.args.disk.now) begun c.requires.stands) t (c.ready.ensures.any_moment t)

@@ -8,7 +8,7 @@ use Rattle.replica_calls.proofs.TrackLemmas.{at_slot, tracked_with, may_call, mi
 use Rattle.replica_calls.proofs.replicas.Replicas.read.Goals as goal
 
 pub read_on-requires-clause-is : goal.read_on-requires-clause-is
-read_on-requires-clause-is g c κs lives = at_slot g.D.Disk.state c.self.inside.map c.args.slot c.in-Some.member.now c.self.inside.trail c.self.invariant c.in-Some.ensures.value
+read_on-requires-clause-is g c = at_slot g.D.Disk.state c.self.inside.map c.args.slot c.in-Some.member.now c.self.inside.trail c.self.invariant c.in-Some.ensures.value
 
 pub invariant_of-self : goal.invariant_of-self
 invariant_of-self g c =

@@ -8,7 +8,7 @@ use Rattle.replica_calls.proofs.TrackLemmas.{at_slot, looked_at, tracked_with, m
 use Rattle.replica_calls.proofs.replicas.Replicas.report.Goals as goal
 
 pub report_on-requires-clause-is : goal.report_on-requires-clause-is
-report_on-requires-clause-is g c κs lives = at_slot g.D.Disk.state c.self.inside.map c.args.slot c.in-Some.member.now c.self.inside.trail c.self.invariant c.in-Some.ensures.value
+report_on-requires-clause-is g c = at_slot g.D.Disk.state c.self.inside.map c.args.slot c.in-Some.member.now c.self.inside.trail c.self.invariant c.in-Some.ensures.value
 
 pub invariant_of-self : goal.invariant_of-self
 invariant_of-self g c =

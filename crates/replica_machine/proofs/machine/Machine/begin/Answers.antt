@@ -78,7 +78,7 @@ pub returns-then-tenure-loaded-clause-began : goal.returns-then-tenure-loaded-cl
 returns-then-tenure-loaded-clause-began g c =
     let inside = c.self.inside in
     let loaded = c.in-Ok.loaded in
-    let lawful = (g.met.D.Disk g.world.𝓛 g.world.𝓜 g.world.𝓡 ((λ s x. x), (λ x. x), (λ x. x), (λ x. x))).lawful inside.store.disk in
+    let lawful = g.met.D.Disk.lawful inside.store.disk in
     let done =
     higher_of g.D.Disk.state inside.standing inside.tenure inside.begun inside.work c.args.self.now inside.store c.load.new.self c.self.view_is c.args.tenure c.requires.boot c.requires.high c.in-Ok.ensures.closed c.in-Ok.ensures.tells
     c.in-Ok.ensures.any_moment c.in-Ok.ensures.faults c.in-Ok.ensures.files loaded.points loaded.tenure loaded.fence c.in-Ok.ensures.ok c.if-tenure-loaded.true lawful.read_is_image in
@@ -88,7 +88,7 @@ pub returns-then-tenure-loaded-clause-not_down : goal.returns-then-tenure-loaded
 returns-then-tenure-loaded-clause-not_down g c =
     let inside = c.self.inside in
     let loaded = c.in-Ok.loaded in
-    let lawful = (g.met.D.Disk g.world.𝓛 g.world.𝓜 g.world.𝓡 ((λ s x. x), (λ x. x), (λ x. x), (λ x. x))).lawful inside.store.disk in
+    let lawful = g.met.D.Disk.lawful inside.store.disk in
     let done =
     higher_of g.D.Disk.state inside.standing inside.tenure inside.begun inside.work c.args.self.now inside.store c.load.new.self c.self.view_is c.args.tenure c.requires.boot c.requires.high c.in-Ok.ensures.closed c.in-Ok.ensures.tells
     c.in-Ok.ensures.any_moment c.in-Ok.ensures.faults c.in-Ok.ensures.files loaded.points loaded.tenure loaded.fence c.in-Ok.ensures.ok c.if-tenure-loaded.true lawful.read_is_image in
@@ -98,7 +98,7 @@ pub returns-then-tenure-loaded-clause-unowned : goal.returns-then-tenure-loaded-
 returns-then-tenure-loaded-clause-unowned g c =
     let inside = c.self.inside in
     let loaded = c.in-Ok.loaded in
-    let lawful = (g.met.D.Disk g.world.𝓛 g.world.𝓜 g.world.𝓡 ((λ s x. x), (λ x. x), (λ x. x), (λ x. x))).lawful inside.store.disk in
+    let lawful = g.met.D.Disk.lawful inside.store.disk in
     let done =
     higher_of g.D.Disk.state inside.standing inside.tenure inside.begun inside.work c.args.self.now inside.store c.load.new.self c.self.view_is c.args.tenure c.requires.boot c.requires.high c.in-Ok.ensures.closed c.in-Ok.ensures.tells
     c.in-Ok.ensures.any_moment c.in-Ok.ensures.faults c.in-Ok.ensures.files loaded.points loaded.tenure loaded.fence c.in-Ok.ensures.ok c.if-tenure-loaded.true lawful.read_is_image in
@@ -108,7 +108,7 @@ pub returns-then-tenure-loaded-clause-damage : goal.returns-then-tenure-loaded-c
 returns-then-tenure-loaded-clause-damage g c =
     let inside = c.self.inside in
     let loaded = c.in-Ok.loaded in
-    let lawful = (g.met.D.Disk g.world.𝓛 g.world.𝓜 g.world.𝓡 ((λ s x. x), (λ x. x), (λ x. x), (λ x. x))).lawful inside.store.disk in
+    let lawful = g.met.D.Disk.lawful inside.store.disk in
     let done =
     higher_of g.D.Disk.state inside.standing inside.tenure inside.begun inside.work c.args.self.now inside.store c.load.new.self c.self.view_is c.args.tenure c.requires.boot c.requires.high c.in-Ok.ensures.closed c.in-Ok.ensures.tells
     c.in-Ok.ensures.any_moment c.in-Ok.ensures.faults c.in-Ok.ensures.files loaded.points loaded.tenure loaded.fence c.in-Ok.ensures.ok c.if-tenure-loaded.true lawful.read_is_image in
@@ -118,7 +118,7 @@ pub returns-then-tenure-loaded-clause-err : goal.returns-then-tenure-loaded-clau
 returns-then-tenure-loaded-clause-err g c =
     let inside = c.self.inside in
     let loaded = c.in-Ok.loaded in
-    let lawful = (g.met.D.Disk g.world.𝓛 g.world.𝓜 g.world.𝓡 ((λ s x. x), (λ x. x), (λ x. x), (λ x. x))).lawful inside.store.disk in
+    let lawful = g.met.D.Disk.lawful inside.store.disk in
     let done =
     higher_of g.D.Disk.state inside.standing inside.tenure inside.begun inside.work c.args.self.now inside.store c.load.new.self c.self.view_is c.args.tenure c.requires.boot c.requires.high c.in-Ok.ensures.closed c.in-Ok.ensures.tells
     c.in-Ok.ensures.any_moment c.in-Ok.ensures.faults c.in-Ok.ensures.files loaded.points loaded.tenure loaded.fence c.in-Ok.ensures.ok c.if-tenure-loaded.true lawful.read_is_image in
@@ -128,7 +128,7 @@ pub returns-then-tenure-loaded-clause-disk : goal.returns-then-tenure-loaded-cla
 returns-then-tenure-loaded-clause-disk g c =
     let inside = c.self.inside in
     let loaded = c.in-Ok.loaded in
-    let lawful = (g.met.D.Disk g.world.𝓛 g.world.𝓜 g.world.𝓡 ((λ s x. x), (λ x. x), (λ x. x), (λ x. x))).lawful inside.store.disk in
+    let lawful = g.met.D.Disk.lawful inside.store.disk in
     let done =
     higher_of g.D.Disk.state inside.standing inside.tenure inside.begun inside.work c.args.self.now inside.store c.load.new.self c.self.view_is c.args.tenure c.requires.boot c.requires.high c.in-Ok.ensures.closed c.in-Ok.ensures.tells
     c.in-Ok.ensures.any_moment c.in-Ok.ensures.faults c.in-Ok.ensures.files loaded.points loaded.tenure loaded.fence c.in-Ok.ensures.ok c.if-tenure-loaded.true lawful.read_is_image in
@@ -138,7 +138,7 @@ pub returns-then-tenure-loaded-clause-step : goal.returns-then-tenure-loaded-cla
 returns-then-tenure-loaded-clause-step g c =
     let inside = c.self.inside in
     let loaded = c.in-Ok.loaded in
-    let lawful = (g.met.D.Disk g.world.𝓛 g.world.𝓜 g.world.𝓡 ((λ s x. x), (λ x. x), (λ x. x), (λ x. x))).lawful inside.store.disk in
+    let lawful = g.met.D.Disk.lawful inside.store.disk in
     let done =
     higher_of g.D.Disk.state inside.standing inside.tenure inside.begun inside.work c.args.self.now inside.store c.load.new.self c.self.view_is c.args.tenure c.requires.boot c.requires.high c.in-Ok.ensures.closed c.in-Ok.ensures.tells
     c.in-Ok.ensures.any_moment c.in-Ok.ensures.faults c.in-Ok.ensures.files loaded.points loaded.tenure loaded.fence c.in-Ok.ensures.ok c.if-tenure-loaded.true lawful.read_is_image in

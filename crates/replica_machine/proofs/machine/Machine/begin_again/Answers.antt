@@ -12,8 +12,8 @@ failed g c =
     again_left g.D.Disk.state inside.standing inside.tenure inside.begun inside.work c.args.self.now inside.store c.begin.new.self c.self.view_is c.args.tenure (ap closed c.requires.open_) c.requires.high c.in-Err.why c.fall.new.standing c.fall.result c.in-Err.ensures.memory c.in-Err.ensures.fault
     c.fall.ensures.why c.fall.ensures.down c.fall.ensures.stays c.in-Err.ensures.disk
 
-pub begin-requires-clause-open_ : goal.begin-requires-clause-open_
-begin-requires-clause-open_ g c = λ a b. store_open c.self.inside.standing c.self.inside.store c.self.invariant (ap (λ m. m.standing) c.self.view_is ∙ c.requires.open_)
+pub begin-requires : goal.begin-requires
+begin-requires g c = record { open_ = store_open c.self.inside.standing c.self.inside.store c.self.invariant (ap (λ m. m.standing) c.self.view_is ∙ c.requires.open_) }
 
 pub returns-in-Err-clause-again : goal.returns-in-Err-clause-again
 returns-in-Err-clause-again g c = tt

@@ -46,8 +46,8 @@ settles g c =
     (subst (λ t. unowned t version ≡ None) (ap (λ m. m.tenure) c.self.view_is) c.in_ok-check_owner.ensures.ok) in
     fence_done g.D.Disk.state old version first mid said c.settle.result _ c.settle.ensures.said left by
 
-pub fence-said-requires-clause-open_ : goal.fence-said-requires-clause-open_
-fence-said-requires-clause-open_ g c = λ a b. store_open c.self.inside.standing c.self.inside.store c.self.invariant (fence_open c.self.inside.standing c.in_ok-check_open.ensures.ok)
+pub fence-said-requires : goal.fence-said-requires
+fence-said-requires g c = record { open_ = store_open c.self.inside.standing c.self.inside.store c.self.invariant (fence_open c.self.inside.standing c.in_ok-check_open.ensures.ok) }
 
 pub invariant_of-self : goal.invariant_of-self
 invariant_of-self g c =

@@ -58,7 +58,7 @@ answered g c =
     settled.ok settled.down settled.memory))
 
 pub flush-said-requires-clause-open_ : goal.flush-said-requires-clause-open_
-flush-said-requires-clause-open_ g c = λ a b. store_open c.self.inside.standing c.self.inside.store c.self.invariant (fence_open c.self.inside.standing c.in_ok-check_open.ensures.ok)
+flush-said-requires-clause-open_ g c = store_open c.self.inside.standing c.self.inside.store c.self.invariant (fence_open c.self.inside.standing c.in_ok-check_open.ensures.ok)
 
 pub invariant_of-self : goal.invariant_of-self
 invariant_of-self g c =

@@ -38,10 +38,12 @@ fetched g c =
     (merge_done g.D.Disk.state inside.standing inside.tenure inside.begun inside.work inside.store said.new.self c.args.page.now served said.result c.settle_files.result c.settle_files.new.standing c.settle_files.ensures.said
     said.ensures.ok said.ensures.memory said.ensures.closed said.ensures.sound said.ensures.disk c.settle_files.ensures.ok c.settle_files.ensures.down c.settle_files.ensures.memory))
 
-pub merge-said-requires-clause-open_ : goal.merge-said-requires-clause-open_
-merge-said-requires-clause-open_ g c = λ a b.
-    let is_up = holds_it c.args.self.now.standing c.args.self.now.tenure c.in_ok-check_owned.ensures.ok in
-    store_open c.self.inside.standing c.self.inside.store c.self.invariant (ap (λ m. m.standing) c.self.view_is ∙ is_up.open_)
+pub merge-said-requires : goal.merge-said-requires
+merge-said-requires g c = record {
+  open_ =
+      let is_up = holds_it c.args.self.now.standing c.args.self.now.tenure c.in_ok-check_owned.ensures.ok in
+      store_open c.self.inside.standing c.self.inside.store c.self.invariant (ap (λ m. m.standing) c.self.view_is ∙ is_up.open_);
+}
 
 pub invariant_of-self : goal.invariant_of-self
 invariant_of-self g c =

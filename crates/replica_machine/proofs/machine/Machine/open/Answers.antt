@@ -23,16 +23,16 @@ failed g c =
     (closed_moved inside.store c.open_store.new.store (store_closed inside.standing inside.store c.self.invariant is_boot) c.in-Err.ensures.err) c.refused.ensures.why c.refused.ensures.left c.in-Err.ensures.disk
 
 pub open_store-requires-clause-closed : goal.open_store-requires-clause-closed
-open_store-requires-clause-closed g c = λ a b. store_closed c.self.inside.standing c.self.inside.store c.self.invariant (ap (λ m. m.standing) c.self.view_is ∙ c.requires.boot)
+open_store-requires-clause-closed g c = store_closed c.self.inside.standing c.self.inside.store c.self.invariant (ap (λ m. m.standing) c.self.view_is ∙ c.requires.boot)
 
 pub open_store-requires-clause-held : goal.open_store-requires-clause-held
-open_store-requires-clause-held g c = λ a b. subst (λ d. Told (g.D.Disk.state d) (HeldOnce c.args.loaded.points c.args.loaded.tenure c.args.loaded.fence)) (sym (ap (λ m. m.disk) c.self.view_is)) c.requires.held
+open_store-requires-clause-held g c = subst (λ d. Told (g.D.Disk.state d) (HeldOnce c.args.loaded.points c.args.loaded.tenure c.args.loaded.fence)) (sym (ap (λ m. m.disk) c.self.view_is)) c.requires.held
 
 pub open_store-requires-clause-only : goal.open_store-requires-clause-only
-open_store-requires-clause-only g c = λ a b. subst (λ d. EachImage (g.D.Disk.state d) (λ x. x ≡ (g.D.Disk.state d).files)) (sym (ap (λ m. m.disk) c.self.view_is)) c.requires.only
+open_store-requires-clause-only g c = subst (λ d. EachImage (g.D.Disk.state d) (λ x. x ≡ (g.D.Disk.state d).files)) (sym (ap (λ m. m.disk) c.self.view_is)) c.requires.only
 
 pub open_store-requires-clause-fresh : goal.open_store-requires-clause-fresh
-open_store-requires-clause-fresh g c = λ a b. subst (λ d. Told (g.D.Disk.state d) (NoneFrom c.args.loaded.next_segment)) (sym (ap (λ m. m.disk) c.self.view_is)) c.requires.fresh
+open_store-requires-clause-fresh g c = subst (λ d. Told (g.D.Disk.state d) (NoneFrom c.args.loaded.next_segment)) (sym (ap (λ m. m.disk) c.self.view_is)) c.requires.fresh
 
 pub invariant_of-self : goal.invariant_of-self
 invariant_of-self g c = store_shut c.self.inside.standing c.open_store.new.store (ap (λ m. m.standing) c.self.view_is ∙ c.requires.boot) c.in-Err.ensures.err
@@ -64,7 +64,7 @@ returns-clause-began g c =
     let inside = c.self.inside in
     let loaded = c.args.loaded in
     let began : Began = record { fence = c.present_fence-fence.result; points = loaded.points } in
-    let image = ((g.met.D.Disk g.world.𝓛 g.world.𝓜 g.world.𝓡 ((λ s x. x), (λ x. x), (λ x. x), (λ x. x))).lawful c.args.self.now.disk).read_is_image in
+    let image = (g.met.D.Disk.lawful c.args.self.now.disk).read_is_image in
     let done =
     open_done g.D.Disk.state inside.standing inside.tenure inside.begun inside.work c.args.self.now inside.store c.open_store.new.store c.self.view_is c.args.tenure began tt c.requires.boot c.requires.high loaded.points loaded.tenure loaded.fence c.requires.not_higher
     c.requires.held c.requires.only image (beside_volumes loaded) c.in_default.ensures.ok (subst (λ d. (g.D.Disk.state d).tells ≡ true → c.open_store.new.store.content ≡ content_of loaded.points) (ap (λ m. m.disk) c.self.view_is) c.in_default.ensures.content) (λ told. beside loaded (g.D.Disk.state c.args.self.now.disk).files (c.requires.volumes told)) c.in_default.ensures.disk c.present_fence-fence.ensures refl in
@@ -75,7 +75,7 @@ returns-clause-disk g c =
     let inside = c.self.inside in
     let loaded = c.args.loaded in
     let began : Began = record { fence = c.present_fence-fence.result; points = loaded.points } in
-    let image = ((g.met.D.Disk g.world.𝓛 g.world.𝓜 g.world.𝓡 ((λ s x. x), (λ x. x), (λ x. x), (λ x. x))).lawful c.args.self.now.disk).read_is_image in
+    let image = (g.met.D.Disk.lawful c.args.self.now.disk).read_is_image in
     let done =
     open_done g.D.Disk.state inside.standing inside.tenure inside.begun inside.work c.args.self.now inside.store c.open_store.new.store c.self.view_is c.args.tenure began tt c.requires.boot c.requires.high loaded.points loaded.tenure loaded.fence c.requires.not_higher
     c.requires.held c.requires.only image (beside_volumes loaded) c.in_default.ensures.ok (subst (λ d. (g.D.Disk.state d).tells ≡ true → c.open_store.new.store.content ≡ content_of loaded.points) (ap (λ m. m.disk) c.self.view_is) c.in_default.ensures.content) (λ told. beside loaded (g.D.Disk.state c.args.self.now.disk).files (c.requires.volumes told)) c.in_default.ensures.disk c.present_fence-fence.ensures refl in
@@ -86,7 +86,7 @@ returns-clause-step g c =
     let inside = c.self.inside in
     let loaded = c.args.loaded in
     let began : Began = record { fence = c.present_fence-fence.result; points = loaded.points } in
-    let image = ((g.met.D.Disk g.world.𝓛 g.world.𝓜 g.world.𝓡 ((λ s x. x), (λ x. x), (λ x. x), (λ x. x))).lawful c.args.self.now.disk).read_is_image in
+    let image = (g.met.D.Disk.lawful c.args.self.now.disk).read_is_image in
     let done =
     open_done g.D.Disk.state inside.standing inside.tenure inside.begun inside.work c.args.self.now inside.store c.open_store.new.store c.self.view_is c.args.tenure began tt c.requires.boot c.requires.high loaded.points loaded.tenure loaded.fence c.requires.not_higher
     c.requires.held c.requires.only image (beside_volumes loaded) c.in_default.ensures.ok (subst (λ d. (g.D.Disk.state d).tells ≡ true → c.open_store.new.store.content ≡ content_of loaded.points) (ap (λ m. m.disk) c.self.view_is) c.in_default.ensures.content) (λ told. beside loaded (g.D.Disk.state c.args.self.now.disk).files (c.requires.volumes told)) c.in_default.ensures.disk c.present_fence-fence.ensures refl in

@@ -37,10 +37,12 @@ fetched g c =
     (page_done g.D.Disk.state inside.standing inside.tenure inside.begun inside.work inside.store said.new.self (option_copied c.args.after) served said.result c.settle_files.result c.settle_files.new.standing c.settle_files.ensures.said
     said.ensures.page said.ensures.ok said.ensures.memory said.ensures.closed said.ensures.sound said.ensures.leaves c.settle_files.ensures.ok c.settle_files.ensures.down c.settle_files.ensures.memory)
 
-pub page-said-requires-clause-open_ : goal.page-said-requires-clause-open_
-page-said-requires-clause-open_ g c = λ a b.
-    let is_up = holds_it c.args.self.now.standing c.args.self.now.tenure c.in_ok-check_owned.ensures.ok in
-    store_open c.self.inside.standing c.self.inside.store c.self.invariant (ap (λ m. m.standing) c.self.view_is ∙ is_up.open_)
+pub page-said-requires : goal.page-said-requires
+page-said-requires g c = record {
+  open_ =
+      let is_up = holds_it c.args.self.now.standing c.args.self.now.tenure c.in_ok-check_owned.ensures.ok in
+      store_open c.self.inside.standing c.self.inside.store c.self.invariant (ap (λ m. m.standing) c.self.view_is ∙ is_up.open_);
+}
 
 pub invariant_of-self : goal.invariant_of-self
 invariant_of-self g c =

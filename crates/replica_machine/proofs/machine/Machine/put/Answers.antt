@@ -50,7 +50,7 @@ settles g c =
     put_done g.D.Disk.state c.args.self.now c.args.version rules point c.in_ok-check_version.ensures.ok (in_window rules point c.requires.space c.in_ok-check_window.ensures.ok) c.in_ok-check_window.ensures.ok mid said c.settle.result _ c.settle.ensures.said left by
 
 pub put-said-requires-clause-open_ : goal.put-said-requires-clause-open_
-put-said-requires-clause-open_ g c = λ a b.
+put-said-requires-clause-open_ g c =
     let is_up = up c.args.self.now.standing c.args.self.now.tenure c.args.self.now.fence c.args.version c.in_ok-check_version.ensures.ok in
     store_open c.self.inside.standing c.self.inside.store c.self.invariant (ap (λ m. m.standing) c.self.view_is ∙ is_up.open_)
 

@@ -51,10 +51,12 @@ fetched g c =
     (λ series answer. live_answer inside.store.content rules pick c.args.from c.first_live-first.result c.args.to space series at first.low (λ t below low. first.live t (let fits : c.args.to < 2 ^ 64 = c.ranges.to.fits in omega arith) low) first.first answer) (said.ensures.answer tells))
     said.ensures.ordered said.ensures.ok said.ensures.memory said.ensures.closed said.ensures.sound said.ensures.leaves c.settle_files.ensures.ok c.settle_files.ensures.down c.settle_files.ensures.memory)
 
-pub fetch-said-requires-clause-open_ : goal.fetch-said-requires-clause-open_
-fetch-said-requires-clause-open_ g c = λ a b.
-    let is_up = up c.args.self.now.standing c.args.self.now.tenure c.args.self.now.fence c.args.version c.in_ok-check_version.ensures.ok in
-    store_open c.self.inside.standing c.self.inside.store c.self.invariant (ap (λ m. m.standing) c.self.view_is ∙ is_up.open_)
+pub fetch-said-requires : goal.fetch-said-requires
+fetch-said-requires g c = record {
+  open_ =
+      let is_up = up c.args.self.now.standing c.args.self.now.tenure c.args.self.now.fence c.args.version c.in_ok-check_version.ensures.ok in
+      store_open c.self.inside.standing c.self.inside.store c.self.invariant (ap (λ m. m.standing) c.self.view_is ∙ is_up.open_);
+}
 
 pub invariant_of-self : goal.invariant_of-self
 invariant_of-self g c =

@@ -33,8 +33,8 @@ answered g c =
     said.ensures.ok said.ensures.number said.ensures.saved said.ensures.volumes said.ensures.memory said.ensures.fault said.ensures.disk
     c.settle.ensures.down c.settle.ensures.stays))
 
-pub snapshot-said-requires-clause-open_ : goal.snapshot-said-requires-clause-open_
-snapshot-said-requires-clause-open_ g c = λ a b. store_open c.self.inside.standing c.self.inside.store c.self.invariant (fence_open c.self.inside.standing c.in_ok-check_open.ensures.ok)
+pub snapshot-said-requires : goal.snapshot-said-requires
+snapshot-said-requires g c = record { open_ = store_open c.self.inside.standing c.self.inside.store c.self.invariant (fence_open c.self.inside.standing c.in_ok-check_open.ensures.ok) }
 
 pub invariant_of-self : goal.invariant_of-self
 invariant_of-self g c =

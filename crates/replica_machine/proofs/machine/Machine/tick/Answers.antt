@@ -45,11 +45,11 @@ answered g c =
     subst (λ (w : Work). TickDone g.D.Disk.state c.args.self.now c.args.rules.now c.settle_files.result (machine_of c.settle_files.new.standing inside.tenure inside.begun w said.new.self)) (sym c.note_tick.ensures)
     (subst (λ m. TickDone g.D.Disk.state m c.args.rules.now c.settle_files.result (machine_of c.settle_files.new.standing inside.tenure inside.begun (work_after with_tick said.result inside.work) said.new.self)) c.self.view_is
     (tick_done g.D.Disk.state inside.standing inside.tenure inside.begun inside.work inside.store said.new.self c.args.rules.now is_open said.result c.settle_files.result c.settle_files.new.standing settled.said
-    said.ensures.ok said.ensures.lost said.ensures.there said.ensures.stays ((g.met.D.Disk g.world.𝓛 g.world.𝓜 g.world.𝓡 ((λ s x. x), (λ x. x), (λ x. x), (λ x. x))).lawful inside.store.disk).read_is_image said.ensures.memory said.ensures.unchanged said.ensures.closed said.ensures.sound said.ensures.disk
+    said.ensures.ok said.ensures.lost said.ensures.there said.ensures.stays (g.met.D.Disk.lawful inside.store.disk).read_is_image said.ensures.memory said.ensures.unchanged said.ensures.closed said.ensures.sound said.ensures.disk
     settled.ok settled.down settled.memory))
 
-pub tick-said-requires-clause-open_ : goal.tick-said-requires-clause-open_
-tick-said-requires-clause-open_ g c = λ a b. store_open c.self.inside.standing c.self.inside.store c.self.invariant (fence_open c.self.inside.standing c.in_ok-check_open.ensures.ok)
+pub tick-said-requires : goal.tick-said-requires
+tick-said-requires g c = record { open_ = store_open c.self.inside.standing c.self.inside.store c.self.invariant (fence_open c.self.inside.standing c.in_ok-check_open.ensures.ok) }
 
 pub invariant_of-self : goal.invariant_of-self
 invariant_of-self g c =

@@ -1,8 +1,8 @@
 use Rattle.served_cluster.proofs.JoinLemmas.{ends, here}
 use Rattle.served_cluster.proofs.cluster.Cluster.end_sources.Goals as goal
 
-pub end_sources-requires-after_bounds : goal.end_sources-requires-after_bounds
-end_sources-requires-after_bounds g c κs within = here c.args.self.now c.in-Some.members c.in-Some.is _ c.requires
+pub end_sources-requires : goal.end_sources-requires
+end_sources-requires g c = here c.args.self.now c.in-Some.members c.in-Some.is _ c.requires
 
 pub returns : goal.returns
 returns g c =

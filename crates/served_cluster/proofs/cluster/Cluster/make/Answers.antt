@@ -1,5 +1,4 @@
 use Rattle.std.proofs.Common.{refl}
-use Rattle.line_tracks.specs.first_cluster.Depots.{depot_by}
 use Rattle.served_cluster.proofs.PlanLemmas.{made_serves, planned_changes, planned_here}
 use Rattle.served_cluster.proofs.cluster.Cluster.make.Goals as goal
 
@@ -9,4 +8,4 @@ returns-clause-served g c = λ a planned.
     let old = c.args.self.now in
     let m = c.in-Some.members in
     let h = planned_here old m a c.args.plan c.in-Some.is planned in
-    made_serves g.D.Disk.state (depot_by g.X.Disks.held g.X.Disks.counted g.X.Disks.all_faults c.args.disks.now) (depot_by g.X.Disks.held g.X.Disks.counted g.X.Disks.all_faults made.new.disks) old _ m made.new.members a made.result.0 c.in-Some.is refl refl (planned_changes m a c.args.plan h) (made.ensures.makes a h)
+    made_serves g.D.Disk.state (g.X.Disks.depot c.args.disks.now) (g.X.Disks.depot made.new.disks) old _ m made.new.members a made.result.0 c.in-Some.is refl refl (planned_changes m a c.args.plan h) (made.ensures.makes a h)

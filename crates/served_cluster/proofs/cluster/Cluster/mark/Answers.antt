@@ -3,8 +3,8 @@ use Rattle.served_cluster.proofs.JoinLemmas.{here, state_by}
 use Rattle.served_cluster.proofs.KeptLemmas.{still_so}
 use Rattle.served_cluster.proofs.cluster.Cluster.mark.Goals as goal
 
-pub mark-requires-after_bounds : goal.mark-requires-after_bounds
-mark-requires-after_bounds g c κs within = here c.args.self.now c.in-Some.members c.in-Some.is _ c.requires
+pub mark-requires : goal.mark-requires
+mark-requires g c = here c.args.self.now c.in-Some.members c.in-Some.is _ c.requires
 
 pub returns : goal.returns
 returns g c =

@@ -15,7 +15,7 @@ pub returns-in_err-put_tenure-clause-disk : goal.returns-in_err-put_tenure-claus
 returns-in_err-put_tenure-clause-disk g c = brings_none (a_tenure c.args.tenure) c.from_residual.result (g.D.Disk.state c.args.disk.now) (err_is c.from_residual.result Memory c.from_residual.ensures)
 
 pub log_entry-requires-clause-entry : goal.log_entry-requires-clause-entry
-log_entry-requires-clause-entry g c = λ a b. (entry.Tenure c.args.tenure, record { within = c.ranges.tenure.fits; is = c.deref.ensures.value ∙ c.in_ok-put_tenure.ensures.ok ∙ ap (λ (l : List ℕ). l ++ tenure_entry c.args.tenure) c.clear.ensures.items })
+log_entry-requires-clause-entry g c = (entry.Tenure c.args.tenure, record { within = c.ranges.tenure.fits; is = c.deref.ensures.value ∙ c.in_ok-put_tenure.ensures.ok ∙ ap (λ (l : List ℕ). l ++ tenure_entry c.args.tenure) c.clear.ensures.items })
 
 pub returns-in_err-log_entry-clause-disk : goal.returns-in_err-log_entry-clause-disk
 returns-in_err-log_entry-clause-disk g c =

@@ -5,7 +5,7 @@ use Rattle.m3_outside.specs.declared.disk_err.DiskErr.TheVariants.{Failed as Dis
 use Rattle.store_log.specs.listed_volumes.block_buffer.Held.{InMemory, has_expired, without}
 use Rattle.store_log.specs.listed_volumes.fileset_read.declared.file_err.FileErr.TheVariants as unread
 use Rattle.store_log.specs.listed_volumes.shard_files.Parts.{KnownVolume}
-use Rattle.shard_open.proofs.Counts.{counts_for}
+use Rattle.shard_store.proofs.Counts.{counts_for}
 use Rattle.store_log.specs.snapshot_steps.volume_steps.Known.{HoldsKnown}
 use Rattle.store_log.specs.listed_volumes.Listed.{known_in}
 use Rattle.shard_store.specs.StoreParts.{content_of_opened}
@@ -25,7 +25,7 @@ returns-in_err-remove_volumes-clause-disk g c =
     let rules = c.args.rules.now in
     let ks = known_in s.volumes.items in
     let a = g.D.Disk.state c.args.disk.now in
-    let lawful = (g.met.D.Disk g.world.𝓛 g.world.𝓜 g.world.𝓡 ((λ s x. x), (λ x. x), (λ x. x), (λ x. x))).lawful c.args.disk.now in
+    let lawful = g.met.D.Disk.lawful c.args.disk.now in
     record {
       any_moment = λ tells. c.remove_volumes.ensures.any_moment (without (content_of_opened s) (has_expired rules)) (without s.held.points (has_expired rules)) ks s.tenure s.fence
           (live_known rules ks s.held.points c.args.goes.now c.requires.goes s.tenure s.fence a lawful c.requires.kept.exact)
@@ -43,7 +43,7 @@ returns-clause-kept g c =
     let m = s.held.points in
     let live = without m (has_expired rules) in
     let b = g.D.Disk.state c.remove_volumes.new.disk in
-    let lawful = (g.met.D.Disk g.world.𝓛 g.world.𝓜 g.world.𝓡 ((λ s x. x), (λ x. x), (λ x. x), (λ x. x))).lawful c.args.disk.now in
+    let lawful = g.met.D.Disk.lawful c.args.disk.now in
     let each = live_known rules ks m c.args.goes.now c.requires.goes s.tenure s.fence (g.D.Disk.state c.args.disk.now) lawful c.requires.kept.exact in
     let left = live_left rules ks m c.args.goes.now c.requires.goes s.tenure s.fence (g.D.Disk.state c.args.disk.now) lawful c.requires.kept.exact b c.remove_volumes.ensures.tells (c.in_ok-remove_volumes.ensures.known live ks s.tenure s.fence each) in
     record {
@@ -60,7 +60,7 @@ returns-clause-disk g c =
     let rules = c.args.rules.now in
     let ks = known_in s.volumes.items in
     let a = g.D.Disk.state c.args.disk.now in
-    let lawful = (g.met.D.Disk g.world.𝓛 g.world.𝓜 g.world.𝓡 ((λ s x. x), (λ x. x), (λ x. x), (λ x. x))).lawful c.args.disk.now in
+    let lawful = g.met.D.Disk.lawful c.args.disk.now in
     record {
       any_moment = λ tells. c.remove_volumes.ensures.any_moment (without (content_of_opened s) (has_expired rules)) (without s.held.points (has_expired rules)) ks s.tenure s.fence
           (live_known rules ks s.held.points c.args.goes.now c.requires.goes s.tenure s.fence a lawful c.requires.kept.exact)

@@ -15,7 +15,7 @@ pub returns-in_err-put_fence-clause-disk : goal.returns-in_err-put_fence-clause-
 returns-in_err-put_fence-clause-disk g c = brings_none (a_fence c.args.version) c.from_residual.result (g.D.Disk.state c.args.disk.now) (err_is c.from_residual.result Memory c.from_residual.ensures)
 
 pub log_entry-requires-clause-entry : goal.log_entry-requires-clause-entry
-log_entry-requires-clause-entry g c = λ a b. (entry.Fence c.args.version, record { within = c.ranges.version.fits; is = c.deref.ensures.value ∙ c.in_ok-put_fence.ensures.ok ∙ ap (λ (l : List ℕ). l ++ fence_entry c.args.version) c.clear.ensures.items })
+log_entry-requires-clause-entry g c = (entry.Fence c.args.version, record { within = c.ranges.version.fits; is = c.deref.ensures.value ∙ c.in_ok-put_fence.ensures.ok ∙ ap (λ (l : List ℕ). l ++ fence_entry c.args.version) c.clear.ensures.items })
 
 pub returns-in_err-log_entry-clause-disk : goal.returns-in_err-log_entry-clause-disk
 returns-in_err-log_entry-clause-disk g c =

@@ -47,13 +47,13 @@ returns-in_err-olds-clause-disk g c =
 -- ---- what is written in their place
 
 pub replace_block-requires-clause-kept : goal.replace_block-requires-clause-kept
-replace_block-requires-clause-kept g c κs within = opened_left c.args.self.now _ (g.D.Disk.state c.args.disk.now) (g.D.Disk.state c.rows_of.new.disk) c.rows_of.ensures.leaves c.requires.kept
+replace_block-requires-clause-kept g c = opened_left c.args.self.now _ (g.D.Disk.state c.args.disk.now) (g.D.Disk.state c.rows_of.new.disk) c.rows_of.ensures.leaves c.requires.kept
 
 pub replace_block-requires-clause-join : goal.replace_block-requires-clause-join
-replace_block-requires-clause-join g c κs within tells = c.in_ok-rows.ensures.join (sym c.rows_of.ensures.leaves.proceeds.tells ∙ tells)
+replace_block-requires-clause-join g c tells = c.in_ok-rows.ensures.join (sym c.rows_of.ensures.leaves.proceeds.tells ∙ tells)
 
 pub replace_block-requires-clause-olds : goal.replace_block-requires-clause-olds
-replace_block-requires-clause-olds g c κs within =
+replace_block-requires-clause-olds g c =
     let test = is_head_of c.args.ns c.args.start c.args.size in
     let vs = c.args.self.now.volumes.items in
     ap (map head_of) c.deref-2.ensures.value

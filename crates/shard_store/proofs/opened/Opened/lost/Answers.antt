@@ -53,6 +53,6 @@ returns-clause-lost g c tells =
     let rules = c.args.rules.now in
     let ks = known_in s.volumes.items in
     let a = g.D.Disk.state c.args.disk.now in
-    let lawful = (g.met.D.Disk g.world.𝓛 g.world.𝓜 g.world.𝓡 ((λ s x. x), (λ x. x), (λ x. x), (λ x. x))).lawful c.args.disk.now in
+    let lawful = g.met.D.Disk.lawful c.args.disk.now in
     let all = ap length c.as_slice-space-items.ensures in
     lost_all rules ks s.held.points a.files (known_counted s.held.points ks s.tenure s.fence a lawful c.requires.kept.exact tells) c.loop-position.position c.loop-position.lost a (g.D.Disk.state c.loop-position.disk) (omega (arith, c.loop-position-test.false, all)) c.loop-position.invariant tells

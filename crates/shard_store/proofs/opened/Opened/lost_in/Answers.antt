@@ -22,18 +22,18 @@ pub returns-in_err-here-clause-leaves : goal.returns-in_err-here-clause-leaves
 returns-in_err-here-clause-leaves g c =
     leaves_none _ (g.D.Disk.state c.args.disk.now) (λ f. not_fault c.fetch_held.result c.fetch_held.ensures.err (passed_err c.from_residual.result c.fetch_held.result c.in_err-here.field-0.0 unread.Disk c.in_err-here.was c.from_residual.ensures.1 f))
 
-pub read-requires-after_bounds : goal.read-requires-after_bounds
-read-requires-after_bounds g c κs within =
+pub read-requires : goal.read-requires
+read-requires g c =
     let s = c.args.self.now in
-    there_chosen s.held.points (known_in s.volumes.items) s.tenure s.fence (g.D.Disk.state c.args.disk.now) ((g.met.D.Disk g.world.𝓛 g.world.𝓜 g.world.𝓡 ((λ s x. x), (λ x. x), (λ x. x), (λ x. x))).lawful c.args.disk.now) c.requires.kept.exact
+    there_chosen s.held.points (known_in s.volumes.items) s.tenure s.fence (g.D.Disk.state c.args.disk.now) (g.met.D.Disk.lawful c.args.disk.now) c.requires.kept.exact
     (has_outlived c.args.rules.now) c.args.goes.now c.requires.goes
 
-pub read-requires-2-after_bounds : goal.read-requires-2-after_bounds
-read-requires-2-after_bounds g c κs within =
+pub read-requires-2 : goal.read-requires-2
+read-requires-2 g c =
     let s = c.args.self.now in
     let a = g.D.Disk.state c.args.disk.now in
     told_left (AreThere c.args.stays.now) _ a (g.D.Disk.state c.read.new.disk) c.read.ensures.leaves
-    (there_chosen s.held.points (known_in s.volumes.items) s.tenure s.fence a ((g.met.D.Disk g.world.𝓛 g.world.𝓜 g.world.𝓡 ((λ s x. x), (λ x. x), (λ x. x), (λ x. x))).lawful c.args.disk.now) c.requires.kept.exact
+    (there_chosen s.held.points (known_in s.volumes.items) s.tenure s.fence a (g.met.D.Disk.lawful c.args.disk.now) c.requires.kept.exact
     (λ k. not (has_outlived c.args.rules.now k)) c.args.stays.now c.requires.stays)
 
 pub returns-then-is_empty-clause-lost : goal.returns-then-is_empty-clause-lost
@@ -42,7 +42,7 @@ returns-then-is_empty-clause-lost g c tells =
     let rules = c.args.rules.now in
     let ks = known_in s.volumes.items in
     let a = g.D.Disk.state c.args.disk.now in
-    let of = of_chosen s.held.points ks s.tenure s.fence a ((g.met.D.Disk g.world.𝓛 g.world.𝓜 g.world.𝓡 ((λ s x. x), (λ x. x), (λ x. x), (λ x. x))).lawful c.args.disk.now) c.requires.kept.exact (has_outlived rules) c.args.goes.now c.requires.goes tells in
+    let of = of_chosen s.held.points ks s.tenure s.fence a (g.met.D.Disk.lawful c.args.disk.now) c.requires.kept.exact (has_outlived rules) c.args.goes.now c.requires.goes tells in
     lost_none rules ks s.held.points c.args.ns c.args.end c.new.result c.new.ensures c.in_ok-gone.gone (ap (λ (l : List Series). length l == 0) (sym c.as_slice.ensures) ∙ sym c.is_empty.ensures ∙ c.if-is_empty.true)
     (c.in_ok-gone.ensures.answer s.held.points (volume_points (filter (has_outlived rules) ks)) (pick.Match c.args.ns c.new.result) 0 c.args.end c.in_ok-here.ensures.answer (c.in_ok-there.ensures.answer tells (filter (has_outlived rules) ks) of))
 
@@ -72,7 +72,7 @@ returns-clause-lost g c tells =
     let every = pick.Match c.args.ns c.new.result in
     let a = g.D.Disk.state c.args.disk.now in
     let b = g.D.Disk.state c.read.new.disk in
-    let lawful = (g.met.D.Disk g.world.𝓛 g.world.𝓜 g.world.𝓡 ((λ s x. x), (λ x. x), (λ x. x), (λ x. x))).lawful c.args.disk.now in
+    let lawful = g.met.D.Disk.lawful c.args.disk.now in
     let of = of_chosen s.held.points ks s.tenure s.fence a lawful c.requires.kept.exact (has_outlived rules) c.args.goes.now c.requires.goes tells in
     let later = c.read.ensures.leaves.proceeds.tells ∙ tells in
     let of_stays = told_left (AreOf c.args.stays.now stays) _ a b c.read.ensures.leaves

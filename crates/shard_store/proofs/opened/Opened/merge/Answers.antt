@@ -22,13 +22,13 @@ use Rattle.shard_store.proofs.StillLemmas.{opened_left, undamaged_said}
 use Rattle.shard_store.proofs.opened.Opened.merge.Goals as goal
 
 pub risen-requires-clause-there : goal.risen-requires-clause-there
-risen-requires-clause-there g c κs within = λ tells.
+risen-requires-clause-there g c = λ tells.
     let s = c.args.self.now in
-    let held = held_known s.held.points (known_in s.volumes.items) s.tenure s.fence (g.D.Disk.state c.args.disk.now) ((g.met.D.Disk g.world.𝓛 g.world.𝓜 g.world.𝓡 ((λ s x. x), (λ x. x), (λ x. x), (λ x. x))).lawful c.args.disk.now) c.requires.kept.exact tells in
+    let held = held_known s.held.points (known_in s.volumes.items) s.tenure s.fence (g.D.Disk.state c.args.disk.now) (g.met.D.Disk.lawful c.args.disk.now) c.requires.kept.exact tells in
     subst (λ (vs : List ListedVolume). AreHeld (known_in vs) (g.D.Disk.state c.args.disk.now).files) (sym c.deref.ensures.value) held
 
 pub risen-requires-clause-cached : goal.risen-requires-clause-cached
-risen-requires-clause-cached g c κs within =
+risen-requires-clause-cached g c =
     let s = c.args.self.now in
     subst (λ (vs : List ListedVolume). AreCachedOn vs s.cache (g.D.Disk.state c.args.disk.now)) (sym c.deref.ensures.value) c.requires.cached
 
@@ -96,15 +96,15 @@ returns-then-count-eq0-clause-disk g c =
 -- ---- what rises is taken
 
 pub take_points-requires-clause-points : goal.take_points-requires-clause-points
-take_points-requires-clause-points g c κs within =
+take_points-requires-clause-points g c =
     let are = (c.are_mergeable.ensures).0 c.if-not-are_mergeable.false in
     subst (λ (l : List Rise). ArePoints (points_of l)) (sym c.as_slice-rises.ensures.value) (are_points c.in_ok-found.found.items (length c.args.points.now) (λ none. c.if-count-eq0.false (let e = c.in_ok-found.found.ok.0 in let l = c.len-count.ensures in omega (arith, none))) c.in_ok-found.ensures.few are.few c.in_ok-found.ensures.bounded)
 
 pub take_points-requires-clause-series : goal.take_points-requires-clause-series
-take_points-requires-clause-series g c κs within = subst AreOfSeries (sym c.as_slice-rises.ensures.value) c.in_ok-found.ensures.series
+take_points-requires-clause-series g c = subst AreOfSeries (sym c.as_slice-rises.ensures.value) c.in_ok-found.ensures.series
 
 pub take_points-requires-clause-stands : goal.take_points-requires-clause-stands
-take_points-requires-clause-stands g c κs within = (opened_left c.args.self.now _ (g.D.Disk.state c.args.disk.now) (g.D.Disk.state c.risen.new.disk) c.risen.ensures.leaves c.requires.kept).stands
+take_points-requires-clause-stands g c = (opened_left c.args.self.now _ (g.D.Disk.state c.args.disk.now) (g.D.Disk.state c.risen.new.disk) c.risen.ensures.leaves c.requires.kept).stands
 
 pub returns-in_err-take_points-clause-kept : goal.returns-in_err-take_points-clause-kept
 returns-in_err-take_points-clause-kept g c = λ fine.

@@ -10,18 +10,18 @@ use Rattle.shard_store.proofs.SnapshotLemmas.{held_within}
 use Rattle.shard_store.proofs.opened.Opened.page.Goals as goal
 
 pub page_joined-requires-clause-times : goal.page_joined-requires-clause-times
-page_joined-requires-clause-times g c κs within = λ tells.
+page_joined-requires-clause-times g c = λ tells.
     let s = c.args.self.now in
-    held_within s.held.points (known_in s.volumes.items) s.tenure s.fence (g.D.Disk.state c.args.disk.now) ((g.met.D.Disk g.world.𝓛 g.world.𝓜 g.world.𝓡 ((λ s x. x), (λ x. x), (λ x. x), (λ x. x))).lawful c.args.disk.now) c.requires.kept.exact tells
+    held_within s.held.points (known_in s.volumes.items) s.tenure s.fence (g.D.Disk.state c.args.disk.now) (g.met.D.Disk.lawful c.args.disk.now) c.requires.kept.exact tells
 
 pub page_joined-requires-clause-there : goal.page_joined-requires-clause-there
-page_joined-requires-clause-there g c κs within = λ tells.
+page_joined-requires-clause-there g c = λ tells.
     let s = c.args.self.now in
-    let held = held_known s.held.points (known_in s.volumes.items) s.tenure s.fence (g.D.Disk.state c.args.disk.now) ((g.met.D.Disk g.world.𝓛 g.world.𝓜 g.world.𝓡 ((λ s x. x), (λ x. x), (λ x. x), (λ x. x))).lawful c.args.disk.now) c.requires.kept.exact tells in
+    let held = held_known s.held.points (known_in s.volumes.items) s.tenure s.fence (g.D.Disk.state c.args.disk.now) (g.met.D.Disk.lawful c.args.disk.now) c.requires.kept.exact tells in
     subst (λ (vs : List ListedVolume). AreHeld (known_in vs) (g.D.Disk.state c.args.disk.now).files) (sym c.deref.ensures.value) held
 
 pub page_joined-requires-clause-cached : goal.page_joined-requires-clause-cached
-page_joined-requires-clause-cached g c κs within =
+page_joined-requires-clause-cached g c =
     let s = c.args.self.now in
     subst (λ (vs : List ListedVolume). AreCachedOn vs s.cache (g.D.Disk.state c.args.disk.now)) (sym c.deref.ensures.value) c.requires.cached
 

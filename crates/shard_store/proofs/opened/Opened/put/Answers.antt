@@ -14,7 +14,7 @@ use Rattle.shard_store.proofs.PointLemmas.{joined_raised}
 use Rattle.store_log.specs.listed_volumes.Listed.{known_in}
 use Rattle.store_log.proofs.LogStepLemmas.{counted_on}
 use Rattle.store_log.proofs.LogStepLemmas.{one_bounded, err_is, brings_none, brings_nothing, brings_fault, brings_all, after_nothing, steps_after_nothing, kept_for, memory_put}
-use Rattle.shard_open.proofs.Counts.{counts_both, counts_for}
+use Rattle.shard_store.proofs.Counts.{counts_both, counts_for}
 use Rattle.shard_store.proofs.opened.Opened.put.Goals as goal
 
 pub returns-in_err-put_points-clause-disk : goal.returns-in_err-put_points-clause-disk
@@ -29,7 +29,7 @@ returns-in-Err-clause-disk g c =
     (subst (λ r. CountsFaults (IsErrOf r DiskFailed) (g.D.Disk.state c.args.disk.now).faults (g.D.Disk.state c.ready_entry.new.disk).faults) c.in-Err.is c.ready_entry.ensures.faults)
 
 pub append_entry-requires-clause-entry : goal.append_entry-requires-clause-entry
-append_entry-requires-clause-entry g c = λ a b. (entry.Points (c.args.point.now ∷ []), record { within = one_bounded c.args.point.now c.requires.bounded; is = c.deref.ensures.value ∙ c.in_ok-put_points.ensures.ok ∙ ap (λ (l : List ℕ). l ++ points_entry (c.args.point.now ∷ [])) c.clear.ensures.items })
+append_entry-requires-clause-entry g c = (entry.Points (c.args.point.now ∷ []), record { within = one_bounded c.args.point.now c.requires.bounded; is = c.deref.ensures.value ∙ c.in_ok-put_points.ensures.ok ∙ ap (λ (l : List ℕ). l ++ points_entry (c.args.point.now ∷ [])) c.clear.ensures.items })
 
 pub returns-in_err-append_entry-clause-disk : goal.returns-in_err-append_entry-clause-disk
 returns-in_err-append_entry-clause-disk g c =

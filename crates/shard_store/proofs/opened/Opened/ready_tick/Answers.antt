@@ -21,11 +21,11 @@ returns-in_err-stays-clause-leaves g c =
     (λ f. not_fault c.staying.result c.staying.ensures.err (passed_err c.from_residual-in_err-stays.result c.staying.result c.in_err-stays.field-0.0 unread.Disk c.in_err-stays.was c.from_residual-in_err-stays.ensures.1 f))
 
 pub lost-requires-clause-goes : goal.lost-requires-clause-goes
-lost-requires-clause-goes g c κs within =
+lost-requires-clause-goes g c =
     ap (map head_of) c.deref-3.ensures.value ∙ c.in_ok-goes.ensures.ok ∙ ap (λ (vs : List ListedVolume). map (λ k. k.head) (filter (has_outlived c.args.rules.now) (known_in vs))) c.deref.ensures.value
 
 pub lost-requires-clause-stays : goal.lost-requires-clause-stays
-lost-requires-clause-stays g c κs within =
+lost-requires-clause-stays g c =
     ap (map head_of) c.deref-4.ensures.value ∙ c.in_ok-stays.ensures.ok ∙ ap (λ (vs : List ListedVolume). map (λ k. k.head) (live_volumes c.args.rules.now (known_in vs))) c.deref-2.ensures.value
 
 pub returns-in_err-reserve-clause-leaves : goal.returns-in_err-reserve-clause-leaves

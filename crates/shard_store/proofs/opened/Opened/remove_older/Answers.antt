@@ -4,7 +4,7 @@ use Rattle.m3_outside.specs.DiskState.{EachImage}
 use Rattle.m3_outside.specs.declared.disk_err.DiskErr.TheVariants.{Failed as DiskFailed}
 use Rattle.store_log.proofs.listed_volumes_proofs.commit_log_proofs.ReadLemmas.{passed_err}
 use Rattle.store_log.specs.listed_volumes.shard_files.Parts.{KnownVolume}
-use Rattle.shard_open.proofs.Counts.{counts_for}
+use Rattle.shard_store.proofs.Counts.{counts_for}
 use Rattle.store_log.specs.snapshot_steps.volume_steps.Known.{HoldsKnown}
 use Rattle.store_log.specs.listed_volumes.Listed.{known_in}
 use Rattle.shard_store.specs.StoreParts.{content_of_opened}

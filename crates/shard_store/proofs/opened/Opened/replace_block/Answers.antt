@@ -31,13 +31,13 @@ returns-in_err-write_block-clause-disk g c =
 -- ---- the older ones
 
 pub remove_older-requires-clause-there : goal.remove_older-requires-clause-there
-remove_older-requires-clause-there g c κs within tells =
+remove_older-requires-clause-there g c tells =
     let s = c.args.self.now in
     let h = c.args.head.now in
     let told = sym c.write_block.ensures.disk.tells ∙ tells in
     let known = c.in_ok-write_block.ensures.known in
     there_after s.held.points (known_in s.volumes.items) h.ns h.start h.size c.args.rows.now c.requires.ordered (c.requires.join told) known.0 (g.D.Disk.state c.args.disk.now).files
-    (known_counted s.held.points (known_in s.volumes.items) s.tenure s.fence (g.D.Disk.state c.args.disk.now) ((g.met.D.Disk g.world.𝓛 g.world.𝓜 g.world.𝓡 ((λ s x. x), (λ x. x), (λ x. x), (λ x. x))).lawful c.args.disk.now) c.requires.kept.exact told)
+    (known_counted s.held.points (known_in s.volumes.items) s.tenure s.fence (g.D.Disk.state c.args.disk.now) (g.met.D.Disk.lawful c.args.disk.now) c.requires.kept.exact told)
     (known.2 told) c.args.olds.now c.requires.olds c.write_block.new.self c.in_ok-write_block.ensures.ok known.1
 
 pub returns-in_err-remove_older-clause-kept : goal.returns-in_err-remove_older-clause-kept
@@ -51,7 +51,7 @@ returns-in_err-remove_older-clause-others g c tells =
     let h = c.args.head.now in
     let known = c.in_ok-write_block.ensures.known in
     numbers_after s.held.points (known_in s.volumes.items) h.ns h.start h.size c.args.rows.now c.requires.ordered (c.requires.join tells) known.0 (g.D.Disk.state c.args.disk.now).files
-    (known_counted s.held.points (known_in s.volumes.items) s.tenure s.fence (g.D.Disk.state c.args.disk.now) ((g.met.D.Disk g.world.𝓛 g.world.𝓜 g.world.𝓡 ((λ s x. x), (λ x. x), (λ x. x), (λ x. x))).lawful c.args.disk.now) c.requires.kept.exact tells)
+    (known_counted s.held.points (known_in s.volumes.items) s.tenure s.fence (g.D.Disk.state c.args.disk.now) (g.met.D.Disk.lawful c.args.disk.now) c.requires.kept.exact tells)
     (known.2 tells) c.args.olds.now c.requires.olds (g.D.Disk.state c.write_block.new.disk).files (g.D.Disk.state c.remove_older.new.disk).files (c.write_block.ensures.others tells) (c.remove_older.ensures.others (c.write_block.ensures.disk.tells ∙ tells))
 
 pub returns-in_err-remove_older-clause-fewer : goal.returns-in_err-remove_older-clause-fewer
@@ -80,7 +80,7 @@ returns-clause-one g c tells =
     let h = c.args.head.now in
     let known = c.in_ok-write_block.ensures.known in
     one_after s.held.points (known_in s.volumes.items) h.ns h.start h.size c.args.rows.now c.requires.ordered (c.requires.join tells) known.0 (g.D.Disk.state c.args.disk.now).files
-    (known_counted s.held.points (known_in s.volumes.items) s.tenure s.fence (g.D.Disk.state c.args.disk.now) ((g.met.D.Disk g.world.𝓛 g.world.𝓜 g.world.𝓡 ((λ s x. x), (λ x. x), (λ x. x), (λ x. x))).lawful c.args.disk.now) c.requires.kept.exact tells)
+    (known_counted s.held.points (known_in s.volumes.items) s.tenure s.fence (g.D.Disk.state c.args.disk.now) (g.met.D.Disk.lawful c.args.disk.now) c.requires.kept.exact tells)
     (known.2 tells) c.args.olds.now c.requires.olds c.write_block.new.self c.in_ok-write_block.ensures.ok known.1 (known_in c.remove_older.new.self.volumes.items) c.in_ok-remove_older.ensures.ok
 
 pub returns-clause-others : goal.returns-clause-others
@@ -89,7 +89,7 @@ returns-clause-others g c tells =
     let h = c.args.head.now in
     let known = c.in_ok-write_block.ensures.known in
     numbers_after s.held.points (known_in s.volumes.items) h.ns h.start h.size c.args.rows.now c.requires.ordered (c.requires.join tells) known.0 (g.D.Disk.state c.args.disk.now).files
-    (known_counted s.held.points (known_in s.volumes.items) s.tenure s.fence (g.D.Disk.state c.args.disk.now) ((g.met.D.Disk g.world.𝓛 g.world.𝓜 g.world.𝓡 ((λ s x. x), (λ x. x), (λ x. x), (λ x. x))).lawful c.args.disk.now) c.requires.kept.exact tells)
+    (known_counted s.held.points (known_in s.volumes.items) s.tenure s.fence (g.D.Disk.state c.args.disk.now) (g.met.D.Disk.lawful c.args.disk.now) c.requires.kept.exact tells)
     (known.2 tells) c.args.olds.now c.requires.olds (g.D.Disk.state c.write_block.new.disk).files (g.D.Disk.state c.remove_older.new.disk).files (c.write_block.ensures.others tells) (c.remove_older.ensures.others (c.write_block.ensures.disk.tells ∙ tells))
 
 pub returns-clause-fewer : goal.returns-clause-fewer

@@ -23,7 +23,7 @@ returns-clause-kept g c = λ fine.
     let ks = known_in s.volumes.items in
     let old = g.D.Disk.state c.args.disk.now in
     let new = g.D.Disk.state c.take_snapshot.new.disk in
-    let are = are_in m ks s.tenure s.fence old ((g.met.D.Disk g.world.𝓛 g.world.𝓜 g.world.𝓡 ((λ s x. x), (λ x. x), (λ x. x), (λ x. x))).lawful c.args.disk.now) c.requires.kept.exact c.in_ok-points.points c.in_ok-points.ensures.points in
+    let are = are_in m ks s.tenure s.fence old (g.met.D.Disk.lawful c.args.disk.now) c.requires.kept.exact c.in_ok-points.points c.in_ok-points.ensures.points in
     record {
       stands = stands_after c.take_snapshot.result c.take_snapshot.new.log new fine c.take_snapshot.ensures.stands (λ wanted. c.take_snapshot.ensures.log_stands wanted c.requires.kept.stands);
       exact = each_after m ks s.tenure s.fence c.in_ok-points.points old new c.take_snapshot.ensures.tells are c.take_snapshot.new.log c.take_snapshot.result fine (c.take_snapshot.ensures.saved m ks c.requires.kept.exact) (c.take_snapshot.ensures.memory m ks c.requires.kept.exact);
@@ -38,8 +38,8 @@ returns-clause-saved g c =
     let ks = known_in s.volumes.items in
     let old = g.D.Disk.state c.args.disk.now in
     let new = g.D.Disk.state c.take_snapshot.new.disk in
-    let are = are_in m ks s.tenure s.fence old ((g.met.D.Disk g.world.𝓛 g.world.𝓜 g.world.𝓡 ((λ s x. x), (λ x. x), (λ x. x), (λ x. x))).lawful c.args.disk.now) c.requires.kept.exact c.in_ok-points.points c.in_ok-points.ensures.points in
-    one_after m ks s.tenure s.fence c.in_ok-points.points old new c.take_snapshot.ensures.tells are c.take_snapshot.new.log c.take_snapshot.result (next_after (numbers old.files)) ((g.met.D.Disk g.world.𝓛 g.world.𝓜 g.world.𝓡 ((λ s x. x), (λ x. x), (λ x. x), (λ x. x))).lawful c.take_snapshot.new.disk)
+    let are = are_in m ks s.tenure s.fence old (g.met.D.Disk.lawful c.args.disk.now) c.requires.kept.exact c.in_ok-points.points c.in_ok-points.ensures.points in
+    one_after m ks s.tenure s.fence c.in_ok-points.points old new c.take_snapshot.ensures.tells are c.take_snapshot.new.log c.take_snapshot.result (next_after (numbers old.files)) (g.met.D.Disk.lawful c.take_snapshot.new.disk)
     (c.take_snapshot.ensures.saved m ks c.requires.kept.exact) (c.take_snapshot.ensures.alone m ks c.requires.kept.exact) c.take_snapshot.ensures.end c.take_snapshot.ensures.segments c.take_snapshot.ensures.number c.take_snapshot.ensures.stands
 
 pub returns-in_err-points-clause-counted : goal.returns-in_err-points-clause-counted
@@ -51,7 +51,7 @@ returns-clause-counted g c = λ fine has tells.
     let m = s.held.points in
     let ks = known_in s.volumes.items in
     let old = g.D.Disk.state c.args.disk.now in
-    let are = are_in m ks s.tenure s.fence old ((g.met.D.Disk g.world.𝓛 g.world.𝓜 g.world.𝓡 ((λ s x. x), (λ x. x), (λ x. x), (λ x. x))).lawful c.args.disk.now) c.requires.kept.exact c.in_ok-points.points c.in_ok-points.ensures.points in
+    let are = are_in m ks s.tenure s.fence old (g.met.D.Disk.lawful c.args.disk.now) c.requires.kept.exact c.in_ok-points.points c.in_ok-points.ensures.points in
     let was = sym c.take_snapshot.ensures.tells ∙ tells in
     c.take_snapshot.ensures.counted m ks c.requires.kept.exact (are was) was fine (has was)
 
@@ -62,7 +62,7 @@ returns-clause-known g c = λ tells fine known counted.
     let ks = known_in s.volumes.items in
     let old = g.D.Disk.state c.args.disk.now in
     let new = g.D.Disk.state c.take_snapshot.new.disk in
-    let lawful = (g.met.D.Disk g.world.𝓛 g.world.𝓜 g.world.𝓡 ((λ s x. x), (λ x. x), (λ x. x), (λ x. x))).lawful in
+    let lawful = g.met.D.Disk.lawful in
     let are = are_in m ks s.tenure s.fence old (lawful c.args.disk.now) c.requires.kept.exact c.in_ok-points.points c.in_ok-points.ensures.points in
     let after = each_after m ks s.tenure s.fence c.in_ok-points.points old new c.take_snapshot.ensures.tells are c.take_snapshot.new.log c.take_snapshot.result fine (c.take_snapshot.ensures.saved m ks c.requires.kept.exact) (c.take_snapshot.ensures.memory m ks c.requires.kept.exact) in
     subst (λ (l : List KnownVolume). VolumesAre l new.files) (sym (counted_is m ks s.tenure s.fence old (lawful c.args.disk.now) c.requires.kept.exact known tells counted))
@@ -74,7 +74,7 @@ returns-clause-disk g c =
     let m = s.held.points in
     let ks = known_in s.volumes.items in
     let old = g.D.Disk.state c.args.disk.now in
-    let are = are_in m ks s.tenure s.fence old ((g.met.D.Disk g.world.𝓛 g.world.𝓜 g.world.𝓡 ((λ s x. x), (λ x. x), (λ x. x), (λ x. x))).lawful c.args.disk.now) c.requires.kept.exact c.in_ok-points.points c.in_ok-points.ensures.points in
+    let are = are_in m ks s.tenure s.fence old (g.met.D.Disk.lawful c.args.disk.now) c.requires.kept.exact c.in_ok-points.points c.in_ok-points.ensures.points in
     record {
       any_moment = λ tells. c.take_snapshot.ensures.any_moment (content_of_opened s) m ks c.requires.kept.exact (are tells) (join_is_there m ks) tells;
       tells = c.take_snapshot.ensures.tells;

@@ -34,13 +34,13 @@ returns-in_err-ready-clause-disk g c =
 -- ---- what has expired is dropped
 
 pub drop_expired-requires-clause-kept : goal.drop_expired-requires-clause-kept
-drop_expired-requires-clause-kept g c κs within = opened_left c.args.self.now _ (g.D.Disk.state c.args.disk.now) (g.D.Disk.state c.ready_tick.new.disk) c.ready_tick.ensures.leaves c.requires.kept
+drop_expired-requires-clause-kept g c = opened_left c.args.self.now _ (g.D.Disk.state c.args.disk.now) (g.D.Disk.state c.ready_tick.new.disk) c.ready_tick.ensures.leaves c.requires.kept
 
 pub drop_expired-requires-clause-goes : goal.drop_expired-requires-clause-goes
-drop_expired-requires-clause-goes g c κs within = ap (map head_of) c.deref.ensures.value ∙ c.in_ok-ready.ensures.goes
+drop_expired-requires-clause-goes g c = ap (map head_of) c.deref.ensures.value ∙ c.in_ok-ready.ensures.goes
 
 pub drop_expired-requires-clause-room : goal.drop_expired-requires-clause-room
-drop_expired-requires-clause-room g c κs within = let same = ap length c.deref.ensures.value in omega (arith, same, c.in_ok-ready.ensures.room)
+drop_expired-requires-clause-room g c = let same = ap length c.deref.ensures.value in omega (arith, same, c.in_ok-ready.ensures.room)
 
 pub returns-in_err-drop_expired-clause-kept_still : goal.returns-in_err-drop_expired-clause-kept_still
 returns-in_err-drop_expired-clause-kept_still g c = λ m.

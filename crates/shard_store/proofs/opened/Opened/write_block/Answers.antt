@@ -12,7 +12,7 @@ use Rattle.store_log.proofs.snapshot_steps_proofs.volume_steps_proofs.KnownLemma
 use Rattle.shard_store.proofs.CountedLemmas.{counted_wrote}
 use Rattle.shard_store.proofs.PointLemmas.{has_fewer}
 use Rattle.store_log.proofs.listed_volumes_proofs.commit_log_proofs.ReadLemmas.{passed_err}
-use Rattle.shard_open.proofs.Counts.{counts_for}
+use Rattle.shard_store.proofs.Counts.{counts_for}
 use Rattle.store_log.proofs.snapshot_steps_proofs.volume_steps_proofs.LawLemmas.{join_is_there}
 use Rattle.store_log.specs.listed_volumes.declared.volume.ListedVolume.{ListedVolume}
 use Rattle.store_log.specs.listed_volumes.Listed.{known_as, known_in}

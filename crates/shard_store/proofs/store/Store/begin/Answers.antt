@@ -7,10 +7,12 @@ use Rattle.shard_store.proofs.CacheLemmas.{cached_still}
 use Rattle.shard_store.proofs.CountedLemmas.{open_or_closed}
 use Rattle.shard_store.proofs.store.Store.begin.Goals as goal
 
-pub begin-said-requires-clause-kept : goal.begin-said-requires-clause-kept
-begin-said-requires-clause-kept g c κs within =
-    let some : c.self.inside.opened ≡ Some c.unwrap-opened.result.now = sym c.as_mut.ensures.value ∙ ap option_copied_mut c.unwrap-opened.ensures in
-    (subst (λ (o : Option Opened). IsKept o (g.D.Disk.state c.self.inside.disk)) some c.self.invariant).0
+pub begin-said-requires : goal.begin-said-requires
+begin-said-requires g c = record {
+  kept =
+      let some : c.self.inside.opened ≡ Some c.unwrap-opened.result.now = sym c.as_mut.ensures.value ∙ ap option_copied_mut c.unwrap-opened.ensures in
+      (subst (λ (o : Option Opened). IsKept o (g.D.Disk.state c.self.inside.disk)) some c.self.invariant).0;
+}
 
 pub invariant_of-self : goal.invariant_of-self
 invariant_of-self g c =

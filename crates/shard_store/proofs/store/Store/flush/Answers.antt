@@ -13,7 +13,7 @@ invariant_of-self g c =
     kept_or_closed c.flush-said.result c.flush-said.new.self c.close_unless.new.opened (g.D.Disk.state c.flush-said.new.disk) c.close_unless.ensures.closed c.close_unless.ensures.ok c.close_unless.ensures.memory c.flush-said.ensures.kept_ok c.flush-said.ensures.kept (c.flush-said.ensures.counted kept.1) (c.flush-said.ensures.cached kept.2)
 
 pub flush-said-requires-clause-kept : goal.flush-said-requires-clause-kept
-flush-said-requires-clause-kept g c κs within =
+flush-said-requires-clause-kept g c =
     let some : c.self.inside.opened ≡ Some c.unwrap-opened.result.now = sym c.as_mut.ensures.value ∙ ap option_copied_mut c.unwrap-opened.ensures in
     (subst (λ (o : Option Opened). IsKept o (g.D.Disk.state c.self.inside.disk)) some c.self.invariant).0
 
@@ -22,7 +22,7 @@ returns-clause-ok g c =
     let opened = c.unwrap-opened.result.now in
     let some : c.self.inside.opened ≡ Some opened = sym c.as_mut.ensures.value ∙ ap option_copied_mut c.unwrap-opened.ensures in
     let shown = ap (λ (o : Option Opened). state_of c.self.inside.disk o) (sym some) ∙ c.self.view_is in
-    let lawful = ((g.met.D.Disk g.world.𝓛 g.world.𝓜 g.world.𝓡 ((λ s x. x), (λ x. x), (λ x. x), (λ x. x))).lawful) in
+    let lawful = g.met.D.Disk.lawful in
     store_flushed g.D.Disk.state c.self.inside.disk c.flush-said.new.disk opened c.flush-said.new.self c.flush-said.ensures.numbers c.flush-said.ensures.content c.flush-said.result c.close_unless.result c.close_unless.ensures.said c.args.self.now shown
     c.args.rules.now (lawful c.self.inside.disk) (lawful c.flush-said.new.disk) c.flush-said.ensures.disk.tells (subst (λ (o : Option Opened). IsKept o (g.D.Disk.state c.self.inside.disk)) some c.self.invariant).0 c.close_unless.new.opened
     c.flush-said.ensures.kept_ok c.close_unless.ensures.ok c.flush-said.ensures.ok

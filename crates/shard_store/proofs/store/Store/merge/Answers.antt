@@ -18,12 +18,12 @@ invariant_of-self g c =
     merged_or_closed c.merge-said.result c.merge-said.new.self c.close_unless.new.opened (g.D.Disk.state c.merge-said.new.disk) c.close_unless.ensures.closed c.close_unless.ensures.ok c.close_unless.ensures.memory c.merge-said.ensures.kept (λ fine. c.merge-said.ensures.counted fine kept.1) c.merge-said.ensures.cached
 
 pub merge-said-requires-clause-kept : goal.merge-said-requires-clause-kept
-merge-said-requires-clause-kept g c κs within =
+merge-said-requires-clause-kept g c =
     let some : c.self.inside.opened ≡ Some c.unwrap-opened.result.now = sym c.as_mut.ensures.value ∙ ap option_copied_mut c.unwrap-opened.ensures in
     (subst (λ (o : Option Opened). IsKept o (g.D.Disk.state c.self.inside.disk)) some c.self.invariant).0
 
 pub merge-said-requires-clause-cached : goal.merge-said-requires-clause-cached
-merge-said-requires-clause-cached g c κs within =
+merge-said-requires-clause-cached g c =
     let some : c.self.inside.opened ≡ Some c.unwrap-opened.result.now = sym c.as_mut.ensures.value ∙ ap option_copied_mut c.unwrap-opened.ensures in
     (subst (λ (o : Option Opened). IsKept o (g.D.Disk.state c.self.inside.disk)) some c.self.invariant).2
 

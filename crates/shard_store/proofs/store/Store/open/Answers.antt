@@ -21,7 +21,7 @@ use Rattle.shard_store.proofs.PointLemmas.{settled_joins}
 use Rattle.store_log.specs.listed_volumes.block_buffer.Held.{InMemory}
 use Rattle.store_log.proofs.LogStepLemmas.{err_is, brings_none, brings_nothing, brings_nothing_more, err_to}
 use Rattle.shard_store.proofs.OpenLemmas.{only_held, volumes_among}
-use Rattle.shard_open.proofs.Counts.{counts_for}
+use Rattle.shard_store.proofs.Counts.{counts_for}
 use Rattle.shard_store.proofs.store.Store.open.Goals as goal
 
 pub returns-in_err-taken-clause-disk : goal.returns-in_err-taken-clause-disk

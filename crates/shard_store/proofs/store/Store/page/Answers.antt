@@ -25,12 +25,12 @@ invariant_of-self g c =
     still_or_closed c.page-said.result (Some later) c.close_unless.new.opened b c.close_unless.ensures.closed c.close_unless.ensures.ok c.close_unless.ensures.memory after
 
 pub page-said-requires-clause-kept : goal.page-said-requires-clause-kept
-page-said-requires-clause-kept g c κs within =
+page-said-requires-clause-kept g c =
     let some : c.self.inside.opened ≡ Some c.unwrap-opened.result.now = sym c.as_mut.ensures.value ∙ ap option_copied_mut c.unwrap-opened.ensures in
     (subst (λ (o : Option Opened). IsKept o (g.D.Disk.state c.self.inside.disk)) some c.self.invariant).0
 
 pub page-said-requires-clause-cached : goal.page-said-requires-clause-cached
-page-said-requires-clause-cached g c κs within =
+page-said-requires-clause-cached g c =
     let some : c.self.inside.opened ≡ Some c.unwrap-opened.result.now = sym c.as_mut.ensures.value ∙ ap option_copied_mut c.unwrap-opened.ensures in
     (subst (λ (o : Option Opened). IsKept o (g.D.Disk.state c.self.inside.disk)) some c.self.invariant).2
 

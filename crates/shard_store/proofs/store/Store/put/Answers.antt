@@ -8,7 +8,7 @@ use Rattle.shard_store.proofs.CountedLemmas.{open_or_closed}
 use Rattle.shard_store.proofs.store.Store.put.Goals as goal
 
 pub put-said-requires-clause-kept : goal.put-said-requires-clause-kept
-put-said-requires-clause-kept g c κs within =
+put-said-requires-clause-kept g c =
     let some : c.self.inside.opened ≡ Some c.unwrap-opened.result.now = sym c.as_mut.ensures.value ∙ ap option_copied_mut c.unwrap-opened.ensures in
     (subst (λ (o : Option Opened). IsKept o (g.D.Disk.state c.self.inside.disk)) some c.self.invariant).0
 

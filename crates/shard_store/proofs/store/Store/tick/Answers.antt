@@ -12,17 +12,19 @@ invariant_of-self g c =
     let kept = subst (λ (o : Option Opened). IsKept o (g.D.Disk.state c.self.inside.disk)) some c.self.invariant in
     kept_or_closed c.tick-said.result c.tick-said.new.self c.close_unless.new.opened (g.D.Disk.state c.tick-said.new.disk) c.close_unless.ensures.closed c.close_unless.ensures.ok c.close_unless.ensures.memory c.tick-said.ensures.kept c.tick-said.ensures.kept_still (c.tick-said.ensures.counted kept.1) (c.tick-said.ensures.cached kept.2)
 
-pub tick-said-requires-clause-kept : goal.tick-said-requires-clause-kept
-tick-said-requires-clause-kept g c κs within =
-    let some : c.self.inside.opened ≡ Some c.unwrap-opened.result.now = sym c.as_mut.ensures.value ∙ ap option_copied_mut c.unwrap-opened.ensures in
-    (subst (λ (o : Option Opened). IsKept o (g.D.Disk.state c.self.inside.disk)) some c.self.invariant).0
+pub tick-said-requires : goal.tick-said-requires
+tick-said-requires g c = record {
+  kept =
+      let some : c.self.inside.opened ≡ Some c.unwrap-opened.result.now = sym c.as_mut.ensures.value ∙ ap option_copied_mut c.unwrap-opened.ensures in
+      (subst (λ (o : Option Opened). IsKept o (g.D.Disk.state c.self.inside.disk)) some c.self.invariant).0;
+}
 
 pub returns-clause-ok : goal.returns-clause-ok
 returns-clause-ok g c =
     let opened = c.unwrap-opened.result.now in
     let some : c.self.inside.opened ≡ Some opened = sym c.as_mut.ensures.value ∙ ap option_copied_mut c.unwrap-opened.ensures in
     let shown = ap (λ (o : Option Opened). state_of c.self.inside.disk o) (sym some) ∙ c.self.view_is in
-    let lawful = ((g.met.D.Disk g.world.𝓛 g.world.𝓜 g.world.𝓡 ((λ s x. x), (λ x. x), (λ x. x), (λ x. x))).lawful) in
+    let lawful = g.met.D.Disk.lawful in
     store_ticked g.D.Disk.state c.self.inside.disk c.tick-said.new.disk opened c.tick-said.new.self c.args.rules.now c.tick-said.ensures.numbers c.tick-said.result c.close_unless.result c.close_unless.ensures.said c.args.self.now shown (lawful c.self.inside.disk)
     (subst (λ (o : Option Opened). IsKept o (g.D.Disk.state c.self.inside.disk)) some c.self.invariant).0 c.close_unless.new.opened (lawful c.tick-said.new.disk) c.tick-said.ensures.disk.tells c.tick-said.ensures.kept c.close_unless.ensures.ok c.tick-said.ensures.ok
 
@@ -31,7 +33,7 @@ returns-clause-there g c =
     let opened = c.unwrap-opened.result.now in
     let some : c.self.inside.opened ≡ Some opened = sym c.as_mut.ensures.value ∙ ap option_copied_mut c.unwrap-opened.ensures in
     let shown = ap (λ (o : Option Opened). state_of c.self.inside.disk o) (sym some) ∙ c.self.view_is in
-    let lawful = ((g.met.D.Disk g.world.𝓛 g.world.𝓜 g.world.𝓡 ((λ s x. x), (λ x. x), (λ x. x), (λ x. x))).lawful) in
+    let lawful = g.met.D.Disk.lawful in
     store_there g.D.Disk.state c.self.inside.disk c.tick-said.new.disk opened c.tick-said.new.self c.args.rules.now c.tick-said.ensures.numbers c.tick-said.result c.close_unless.result c.close_unless.ensures.said c.args.self.now shown (lawful c.self.inside.disk)
     (subst (λ (o : Option Opened). IsKept o (g.D.Disk.state c.self.inside.disk)) some c.self.invariant).0 c.close_unless.new.opened c.close_unless.ensures.ok c.tick-said.ensures.ok
 
@@ -40,7 +42,7 @@ returns-clause-stays g c tells =
     let opened = c.unwrap-opened.result.now in
     let some : c.self.inside.opened ≡ Some opened = sym c.as_mut.ensures.value ∙ ap option_copied_mut c.unwrap-opened.ensures in
     let shown = ap (λ (o : Option Opened). state_of c.self.inside.disk o) (sym some) ∙ c.self.view_is in
-    let lawful = ((g.met.D.Disk g.world.𝓛 g.world.𝓜 g.world.𝓡 ((λ s x. x), (λ x. x), (λ x. x), (λ x. x))).lawful) in
+    let lawful = g.met.D.Disk.lawful in
     store_stays g.D.Disk.state c.self.inside.disk c.tick-said.new.disk opened c.tick-said.new.self c.args.rules.now c.tick-said.ensures.numbers c.tick-said.result c.close_unless.result c.close_unless.ensures.said c.args.self.now shown (lawful c.self.inside.disk)
     (subst (λ (o : Option Opened). IsKept o (g.D.Disk.state c.self.inside.disk)) some c.self.invariant).0 c.close_unless.new.opened c.close_unless.ensures.ok c.tick-said.ensures.ok tells
 
@@ -65,7 +67,7 @@ returns-clause-lost g c tells =
     let opened = c.unwrap-opened.result.now in
     let some : c.self.inside.opened ≡ Some opened = sym c.as_mut.ensures.value ∙ ap option_copied_mut c.unwrap-opened.ensures in
     let shown = ap (λ (o : Option Opened). state_of c.self.inside.disk o) (sym some) ∙ c.self.view_is in
-    let lawful = ((g.met.D.Disk g.world.𝓛 g.world.𝓜 g.world.𝓡 ((λ s x. x), (λ x. x), (λ x. x), (λ x. x))).lawful) in
+    let lawful = g.met.D.Disk.lawful in
     let told = subst (λ x. (g.D.Disk.state x).tells ≡ true) (sym (ap (λ s. s.disk) c.self.view_is)) tells in
     store_lost g.D.Disk.state c.self.inside.disk c.tick-said.new.disk opened c.tick-said.new.self c.args.rules.now c.tick-said.ensures.numbers c.tick-said.result c.close_unless.result c.close_unless.ensures.said c.args.self.now shown (lawful c.self.inside.disk)
     (subst (λ (o : Option Opened). IsKept o (g.D.Disk.state c.self.inside.disk)) some c.self.invariant).0 c.close_unless.new.opened c.close_unless.ensures.ok (c.tick-said.ensures.lost told)

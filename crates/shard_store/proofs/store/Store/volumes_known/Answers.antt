@@ -13,7 +13,7 @@ returns-in-Some-clause-open_ g c open_ tells =
     let kept = subst (λ (o : Option Opened). IsKept o (g.D.Disk.state c.self.inside.disk)) c.in-Some.is c.self.invariant in
     let disk = ap (λ s. s.disk) c.self.view_is in
     let told = subst (λ x. (g.D.Disk.state x).tells ≡ true) (sym disk) tells in
-    let n = volumes_counted opened.volumes.items (g.D.Disk.state c.self.inside.disk).files (known_counted opened.held.points (known_in opened.volumes.items) opened.tenure opened.fence (g.D.Disk.state c.self.inside.disk) ((g.met.D.Disk g.world.𝓛 g.world.𝓜 g.world.𝓡 ((λ s x. x), (λ x. x), (λ x. x), (λ x. x))).lawful c.self.inside.disk) kept.0.exact told) in
+    let n = volumes_counted opened.volumes.items (g.D.Disk.state c.self.inside.disk).files (known_counted opened.held.points (known_in opened.volumes.items) opened.tenure opened.fence (g.D.Disk.state c.self.inside.disk) (g.met.D.Disk.lawful c.self.inside.disk) kept.0.exact told) in
     let same = ap (λ x. length (counted_volumes (g.D.Disk.state x).files)) disk in
     let len = opened.volumes.ok.0 in
     omega (arith, c.len.ensures, len, n, same)

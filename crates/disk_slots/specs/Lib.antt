@@ -1,0 +1,2 @@
+pub mod SlotStates
+pub mod Slots

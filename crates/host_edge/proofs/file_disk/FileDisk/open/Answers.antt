@@ -1,0 +1,5 @@
+use Rattle.host_edge.proofs.SilentLemmas.{silent_empty}
+use Rattle.host_edge.proofs.file_disk.FileDisk.open.Goals as goal
+
+pub returns-clause-empty : goal.returns-clause-empty
+returns-clause-empty c = silent_empty 0

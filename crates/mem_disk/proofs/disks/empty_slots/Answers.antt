@@ -1,8 +1,0 @@
-use Rattle.std.proofs.Common.{arith, refl}
-use Rattle.mem_disk.proofs.SlotLemmas.{empty_push}
-use Rattle.mem_disk.proofs.disks.empty_slots.Goals as goal
-
-pub loop-preserved : goal.loop-preserved
-loop-preserved c =
-    let e = c.in_ok-push.ensures in
-    record { counted = omega (arith, e.len); empty = rw e.items (empty_push _ _ c.loop.invariant.empty refl) }
