@@ -11,10 +11,11 @@ use Rattle.cluster_core.specs.declared.event.StepCall.TheVariants as call
 use Rattle.cluster_core.specs.declared.event.StepReply.TheVariants as reply
 use Rattle.cluster_core.specs.declared.event.Event.{Event}
 use Rattle.cluster_core.specs.declared.event.Event.TheVariants as event
-use Rattle.cluster_core.specs.Lists.{At, IsMajority}
+use Rattle.cluster_core.specs.Lists.{At}
 use Rattle.m3_model.specs.declared.placement.Assignment.{Assignment}
 use Rattle.m3_model.specs.declared.placement.ShardState.TheVariants.{Initializing}
 use Rattle.placement_core.specs.Lawful.{IsShard}
+use Rattle.placement_core.specs.Majorities.{IsMajority}
 use Rattle.placement_core.specs.Shards.{Shard, counted, holders, former}
 use Rattle.placement_core.specs.Steps.{Ends, IsShardStep}
 use Rattle.placement_core.proofs.ChangeLemmas.{step_holders, step_counted}

@@ -4,7 +4,8 @@ use Rattle.std.specs.Prelude.{◌⊎◌}
 use Rattle.std.proofs.lemmas.Bool.{cases_eq}
 use Rattle.m3_model.specs.Members.{IsIn}
 use Rattle.m3_model.proofs.MemberLemmas.{IsIn-append_cases}
-use Rattle.cluster_core.specs.Lists.{IsDistinct, IsMajority}
+use Rattle.placement_core.specs.Majorities.{IsMajority}
+use Rattle.cluster_core.specs.Lists.{IsDistinct}
 
 pub dec_in : (n : ℕ) (ns : List ℕ) → IsIn ns n ⊎ (IsIn ns n → ⊥)
 dec_in n [] = inr (λ h. h)

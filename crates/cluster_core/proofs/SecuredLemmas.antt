@@ -16,10 +16,11 @@ use Rattle.cluster_core.specs.declared.event.StepReply.TheVariants as reply
 use Rattle.cluster_core.specs.declared.event.Event.{Event}
 use Rattle.cluster_core.specs.declared.event.Event.TheVariants as event
 use Rattle.m3_model.specs.Levels.{majority}
+use Rattle.placement_core.specs.Majorities.{IsMajority}
 use Rattle.placement_core.specs.Shards.{Shard, counted, holders}
 use Rattle.placement_core.proofs.ChangeLemmas.{step_shard, step_counted}
 use Rattle.placement_core.proofs.HolderLemmas.{counted_hold}
-use Rattle.cluster_core.specs.Lists.{At, IsMajority}
+use Rattle.cluster_core.specs.Lists.{At}
 use Rattle.cluster_core.specs.Replicas.{replica}
 use Rattle.cluster_core.specs.Earlier.{last_place}
 use Rattle.cluster_core.specs.Legal.{Legal, EachAnswered}

@@ -4,9 +4,10 @@ use Rattle.std.specs.Prelude.{◌≡◌, ◌≤◌, ℕ, ⊤, List, [], ◌∷�
 use Rattle.std.specs.List.{Any}
 use Rattle.m3_model.specs.Members.{IsIn}
 use Rattle.m3_model.specs.declared.point.Page.{Page}
+use Rattle.placement_core.specs.Majorities.{IsMajority}
 use Rattle.placement_core.specs.Shards.{Shard, former}
 use Rattle.cluster_core.specs.Answers.{PageAsked, IsCover}
-use Rattle.cluster_core.specs.Lists.{AfterSome, IsMajority}
+use Rattle.cluster_core.specs.Lists.{AfterSome}
 use Rattle.cluster_core.specs.declared.event.Event.{Event}
 use Rattle.cluster_core.specs.declared.event.Event.TheVariants as event
 use Rattle.cluster_core.specs.declared.event.StepCall.TheVariants as call

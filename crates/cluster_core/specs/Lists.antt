@@ -1,8 +1,6 @@
--- Positions in a list, and majorities.
-use Rattle.std.specs.Prelude.{◌≡◌, ◌≢◌, ◌⊎◌, ℕ, ◌≤◌, List, [], ◌∷◌, length, take, Some, slice_get}
+-- Positions in a list, and lists without repetition.
+use Rattle.std.specs.Prelude.{◌≡◌, ◌≢◌, ◌⊎◌, ℕ, List, [], ◌∷◌, length, take, Some, slice_get}
 use Rattle.m3_model.specs.Ascends.{Ascends}
-use Rattle.m3_model.specs.Levels.{majority}
-use Rattle.m3_model.specs.Members.{IsIn}
 
 -- the element stands at this position
 abbrev pub At : {X : Type 0} → List X → ℕ → X → Type 0
@@ -20,9 +18,3 @@ IsPrefix xs ys = take (length xs) ys ≡ xs
 -- no number stands twice
 abbrev pub IsDistinct : List ℕ → Type 0
 IsDistinct ns = Ascends ◌≢◌ ns
-
--- different members of the base, more than half of rf
-pub record IsMajority (rf : ℕ) (base members : List ℕ) : Type 0 where
-  pub distinct : IsDistinct members
-  pub within : (n : ℕ) → IsIn members n → IsIn base n
-  pub enough : majority rf ≤ length members

@@ -1,29 +1,33 @@
 -- Why the broken transcripts with faults, restarts and bootstraps are refused.
-use Rattle.std.proofs.Common.{◌≡◌, ◌≢◌, ◌<◌, ◌∙◌, ℕ, suc, true, false, List, [], ◌∷◌, refl, sym, subst, ap, inl, inr, arith}
-use Rattle.std.specs.Prelude.{Some, None, pos, codes, slice_get, drop, decimal, IsTrue}
+use Rattle.std.proofs.Common.{◌≡◌, ◌≢◌, ◌∙◌, ℕ, suc, true, false, List, [], ◌∷◌, ◌++◌, length, nat_eq, refl, sym, subst, ap, inl, inr, arith}
+use Rattle.std.specs.Prelude.{Some, None, pos, codes, slice_get, slice_index_or, drop, decimal, IsTrue}
 use Rattle.std.specs.List.{list_any}
 use Rattle.std.proofs.lemmas.Option.{same_Some}
-use Rattle.transcripts.specs.Caused.{Caused, OnDisk, InFiles}
-use Rattle.transcripts.specs.Levels.{MissesLevel}
+use Rattle.transcripts.specs.Caused.{Caused, IsUnmade, OnDisk, InFiles}
+use Rattle.transcripts.specs.Levels.{IsAcked, MissesLevel}
 use Rattle.transcripts.specs.Reasons.{MayRefuse, IsShown}
-use Rattle.transcripts.specs.Placements.{MayUse, placement_after, has_replica, HadReplica}
+use Rattle.transcripts.specs.Placements.{MayUse, placement_after, has_replica, HadReplica, seed_at}
 use Rattle.transcripts.specs.Faults.{Fault, is_restart, Failing, Damaged}
-use Rattle.transcripts.specs.Waiting.{waiting_after}
+use Rattle.transcripts.specs.Waiting.{IsBegunFor, idles_after, waiting_after}
 use Rattle.transcripts.specs.Fates.{OfNode, is_stopped}
+use Rattle.m3_model.specs.Hash.{shard_of}
 use Rattle.m3_model.specs.Levels.{needed_write}
 use Rattle.transcripts.specs.Record.{Life, inner_turns}
 use Rattle.m3_model.specs.declared.act.Act.TheVariants as act
 use Rattle.m3_model.specs.declared.act.WriteLevel.TheVariants as write_level
 use Rattle.m3_model.specs.declared.answer.Answer.TheVariants as answer
 use Rattle.m3_model.specs.declared.placement.Instance.{Instance}
+use Rattle.m3_model.specs.declared.placement.Placement.{Placement}
+use Rattle.placement_core.specs.Shards.{Shard, nodes_of}
+use Rattle.placement_plan.specs.First.{first_instances}
 use Rattle.m3_model.specs.declared.reason.Damage as damage_of
 use Rattle.m3_model.specs.declared.reason.Damage.TheVariants as damaged
 use Rattle.m3_model.specs.declared.reason.Reason.{Reason}
 use Rattle.m3_model.specs.declared.reason.Reason.TheVariants as reason
 use Rattle.m3_model.specs.declared.turn.Turn.{Turn}
-use Rattle.model_laws.specs.Building.{begun, life_of, line, nodes, place}
+use Rattle.model_laws.specs.Building.{acks, begun, life_of, line, nodes, place}
 use Rattle.model_laws.specs.Messages.{stopped}
-use Rattle.fault_laws.specs.Faulty.{fails, untaken, write_all, all_but_c, without_c, c_restarted, c_bootstrapped, down_restarted, boot_bootstrapped, boot_covered, disk_at_once, corrupt_at_once, restart_failed, init_failed, bootstrapped_stopped, bootstrapped_missing, restarted_running, damaged_boot, back_again, no_shard_restarted, no_shard_made}
+use Rattle.fault_laws.specs.Faulty.{fails, untaken, write_all, all_but_c, without_c, c_restarted, c_bootstrapped, down_restarted, boot_bootstrapped, boot_covered, disk_at_once, corrupt_at_once, restart_failed, init_failed, bootstrapped_stopped, bootstrapped_missing, restarted_running, damaged_boot, back_again, no_shard_restarted, no_shard_made, idle_acked, other_asked}
 use Rattle.model_laws.proofs.EachLemmas.{texts_differ}
 use Rattle.model_laws.proofs.PositionLemmas.{position_after, due_after, only_used}
 use Rattle.model_laws.proofs.SampleLemmas.{call_with, of_shard}
@@ -90,14 +94,13 @@ other_restart-refused caused =
 -- the failed init's fault is that of the node that it names
 pub other_init-refused : ¬ Caused true (life_of init_failed) (untaken 0 0 ∷ [])
 other_init-refused caused =
-    let due = due_after [] (act.Init 3 1 0 nodes) (answer.Disk (codes "b") 0) _ (λ e. cc) (λ e. cc) caused in
-    elim due.3 as (λ _. ⊥) [
-      | inl e ↦
-          let of_a : Some (codes "a", codes "g1") ≡ Some (codes "b", due.1.0) = subst (λ node. slice_get nodes node ≡ Some (codes "b", due.1.0)) (sym (ap (λ (f : Fault). f.node) e)) due.1.1 in
-          let same : codes "a" ≡ codes "b" = ap (λ (node : List ℕ × List ℕ). node.0) (same_Some _ _ of_a) in
-          texts_differ (codes "a") (codes "b") refl refl same
-      | inr none ↦ absurd none
-    ]
+    let due : IsUnmade (untaken 0 0 ∷ []) None (position_after [] (act.Init 3 1 0 nodes) (answer.Disk (codes "b") 0)) 3 1 nodes (codes "b") 0 = due_after [] (act.Init 3 1 0 nodes) (answer.Disk (codes "b") 0) _ (λ e. cc) (λ e. cc) caused in
+    elim due.2.untaken as (λ _. ⊥) [ inl e ↦ not_b due.1.instances (subst (λ node. OfNode due.0 node (λ own. own ≡ codes "b")) (sym (ap (λ (f : Fault). f.node) e)) due.2.named) | inr none ↦ absurd none ]
+  where
+    not_b : {planned : Placement} → planned.instances ≡ first_instances nodes → OfNode planned 0 (λ own. own ≡ codes "b") → ⊥
+    not_b is named =
+        let a : Some (record { name = codes "a"; group = codes "g1"; listed = true; drained = false }) ≡ Some named.instance_ = subst (λ l. slice_get l 0 ≡ Some named.instance_) is named.stands in
+        texts_differ (codes "a") (codes "b") refl refl (ap (λ (i : Instance). i.name) (same_Some _ named.instance_ a) ∙ named.holds)
 
 -- a failed disk is no damage
 not_damage : Failing ≢ Damaged
@@ -127,10 +130,17 @@ no_shard_restarted-refused faults caused =
       | inr none ↦ absurd none
     ]
 
+-- a placement of one shard has no second one
+none_behind : (shards : List Shard) → length shards ≡ 1 → slice_index_or shards 1 [] ≡ []
+none_behind [] e = refl
+none_behind (shard ∷ []) e = refl
+none_behind (shard ∷ other ∷ shards) e = absurd (omega (arith, e))
+
 pub no_shard_made-refused : (faults : List Fault) → ¬ Caused true (life_of no_shard_made) faults
 no_shard_made-refused faults caused =
-    let bad : 1 < 1 = (due_after [] (act.Init 3 1 0 nodes) (answer.Disk (codes "b") 1) _ (λ e. cc) (λ e. cc) caused).2 in
-    omega (arith, bad)
+    let due : IsUnmade faults None (position_after [] (act.Init 3 1 0 nodes) (answer.Disk (codes "b") 1)) 3 1 nodes (codes "b") 1 = due_after [] (act.Init 3 1 0 nodes) (answer.Disk (codes "b") 1) _ (λ e. cc) (λ e. cc) caused in
+    let bad : false ≡ true = subst (λ shard. list_any (nat_eq due.2.node) (nodes_of shard) ≡ true) (none_behind due.0.shards due.1.count) due.2.member in
+    cc
 
 pub twice-refused : (life : Life) (fault : Fault) → ¬ Caused true life (fault ∷ fault ∷ [])
 twice-refused life fault caused = caused.different.0 (inl refl)
@@ -148,4 +158,27 @@ bootstrapped_missing-refused faults caused =
 pub restarted_running-refused : (faults : List Fault) → ¬ Caused true (life_of restarted_running) faults
 restarted_running-refused faults caused =
     let due : answer.Done ≡ answer.State (codes "c") = due_after (begun 100 []) (act.Restart (codes "c") 0) answer.Done [] (λ e. cc) (λ e. cc) caused in
+    cc
+
+-- c is one of the three that took the write after these lines: of its replica no bootstrap is wanted
+c_begun : (lines : List Turn) → placement_after None (inner_turns lines) ≡ Some place → IsAcked None (position_after lines (write_all 100 (pos 5)) (acks (0 ∷ 1 ∷ 2 ∷ []))) (codes "hello") write_level.All None (0 ∷ 1 ∷ 2 ∷ [])
+    → (shard : ℕ) × IsBegunFor None (position_after lines (write_all 100 (pos 5)) (acks (0 ∷ 1 ∷ 2 ∷ []))) place shard 2
+c_begun lines stood due =
+    let p = position_after lines (write_all 100 (pos 5)) (acks (0 ∷ 1 ∷ 2 ∷ [])) in
+    let same : place ≡ due.place = only_used lines (write_all 100 (pos 5)) (acks (0 ∷ 1 ∷ 2 ∷ [])) place due.place stood due.may_use in
+    let shard = shard_of (codes "hello") (seed_at None p) (length due.place.shards) in
+    (shard, subst (λ q. IsBegunFor None p q shard 2) (sym same) (due.begun shard refl 2 (inr (inr (inl refl)))))
+
+pub idle-refused : (faults : List Fault) → ¬ Caused true (life_of idle_acked) faults
+idle-refused faults caused =
+    let lines = begun 100 (stopped (codes "c") ∷ c_restarted ∷ []) in
+    let is = c_begun lines refl (due_after lines (write_all 100 (pos 5)) (acks (0 ∷ 1 ∷ 2 ∷ [])) [] (λ e. cc) (λ e. cc) caused) in
+    let bad : true ≡ false = holds_of (λ name. idles_after (record { shard = is.0; node = 2; name = name }) None (inner_turns lines ++ []) ≡ false) 2 _ refl is.1 in
+    cc
+
+pub other_asked-refused : (faults : List Fault) → ¬ Caused true (life_of other_asked) faults
+other_asked-refused faults caused =
+    let lines = begun 100 (c_bootstrapped ∷ stopped (codes "c") ∷ c_restarted ∷ line (act.Bootstrap (codes "b") None) (answer.Available [] place 1) ∷ []) in
+    let is = c_begun lines refl (due_after lines (write_all 100 (pos 5)) (acks (0 ∷ 1 ∷ 2 ∷ [])) [] (λ e. cc) (λ e. cc) caused) in
+    let bad : true ≡ false = holds_of (λ name. idles_after (record { shard = is.0; node = 2; name = name }) None (inner_turns lines ++ []) ≡ false) 2 _ refl is.1 in
     cc

@@ -28,7 +28,7 @@ use Rattle.m3_model.specs.declared.reason.Reason.{Reason}
 use Rattle.m3_model.specs.declared.reason.Reason.TheVariants as reason
 use Rattle.m3_model.specs.declared.turn.Turn.{Turn}
 use Rattle.model_laws.specs.Building.{begun, write, acks, unmet, by_each, place, life_of}
-use Rattle.model_laws.specs.Messages.{fated, stopped, unstrict, b_then_c_late, without_b, lost_and_acked, stopped_and_acked, down_unstopped, cut_by_other_fate, not_short_enough, stopped_again, delivered_twice, fate_of_nobody}
+use Rattle.model_laws.specs.Messages.{fated, stopped, unstrict, b_then_c_late, without_b, lost_and_acked, stopped_and_acked, down_unstopped, cut_by_other_fate, cut_by_other_client, not_short_enough, stopped_again, delivered_twice, fate_of_nobody}
 use Rattle.model_laws.proofs.EachLemmas.{◌also◌}
 use Rattle.model_laws.proofs.PositionLemmas.{position_after, each_position, only, due_after, only_used}
 use Rattle.model_laws.proofs.SampleLemmas.{call_with}
@@ -60,6 +60,14 @@ down_unstopped-refused caused =
 pub cut_by_other_fate-refused : ¬ Caused true (life_of cut_by_other_fate) []
 cut_by_other_fate-refused caused =
     let lines = begun 100 (fated ((0, 1, codes "c", Lose) ∷ []) ∷ []) in
+    let reasons : List (ℕ × Reason) = (1, reason.Memory) ∷ (2, reason.Cut) ∷ [] in
+    let due : MissesLevel true [] None (position_after lines (write 100 (pos 5)) (unmet 1 reasons)) 1 2 reasons 0 = due_after lines (write 100 (pos 5)) (unmet 1 reasons) [] (λ e. cc) (λ e. cc) caused in
+    let bad : false ≡ true = (due.silent.refused (2, reason.Cut) (inr (inl refl))).1.holds in
+    cc
+
+pub cut_by_other_client-refused : ¬ Caused true (life_of cut_by_other_client) []
+cut_by_other_client-refused caused =
+    let lines = begun 100 (fated ((3, 0, codes "c", Lose) ∷ []) ∷ []) in
     let reasons : List (ℕ × Reason) = (1, reason.Memory) ∷ (2, reason.Cut) ∷ [] in
     let due : MissesLevel true [] None (position_after lines (write 100 (pos 5)) (unmet 1 reasons)) 1 2 reasons 0 = due_after lines (write 100 (pos 5)) (unmet 1 reasons) [] (λ e. cc) (λ e. cc) caused in
     let bad : false ≡ true = (due.silent.refused (2, reason.Cut) (inr (inl refl))).1.holds in

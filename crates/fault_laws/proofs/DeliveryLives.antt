@@ -9,7 +9,7 @@ use Rattle.transcripts.specs.Calls.{Call, call_of}
 use Rattle.transcripts.specs.Fates.{fate_at, OfNode, is_stopped}
 use Rattle.transcripts.specs.Faults.{Fault}
 use Rattle.transcripts.specs.Placements.{MayUse, placement_after, placements}
-use Rattle.transcripts.specs.Points.{point_of}
+use Rattle.transcripts.specs.Points.{point_of, was_sent}
 use Rattle.transcripts.specs.Record.{Life, InnerTurn, TurnPosition, IsTurnPosition, inner_turns}
 use Rattle.transcripts.specs.Rules.{rules_at}
 use Rattle.transcripts.specs.Reasons.{MayRefuse}
@@ -30,7 +30,7 @@ use Rattle.m3_model.specs.declared.reason.Reason.{Reason}
 use Rattle.m3_model.specs.declared.reason.Reason.TheVariants as reason
 use Rattle.m3_model.specs.declared.turn.Turn.{Turn}
 use Rattle.model_laws.specs.Building.{begun, wrote, write, acks, unmet, place, space, life_of}
-use Rattle.model_laws.specs.Messages.{b_came, b_then_c_late, without_b, then_b_late, stopped, delivered, delivered_beside, delivered_again, delivered_of_nobody, delivered_in_two_lines, delivered_to_stopped, after_c_lost, c_lost, tick_cut}
+use Rattle.model_laws.specs.Messages.{b_came, b_then_c_late, without_b, then_b_late, stopped, delivered, delivered_beside, delivered_again, delivered_of_nobody, delivered_in_two_lines, delivered_to_stopped, after_c_lost, c_lost, refused_as_unknown, tick_cut, unknown_came}
 use Rattle.model_laws.proofs.EachLemmas.{ascends_by, ◌also◌}
 use Rattle.model_laws.proofs.PositionLemmas.{EachInRun, EachInLine, each_in_line, only_used, position_after, position_after-stands, position_in, each_position, only, due, due_beside, due_after}
 use Rattle.model_laws.proofs.SampleLemmas.{call_with}
@@ -72,7 +72,7 @@ none_delivered p = record { in_order = tt; each = tt }
 
 -- the write that b's message is of
 without_b_taken : IsAcked None (position_after (begun 100 (b_then_c_late ∷ [])) (write 100 (pos 5)) (acks (0 ∷ 2 ∷ []))) (codes "hello") write_level.Majority None (0 ∷ 2 ∷ [])
-without_b_taken = taken_when _ (0 ∷ 2 ∷ []) refl refl (counted_0 also counted_2 also tt) ((below_0_2 also tt) also tt also tt) (refl also refl also tt) (omega arith) (takes_near 100 (pos 5) (omega arith) (omega arith))
+without_b_taken = taken_when _ (0 ∷ 2 ∷ []) refl refl (counted_0 also counted_2 also tt) ((below_0_2 also tt) also tt also tt) (refl also refl also tt) (λ shard. of_node _ 0 _ refl refl also of_node _ 2 _ refl refl also tt) (omega arith) (takes_near 100 (pos 5) (omega arith) (omega arith))
 
 pub beside-caused : Caused true (life_of (then_b_late (delivered_beside b_came []))) []
 beside-caused =
@@ -275,6 +275,16 @@ nobody-refused faults caused =
     let m = one_message p (caused.delivered p) None told in
     let comes = of_message (λ q. (name : List ℕ) → fate_at q name ≡ fate.Deliver) p m.0 refl (only (λ point e. cc) also only (λ point e. cc) also only (λ point e. cc) also only (λ point e name. refl) also tt) (only (λ point e. cc)) m.2.message in
     deliver_late (sym (comes m.2.message.late.instance_.name) ∙ m.2.message.late.holds)
+
+-- a write that was refused for a name makes no message late
+pub unknown-refused : (faults : List Fault) → ¬ Caused true (life_of unknown_came) faults
+unknown-refused faults caused =
+    let p = position_after refused_as_unknown act.Deliver (answer.Outcomes b_came) in
+    let told : IsDelivered true faults None p (caused.delivered p) b_came = due_after refused_as_unknown act.Deliver (answer.Outcomes b_came) [] (λ e. cc) (λ e. cc) caused in
+    let m = one_message p (caused.delivered p) None told in
+    let none : was_sent m.0.position.turn.answer ≡ false = of_message (λ q. was_sent q.turn.answer ≡ false) p m.0 refl (only (λ point e. cc) also only (λ point e. cc) also only (λ point e. refl) also only (λ point e. cc) also only (λ point e. cc) also tt) (only (λ point e. cc)) m.2.message in
+    let bad : false ≡ true = sym none ∙ m.2.message.was_sent in
+    cc
 
 -- the placement that the late message's write used
 used_by : (p : TurnPosition) (m : LateMessage) → (rules_at None p).spaces ≡ space ∷ [] → EachInRun (λ q. (point : Point) → point_of (space ∷ []) q.turn.act ≡ Some point → (call : Call) → call_of q.turn.act ≡ Some call → MayUse None q call.version m.used → place ≡ m.used) p.lines → EachInLine NoPoint p.lines p.line

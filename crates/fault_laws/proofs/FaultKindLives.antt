@@ -114,7 +114,7 @@ pub after-caused : Caused true (life_of made_then_down) (untaken 0 2 ∷ fails 1
 after-caused =
     let faults : List Fault = untaken 0 2 ∷ fails 1 2 ∷ [] in
     caused_by_positions true faults (life_of made_then_down) ((λ h. elim h as (λ _. ⊥) [ inl e ↦ taking_fails (sym (ap (λ (f : Fault). f.kind) e)) | inr none ↦ none ]), ((λ none. none), tt)) refl (
-    only (due true faults [] _ _ _ (2, (codes "g3", refl), omega arith, inl refl))
+    only (due true faults [] _ _ _ (place, first_placement, record { node = 2; named = of_node _ 2 _ refl refl; member = refl; is_new = λ had. had.known; untaken = inl refl }))
     also only (due true faults [] _ _ _ (first_placement, refl))
     also only (due true faults [] _ _ _ tt)
     also only (first_moment_after faults [] (init (answer.Disk (codes "c") 0) ∷ made ∷ named ∷ []) 100 refl)
@@ -155,4 +155,4 @@ untaken_restart-refused caused =
 
 pub failed_init-refused : ¬ Caused true (life_of init_failed) (fails 0 1 ∷ [])
 failed_init-refused caused =
-    elim (due_after [] (act.Init 3 1 0 nodes) (answer.Disk (codes "b") 0) _ (λ e. cc) (λ e. cc) caused).3 as (λ _. ⊥) [ inl e ↦ taking_fails (sym (ap (λ (f : Fault). f.kind) e)) | inr none ↦ absurd none ]
+    elim (due_after [] (act.Init 3 1 0 nodes) (answer.Disk (codes "b") 0) _ (λ e. cc) (λ e. cc) caused).2.untaken as (λ _. ⊥) [ inl e ↦ taking_fails (sym (ap (λ (f : Fault). f.kind) e)) | inr none ↦ absurd none ]

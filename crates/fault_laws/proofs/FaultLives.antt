@@ -4,6 +4,7 @@ use Rattle.std.proofs.lemmas.Fmt.{decimal_digit}
 use Rattle.std.specs.Prelude.{Option, Some, None, pos, codes}
 use Rattle.transcripts.specs.Caused.{Caused, IsCalled, IsBootstrapped}
 use Rattle.transcripts.specs.Calls.{call_of}
+use Rattle.transcripts.specs.Waiting.{IsBegunFor}
 use Rattle.transcripts.specs.Levels.{IsAcked, MissesLevel}
 use Rattle.transcripts.specs.Reasons.{MayRefuse, MayServe, TakesPoint}
 use Rattle.transcripts.specs.Placements.{placement_after, placement_at, placements, seed_at, HadReplica}
@@ -19,8 +20,8 @@ use Rattle.m3_model.specs.declared.answer.Answer.TheVariants as answer
 use Rattle.m3_model.specs.declared.reason.Damage.TheVariants as damaged
 use Rattle.m3_model.specs.declared.reason.Reason.{Reason}
 use Rattle.model_laws.specs.Building.{life_of, place}
-use Rattle.fault_laws.specs.Faulty.{fails, untaken, write_all, stopped_and_back, failed_and_back, restart_failed, init_failed, boot_of_another, shard_missing, damages, damaged_boot}
-use Rattle.model_laws.proofs.EachLemmas.{◌also◌}
+use Rattle.fault_laws.specs.Faulty.{fails, untaken, write_all, stopped_and_back, failed_and_back, restart_failed, init_failed, boot_of_another, shard_missing, damages, damaged_boot, asked_and_acked}
+use Rattle.model_laws.proofs.EachLemmas.{◌also◌, Each}
 use Rattle.model_laws.proofs.PositionLemmas.{caused_by_positions, only, due}
 use Rattle.model_laws.proofs.SampleLemmas.{rules_when, call_with}
 use Rattle.model_laws.proofs.CausedLives.{begun_caused_over, first_placement, counted_0, counted_1, counted_2, below_0_1, below_0_2, below_1_2}
@@ -37,10 +38,10 @@ c_missed p why place_is seed_is is of_a of_b serves may =
     ((λ quiet. let bad : true ≡ false = sym of_a ∙ quiet in cc) also (λ quiet. let bad : true ≡ false = sym of_b ∙ quiet in cc) also (λ quiet. inl refl) also tt) (may also tt) (λ some. serves)
 
 -- all three took it
-all_took : (p : TurnPosition) → placement_after None (inner_turns p.lines ++ (p.earlier ++ [])) ≡ Some place → seed_at None p ≡ 0 → reaches p place 0 ≡ true → reaches p place 1 ≡ true → reaches p place 2 ≡ true → TakesPoint (rules_at None p) p.turn.act
+all_took : (p : TurnPosition) → placement_after None (inner_turns p.lines ++ (p.earlier ++ [])) ≡ Some place → seed_at None p ≡ 0 → reaches p place 0 ≡ true → reaches p place 1 ≡ true → reaches p place 2 ≡ true → ((shard : ℕ) → Each (IsBegunFor None p place shard) (0 ∷ 1 ∷ 2 ∷ [])) → TakesPoint (rules_at None p) p.turn.act
     → IsAcked None p (codes "hello") write_level.All None (0 ∷ 1 ∷ 2 ∷ [])
-all_took p place_is seed_is of_a of_b of_c takes =
-    taken_when p (0 ∷ 1 ∷ 2 ∷ []) place_is seed_is (counted_0 also counted_1 also counted_2 also tt) ((below_0_1 also below_0_2 also tt) also (below_1_2 also tt) also tt also tt) (of_a also of_b also of_c also tt) (omega arith) takes
+all_took p place_is seed_is of_a of_b of_c begun takes =
+    taken_when p (0 ∷ 1 ∷ 2 ∷ []) place_is seed_is (counted_0 also counted_1 also counted_2 also tt) ((below_0_1 also below_0_2 also tt) also (below_1_2 also tt) also tt also tt) (of_a also of_b also of_c also tt) begun (omega arith) takes
 
 -- c had a replica of the only shard
 pub c_had : {turns : List InnerTurn} → IsIn (placements None turns) place → HadReplica None turns 0 2
@@ -63,7 +64,7 @@ stopped_and_back-caused =
     also only (due true [] [] _ _ _ tt)
     also only (due true [] [] _ _ _ (c_missed _ _ refl refl refl refl refl takes_all (λ told. of_node _ 2 _ refl refl)))
     also only (due true [] [] _ _ _ (bootstrapped _ _ _ refl refl))
-    also only (due true [] [] _ _ _ (all_took _ refl refl refl refl refl takes_all))
+    also only (due true [] [] _ _ _ (all_took _ refl refl refl refl refl (λ shard. of_node _ 0 _ refl refl also of_node _ 1 _ refl refl also of_node _ 2 _ refl refl also tt) takes_all))
     also tt)
 
 pub failed_and_back-caused : Caused true (life_of failed_and_back) (fails 3 2 ∷ [])
@@ -75,7 +76,7 @@ failed_and_back-caused =
     also only (due true (fails 3 2 ∷ []) [] _ _ _ tt)
     also only (due true (fails 3 2 ∷ []) [] _ _ _ (c_missed _ _ refl refl refl refl refl takes_all (λ told. of_node _ 2 _ refl refl)))
     also only (due true (fails 3 2 ∷ []) [] _ _ _ (bootstrapped _ _ _ refl refl))
-    also only (due true (fails 3 2 ∷ []) [] _ _ _ (all_took _ refl refl refl refl refl takes_all))
+    also only (due true (fails 3 2 ∷ []) [] _ _ _ (all_took _ refl refl refl refl refl (λ shard. of_node _ 0 _ refl refl also of_node _ 1 _ refl refl also of_node _ 2 _ refl refl also tt) takes_all))
     also tt)
 
 pub restart_failed-caused : Caused true (life_of restart_failed) (fails 4 2 ∷ [])
@@ -100,7 +101,7 @@ damaged_boot-caused file at =
 pub init_failed-caused : Caused true (life_of init_failed) (untaken 0 1 ∷ [])
 init_failed-caused =
     caused_by_positions true _ (life_of init_failed) ((λ none. none), tt) refl (
-    only (due true (untaken 0 1 ∷ []) [] _ _ _ (1, (codes "g2", refl), omega arith, inl refl))
+    only (due true (untaken 0 1 ∷ []) [] _ _ _ (place, first_placement, record { node = 1; named = of_node _ 1 _ refl refl; member = refl; is_new = λ had. had.known; untaken = inl refl }))
     also only (due true (untaken 0 1 ∷ []) [] _ _ _ refl)
     also only (due true (untaken 0 1 ∷ []) [] _ _ _ (first_placement, refl))
     also tt)
@@ -119,4 +120,13 @@ boot_of_another-caused =
     also only (due true [] [] _ _ _ tt)
     also only (due true [] [] _ _ _ (bootstrapped _ _ _ refl refl))
     also only (due true [] [] _ _ _ (c_missed _ _ refl refl refl refl refl takes_all (λ told. of_node _ 2 _ refl refl)))
+    also tt)
+
+pub asked-caused : Caused true (life_of asked_and_acked) []
+asked-caused =
+    begun_caused_over [] 100 _ tt refl (
+    only (due true [] [] _ _ _ tt)
+    also only (due true [] [] _ _ _ tt)
+    also only (inl refl)
+    also only (due true [] [] _ _ _ (all_took _ refl refl refl refl refl (λ shard. of_node _ 0 _ refl refl also of_node _ 1 _ refl refl also of_node _ 2 _ refl refl also tt) takes_all))
     also tt)

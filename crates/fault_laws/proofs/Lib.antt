@@ -8,3 +8,4 @@ pub mod ShortLemmas
 pub mod VersionLives
 pub mod UntoldLemmas
 pub mod UpkeepLives
+pub mod ServedLemmas

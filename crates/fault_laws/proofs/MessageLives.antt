@@ -3,6 +3,7 @@ use Rattle.std.proofs.Common.{◌≡◌, ◌<◌, ◌≤◌, ◌+◌, ℕ, ℤ, 
 use Rattle.std.specs.Prelude.{Some, None, map, pos, codes, slice_get, IsTrue}
 use Rattle.transcripts.specs.Caused.{Caused}
 use Rattle.transcripts.specs.Calls.{call_of, AsksShard}
+use Rattle.transcripts.specs.Waiting.{IsBegunFor}
 use Rattle.transcripts.specs.Levels.{IsAcked, AreSilent, MissesLevel, IsShort, IsFoundFor, reached_of}
 use Rattle.transcripts.specs.Reasons.{MayRefuse, MayServe, TakesPoint}
 use Rattle.m3_model.specs.declared.placement.Placement.{Placement}
@@ -90,14 +91,15 @@ unmet_when p needed got reasons place_is seed_is is needs fewer others counted b
 }
 
 -- a write of `hello` that these nodes took, each of which it reached
-pub taken_when : {level : WriteLevel} (p : TurnPosition) (taken : List ℕ) → placement_after None (inner_turns p.lines ++ (p.earlier ++ [])) ≡ Some place → seed_at None p ≡ 0 → Each (IsCounted place 0) taken → EachPair (IsNamedBelow place) taken → Each (λ node. reaches p place node ≡ true) taken → needed_write level 3 ≤ length taken
+pub taken_when : {level : WriteLevel} (p : TurnPosition) (taken : List ℕ) → placement_after None (inner_turns p.lines ++ (p.earlier ++ [])) ≡ Some place → seed_at None p ≡ 0 → Each (IsCounted place 0) taken → EachPair (IsNamedBelow place) taken → Each (λ node. reaches p place node ≡ true) taken → ((shard : ℕ) → Each (IsBegunFor None p place shard) taken) → needed_write level 3 ≤ length taken
     → TakesPoint (rules_at None p) p.turn.act → IsAcked None p (codes "hello") level None taken
-taken_when p taken place_is seed_is counted by_name reached enough takes = record {
+taken_when p taken place_is seed_is counted by_name reached begun enough takes = record {
   place = place;
   may_use = stood p place place_is;
   counted = λ shard asked. subst (λ k. (node : ℕ) → IsIn taken node → IsCounted place k node) (sym (hello_shard p seed_is shard asked)) (each_in (IsCounted place 0) taken counted);
   by_name = ascends_by (IsNamedBelow place) taken by_name;
   reached = each_in (λ node. reaches p place node ≡ true) taken reached;
+  begun = λ shard asked. each_in (IsBegunFor None p place shard) taken (begun shard);
   enough = enough;
   takes = takes;
 }
@@ -110,7 +112,7 @@ pub lost_messages-caused : Caused true (life_of lost_messages) []
 lost_messages-caused =
     begun_caused 100 _ refl (
     only (due true [] [] _ _ _ tt)
-    also only (due true [] [] _ _ _ (taken_when _ (0 ∷ 1 ∷ []) refl refl (counted_0 also counted_1 also tt) ((below_0_1 also tt) also tt also tt) (refl also refl also tt) (omega arith) (takes_near 100 (pos 5) (omega arith) (omega arith))))
+    also only (due true [] [] _ _ _ (taken_when _ (0 ∷ 1 ∷ []) refl refl (counted_0 also counted_1 also tt) ((below_0_1 also tt) also tt also tt) (refl also refl also tt) (λ shard. of_node _ 0 _ refl refl also of_node _ 1 _ refl refl also tt) (omega arith) (takes_near 100 (pos 5) (omega arith) (omega arith))))
     also only (due true [] [] _ _ _ (unmet_when _ _ 1 _ refl refl refl refl (omega arith) refl (counted_1 also counted_2 also tt) ((below_1_2 also tt) also tt also tt)
     ((λ quiet. cc) also (λ quiet. inl refl) also (λ quiet. inr (inl refl)) also tt)
     ((refl, of_node _ 1 _ refl refl) also (refl, of_node _ 2 _ refl refl) also tt)
@@ -133,7 +135,7 @@ two_down = record {
 pub stopped_nodes-caused : Caused true (life_of stopped_nodes) []
 stopped_nodes-caused =
     begun_caused 100 _ refl (
-    only (due true [] [] _ _ _ (taken_when _ (0 ∷ 1 ∷ 2 ∷ []) refl refl (counted_0 also counted_1 also counted_2 also tt) ((below_0_1 also below_0_2 also tt) also (below_1_2 also tt) also tt also tt) (refl also refl also refl also tt) (omega arith) (takes_near 100 (pos 5) (omega arith) (omega arith))))
+    only (due true [] [] _ _ _ (taken_when _ (0 ∷ 1 ∷ 2 ∷ []) refl refl (counted_0 also counted_1 also counted_2 also tt) ((below_0_1 also below_0_2 also tt) also (below_1_2 also tt) also tt also tt) (refl also refl also refl also tt) (λ shard. of_node _ 0 _ refl refl also of_node _ 1 _ refl refl also of_node _ 2 _ refl refl also tt) (omega arith) (takes_near 100 (pos 5) (omega arith) (omega arith))))
     also only (due true [] [] _ _ _ tt)
     also only (due true [] [] _ _ _ tt)
     also only (due true [] [] _ _ _ (found_when _ read_level.Unstrict true 1 refl refl refl (omega arith) (λ e. (refl, two_down)) (λ e f. cc)))
@@ -200,8 +202,8 @@ pub late_messages-caused : Caused true (life_of late_messages) []
 late_messages-caused =
     begun_delivering [] 100 _ 6 0 0 (to_b ∷ to_c ∷ []) tt refl (
     only (due true [] [] _ _ _ tt)
-    also only (due true [] [] _ _ _ (taken_when _ (0 ∷ 2 ∷ []) refl refl (counted_0 also counted_2 also tt) ((below_0_2 also tt) also tt also tt) (refl also refl also tt) (omega arith) (takes_near 100 (pos 5) (omega arith) (omega arith))))
-    also only (due true [] [] _ _ _ (taken_when _ (0 ∷ 1 ∷ []) refl refl (counted_0 also counted_1 also tt) ((below_0_1 also tt) also tt also tt) (refl also refl also tt) (omega arith) (takes_near 110 (pos 6) (omega arith) (omega arith))))
+    also only (due true [] [] _ _ _ (taken_when _ (0 ∷ 2 ∷ []) refl refl (counted_0 also counted_2 also tt) ((below_0_2 also tt) also tt also tt) (refl also refl also tt) (λ shard. of_node _ 0 _ refl refl also of_node _ 2 _ refl refl also tt) (omega arith) (takes_near 100 (pos 5) (omega arith) (omega arith))))
+    also only (due true [] [] _ _ _ (taken_when _ (0 ∷ 1 ∷ []) refl refl (counted_0 also counted_1 also tt) ((below_0_1 also tt) also tt also tt) (refl also refl also tt) (λ shard. of_node _ 0 _ refl refl also of_node _ 1 _ refl refl also tt) (omega arith) (takes_near 110 (pos 6) (omega arith) (omega arith))))
     also only (due true [] (to_b ∷ to_c ∷ []) _ _ _ both_delivered)
     also only (due true [] [] _ _ _ (record { in_order = tt; each = tt }))
     also tt)

@@ -21,13 +21,13 @@ use Rattle.model_laws.proofs.EachLemmas.{◌also◌}
 use Rattle.model_laws.proofs.PositionLemmas.{position_after, only, due, due_after, only_used}
 use Rattle.model_laws.proofs.SampleLemmas.{rules_when, StandsAt, stands, WindowRefuses}
 use Rattle.model_laws.proofs.CausedLives.{begun_caused, counted_0, counted_1, counted_2, below_0_1, below_0_2, below_1_2}
-use Rattle.fault_laws.proofs.MessageLives.{found_when, taken_when, takes_near, hello_shard}
+use Rattle.fault_laws.proofs.MessageLives.{found_when, of_node, taken_when, takes_near, hello_shard}
 use Rattle.model_laws.proofs.UncausedLives.{window_refuses}
 
 pub whole-caused : Caused true (life_of (unstrict_found ((100, pos 5) ∷ []) false)) []
 whole-caused =
     begun_caused 100 _ refl (
-    only (due true [] [] _ _ _ (taken_when _ (0 ∷ 1 ∷ 2 ∷ []) refl refl (counted_0 also counted_1 also counted_2 also tt) ((below_0_1 also below_0_2 also tt) also (below_1_2 also tt) also tt also tt) (refl also refl also refl also tt) (omega arith) (takes_near 100 (pos 5) (omega arith) (omega arith))))
+    only (due true [] [] _ _ _ (taken_when _ (0 ∷ 1 ∷ 2 ∷ []) refl refl (counted_0 also counted_1 also counted_2 also tt) ((below_0_1 also below_0_2 also tt) also (below_1_2 also tt) also tt also tt) (refl also refl also refl also tt) (λ shard. of_node _ 0 _ refl refl also of_node _ 1 _ refl refl also of_node _ 2 _ refl refl also tt) (omega arith) (takes_near 100 (pos 5) (omega arith) (omega arith))))
     also only (due true [] [] _ _ _ (found_when _ read_level.Unstrict false 3 refl refl refl (omega arith) (λ e. cc) (λ e f. omega arith)))
     also tt)
 
@@ -53,7 +53,7 @@ of_short shard zero_is short =
     let here : IsShort true [] None (unstrict_position true) place 0 = subst (λ k. IsShort true [] None (unstrict_position true) place k) zero_is short in
     let all : here.got + length here.reasons ≡ 3 = here.others in
     let few : here.got < 2 = here.fewer in
-    let stood : StandsAt lines (rules_when 100) = stands refl refl refl refl refl (λ name. refl) (λ name. refl also refl also refl also tt) in
+    let stood : StandsAt lines (rules_when 100) = stands refl refl refl refl refl (λ name. refl) (λ name. refl also refl also refl also tt) (λ x. refl) in
     (here.reasons, omega (arith, all, few), λ r m. only_memory r.1 (window_refuses lines (rules_when 100) (unstrict 0 200) (answer.Found [] true) r.0 r.1 stood (here.silent.counted r m) (here.silent.refused r m)))
 
 pub hidden_memory : Caused true (life_of (unstrict_found [] true)) [] → HiddenMemory

@@ -21,7 +21,7 @@ use Rattle.transcripts.specs.Fates.{OfNode}
 use Rattle.transcripts.specs.Moves.{IsNew, IsUnowned, OwnsNot}
 use Rattle.transcripts.specs.Reasons.{MayFail, MayRefuse}
 use Rattle.transcripts.specs.Record.{Life, Record, TurnPosition}
-use Rattle.transcripts.specs.Sweeps.{IsSwept}
+use Rattle.transcripts.specs.Sweeps.{IsSwept, MayNotKeepUp}
 use Rattle.transcripts.specs.Waiting.{Replica}
 use Rattle.model_laws.specs.Building.{begun, life_of, place, write, acks, unmet, by_each}
 use Rattle.model_laws.specs.Uncaused.{write_answered}
@@ -122,8 +122,13 @@ outcomes_less faults start p (m ∷ messages) [] each = absurd each
 outcomes_less faults start p (m ∷ messages) (o ∷ outcomes) each =
     (record { message = each.0.message; node_is = each.0.node_is; shard_is = each.0.shard_is; came = come_less faults start p m o.1 o.2 each.0.came }, outcomes_less faults start p messages outcomes each.1)
 
+kept_up_less : (faults : List Fault) (start : Option MetaState) (p : TurnPosition) (used : Placement) (shard node : ℕ) (why : Reason) → MayNotKeepUp true faults start p used shard node why → MayNotKeepUp false faults start p used shard node why
+kept_up_less faults start p used shard node reason.NotOwned may = absurd may
+kept_up_less faults start p used shard node (reason.Stale fence) may = absurd may
+kept_up_less faults start p used shard node why may = fail_less faults start p used shard node why may
+
 swept_less : (faults : List Fault) (start : Option MetaState) (p : TurnPosition) (done : List (ℕ × ℕ × ℕ)) (failed : List (ℕ × ℕ × Reason)) → IsSwept true faults start p done failed → IsSwept false faults start p done failed
-swept_less faults start p done failed h = record { over = h.over; refused = λ x m. fail_less faults start p (h.over).place x.1 x.0 x.2 (h.refused x m) }
+swept_less faults start p done failed h = record { over = h.over; running = h.running; begun = h.begun; refused = λ x m. kept_up_less faults start p (h.over).place x.1 x.0 x.2 (h.refused x m) }
 
 move_less : (start : Option MetaState) (p : TurnPosition) (used : Placement) (shard node : ℕ) → IsUnownedForMove true start p used shard node → IsUnownedForMove false start p used shard node
 move_less start p used shard node h = record {
@@ -156,7 +161,7 @@ own_less faults start messages p (act.Restart node pick) (answer.Disk name shard
 own_less faults start messages p (act.Bootstrap node asked) (answer.Available available used version) own = own
 own_less faults start messages p (act.Bootstrap node asked) (answer.Disk name shard) own = own
 own_less faults start messages p (act.Bootstrap node asked) (answer.Corrupt name shard damage) own = own
-own_less faults start messages p (act.Bootstrap node asked) (answer.Peers got needed reasons shard) own = record { misses = own.misses; refused = λ r m. break_less faults start p (own.misses).place shard r.0 r.1 (own.refused r m) }
+own_less faults start messages p (act.Bootstrap node asked) (answer.Peers got needed reasons shard) own = record { misses = own.misses; stopped = own.stopped; refused = λ r m. break_less faults start p (own.misses).place shard r.0 r.1 (own.refused r m) }
 own_less faults start messages p (act.Bootstrap node asked) (answer.Limit limit) own = own
 own_less faults start messages p (act.Add node group) b own = own
 own_less faults start messages p (act.Drain node) b own = own
@@ -221,7 +226,7 @@ pub fence-untold : (fence : ℕ) → MayAnswer false (unmet 0 (by_each (reason.S
 fence-untold fence = each_may (reason.Stale fence) (λ p node told. cc)
 
 pub fence-told : (fence : ℕ) → ¬ MayAnswer true (unmet 0 (by_each (reason.Stale fence)))
-fence-told fence caused = each_refuses 100 100 (pos 5) (reason.Stale fence) (stands refl refl refl refl refl (λ name. refl) (λ name. refl also refl also refl also tt)) caused
+fence-told fence caused = each_refuses 100 100 (pos 5) (reason.Stale fence) (stands refl refl refl refl refl (λ name. refl) (λ name. refl also refl also refl also tt) (λ x. refl)) caused
 
 -- ---- as much
 

@@ -24,7 +24,7 @@ use Rattle.transcripts.specs.Fates.{reaches}
 use Rattle.transcripts.specs.Levels.{IsAcked, MissesLevel}
 use Rattle.transcripts.specs.Placements.{MayUse, IsCounted}
 use Rattle.transcripts.specs.Reasons.{MayRefuse}
-use Rattle.transcripts.specs.Waiting.{waiting_after}
+use Rattle.transcripts.specs.Waiting.{IsBegunFor, waiting_after}
 use Rattle.placement_core.specs.NodeNames.{IsNamedBelow}
 use Rattle.model_laws.specs.Building.{begun, at_moment, life_of, line, acks, place, two_nodes, assigned}
 use Rattle.fault_laws.specs.Faulty.{write_all, all_but_c}
@@ -34,7 +34,7 @@ use Rattle.model_laws.proofs.PositionLemmas.{position_after, position_after-stan
 use Rattle.model_laws.proofs.SampleLemmas.{call_with, of_shard}
 use Rattle.model_laws.proofs.CausedLives.{at_moment-caused, first_placement_of_two, counted_0, counted_1, counted_2, below_0_1, below_0_2, below_1_2}
 use Rattle.fault_laws.proofs.FaultLives.{takes_all}
-use Rattle.fault_laws.proofs.MessageLives.{hello_shard}
+use Rattle.fault_laws.proofs.MessageLives.{hello_shard, of_node}
 use Rattle.fault_laws.proofs.BrokenFaults.{holds_of}
 
 -- what is due of the first line of a run that begins with version 2
@@ -73,6 +73,7 @@ printed_taken = record {
   counted = λ shard asked. subst (λ k. (node : ℕ) → IsIn (0 ∷ 1 ∷ 2 ∷ []) node → IsCounted place k node) (sym (hello_shard (position_after (begun 100 []) (write_at 1 100 (pos 5)) (acks (0 ∷ 1 ∷ 2 ∷ []))) refl shard asked)) (each_in (IsCounted place 0) (0 ∷ 1 ∷ 2 ∷ []) (counted_0 also counted_1 also counted_2 also tt));
   by_name = ascends_by (IsNamedBelow place) (0 ∷ 1 ∷ 2 ∷ []) ((below_0_1 also below_0_2 also tt) also (below_1_2 also tt) also tt also tt);
   reached = each_in (λ node. reaches (position_after (begun 100 []) (write_at 1 100 (pos 5)) (acks (0 ∷ 1 ∷ 2 ∷ []))) place node ≡ true) (0 ∷ 1 ∷ 2 ∷ []) (refl also refl also refl also tt);
+  begun = λ shard asked. each_in (IsBegunFor None (position_after (begun 100 []) (write_at 1 100 (pos 5)) (acks (0 ∷ 1 ∷ 2 ∷ []))) place shard) (0 ∷ 1 ∷ 2 ∷ []) (of_node _ 0 _ refl refl also of_node _ 1 _ refl refl also of_node _ 2 _ refl refl also tt);
   enough = omega arith;
   takes = record { point = takes_all.point; of_act = takes_all.of_act; in_window = takes_all.in_window };
 }

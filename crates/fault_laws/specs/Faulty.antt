@@ -176,3 +176,17 @@ boot_covered = begun 100 (stopped (codes "c") ∷ c_restarted ∷ line (act.Boot
 -- the same where a's was answered ok instead
 abbrev pub boot_of_another : List Turn
 boot_of_another = begun 100 (stopped (codes "c") ∷ c_restarted ∷ line (act.Bootstrap (codes "a") (Some 0)) (answer.Available [] place 1) ∷ without_c reason.Boot ∷ [])
+
+-- ---- a replica for which no bootstrap was asked
+
+-- c is restarted, and takes a write though no bootstrap was asked since
+abbrev pub idle_acked : List Turn
+idle_acked = begun 100 (stopped (codes "c") ∷ c_restarted ∷ with_c ∷ [])
+
+-- the same where one of b was asked, and one of c before it was stopped
+abbrev pub other_asked : List Turn
+other_asked = begun 100 (c_bootstrapped ∷ stopped (codes "c") ∷ c_restarted ∷ line (act.Bootstrap (codes "b") None) (answer.Available [] place 1) ∷ with_c ∷ [])
+
+-- the same where one was asked that wanted memory
+abbrev pub asked_and_acked : List Turn
+asked_and_acked = begun 100 (stopped (codes "c") ∷ c_restarted ∷ bootstrap_c answer.Memory ∷ with_c ∷ [])

@@ -2,3 +2,4 @@ pub mod Faulty
 pub mod Versions
 pub mod Untold
 pub mod Upkeep
+pub mod Served

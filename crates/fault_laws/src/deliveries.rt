@@ -12,7 +12,7 @@ ghost use Rattle.transcripts.specs.Faults.{Fault};
 ghost use Rattle.transcripts.specs.Reasons.{MayRefuse};
 ghost use Rattle.transcripts.specs.Record.{TurnPosition};
 ghost use Rattle.model_laws.specs.Building.{life_of, place, write};
-ghost use Rattle.model_laws.specs.Messages.{b_came, then_b_late, delivered, delivered_beside, delivered_again, delivered_of_nobody, delivered_in_two_lines, delivered_to_stopped, after_c_lost, tick_cut};
+ghost use Rattle.model_laws.specs.Messages.{b_came, then_b_late, delivered, delivered_beside, delivered_again, delivered_of_nobody, delivered_in_two_lines, delivered_to_stopped, after_c_lost, tick_cut, unknown_came};
 
 /// Of two workers that deliver side by side one alone delivers the late message.
 pub fn late_message_twice_beside()
@@ -35,6 +35,11 @@ pub fn late_message_in_two_lines()
 /// A message is delivered that nobody's write made late.
 pub fn message_of_nobody()
     ensures { (faults : List Fault) → ¬ Caused true (life_of delivered_of_nobody) faults }
+{}
+
+/// A message is delivered of a write that was refused for a name, and so wasn't sent.
+pub fn message_of_unknown_write()
+    ensures { (faults : List Fault) → ¬ Caused true (life_of unknown_came) faults }
 {}
 
 /// A stopped node is down for a late message, and doesn't take it.

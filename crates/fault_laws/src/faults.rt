@@ -6,7 +6,7 @@ ghost use Rattle.transcripts.specs.Caused.{Caused};
 ghost use Rattle.m3_model.specs.declared.reason.Damage.{Damage};
 ghost use Rattle.m3_model.specs.declared.reason.Damage.TheVariants as damaged;
 ghost use Rattle.model_laws.specs.Building.{life_of};
-ghost use Rattle.fault_laws.specs.Faulty.{fails, untaken, stopped_and_back, failed_and_back, restart_failed, init_failed, shard_missing, down_restarted, boot_bootstrapped, boot_covered, boot_of_another, disk_at_once, corrupt_at_once, bootstrapped_stopped, bootstrapped_missing, restarted_running, damages, damaged_boot, no_shard_restarted, no_shard_made};
+ghost use Rattle.fault_laws.specs.Faulty.{fails, untaken, stopped_and_back, failed_and_back, restart_failed, init_failed, shard_missing, down_restarted, boot_bootstrapped, boot_covered, boot_of_another, disk_at_once, corrupt_at_once, bootstrapped_stopped, bootstrapped_missing, restarted_running, damages, damaged_boot, no_shard_restarted, no_shard_made, idle_acked, other_asked, asked_and_acked};
 
 /// A node that was stopped, or a replica whose disk failed, is down; once its node is restarted it waits for a
 /// bootstrap, and after one it takes writes again.
@@ -33,6 +33,14 @@ pub fn bootstrap_finds_damage()
 /// A bootstrap of a shard that isn't there names its number, and of a node that isn't there the node first.
 pub fn shard_not_there()
     ensures { Caused true (life_of shard_missing) [] }
+{}
+
+/// A replica that was restarted takes no write before a bootstrap of it is asked; it may take one after that, whatever it was
+/// answered.
+pub fn idle_replica_takes_nothing()
+    ensures asked { Caused true (life_of asked_and_acked) [] }
+    ensures idle { (faults : List Fault) → ¬ Caused true (life_of idle_acked) faults }
+    ensures other { (faults : List Fault) → ¬ Caused true (life_of other_asked) faults }
 {}
 
 /// A replica is down by a fault, though its node was restarted since.

@@ -6,6 +6,7 @@ pub mod deliveries;
 pub mod fault_kinds;
 pub mod faults;
 pub mod messages;
+pub mod served;
 pub mod short_reads;
 pub mod untold;
 pub mod upkeep;

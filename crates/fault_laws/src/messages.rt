@@ -2,7 +2,7 @@
 ghost use Rattle.std.specs.Prelude.{[], true};
 ghost use Rattle.transcripts.specs.Caused.{Caused};
 ghost use Rattle.model_laws.specs.Building.{life_of};
-ghost use Rattle.model_laws.specs.Messages.{lost_messages, stopped_nodes, late_messages, lost_and_acked, stopped_and_acked, down_unstopped, cut_by_other_fate, not_short_enough, stopped_again, delivered_twice, fate_of_nobody};
+ghost use Rattle.model_laws.specs.Messages.{lost_messages, stopped_nodes, late_messages, lost_and_acked, stopped_and_acked, down_unstopped, cut_by_other_fate, cut_by_other_client, not_short_enough, stopped_again, delivered_twice, fate_of_nobody};
 
 /// Messages are lost by the listed fates, call by call.
 pub fn lost_messages_are_cut()
@@ -37,6 +37,11 @@ pub fn down_without_stop()
 /// A call is cut by the fate of another one.
 pub fn cut_by_another_call()
     ensures { ¬ Caused true (life_of cut_by_other_fate) [] }
+{}
+
+/// A call is cut by the fate of another client's call.
+pub fn cut_by_another_client()
+    ensures { ¬ Caused true (life_of cut_by_other_client) [] }
 {}
 
 /// An unstrict read isn't short, though it reached one node of three.

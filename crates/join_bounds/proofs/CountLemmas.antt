@@ -19,11 +19,11 @@ use Rattle.m3_model.specs.declared.turn.Request.{Request}
 use Rattle.m3_model.specs.declared.turn.Request.TheVariants as request
 use Rattle.m3_model.specs.declared.turn.Turn.{Turn}
 use Rattle.transcripts.specs.Caused.{acts_in, acts_taken, is_write}
+use Rattle.transcripts.specs.Left.{earlier_turns}
 use Rattle.transcripts.specs.Points.{point_of, sent_at, sent_point, was_sent}
 use Rattle.transcripts.specs.Record.{InnerTurn, Record, acts_of, answered, answered_lists, inner_turns, joined, line_of, lists_by, lists_of}
 use Rattle.transcripts.specs.Rules.{rules_at}
 use Rattle.told_by.specs.Lines.{position_after}
-use Rattle.told_by.specs.Openings.{earlier_turns}
 use Rattle.told_runs.specs.Bounds.{writes_taken}
 
 -- ---- lists

@@ -25,8 +25,8 @@ use Rattle.cluster_core.specs.declared.event.Event.TheVariants as event
 use Rattle.cluster_core.specs.declared.event.StepCall.{StepCall}
 use Rattle.cluster_core.specs.declared.event.StepCall.TheVariants as call
 use Rattle.cluster_core.specs.declared.event.StepReply.TheVariants as reply
+use Rattle.transcripts.specs.Left.{OpeningStands}
 use Rattle.transcripts.specs.Record.{Record, line_of}
-use Rattle.told_by.specs.Openings.{OpeningStands}
 use Rattle.told_by.specs.Told.{ToldBy}
 use Rattle.told_runs.specs.Bounds.{writes_taken}
 use Rattle.peer_streams.specs.Joins.{Join, Opened}

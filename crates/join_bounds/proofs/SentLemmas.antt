@@ -20,11 +20,11 @@ use Rattle.cluster_core.specs.declared.event.Event.TheVariants as event
 use Rattle.cluster_core.specs.declared.event.StepCall.{StepCall}
 use Rattle.cluster_core.specs.declared.event.StepReply.TheVariants as reply
 use Rattle.cluster_core.proofs.OriginLemmas.{page_origin}
+use Rattle.transcripts.specs.Left.{OpeningStands, earlier_turns}
 use Rattle.transcripts.specs.Points.{point_of, sent_point}
 use Rattle.transcripts.specs.Record.{InnerTurn, Record, TurnPosition, IsTurnPosition, acts_of, inner_turns, joined, lists_of}
 use Rattle.transcripts.specs.Rules.{rules_at, start_rules}
 use Rattle.told_by.specs.Lines.{position_after}
-use Rattle.told_by.specs.Openings.{OpeningStands, earlier_turns}
 use Rattle.told_by.specs.Told.{ToldBy}
 use Rattle.told_by.proofs.AnswerLemmas.{sent_by}
 use Rattle.told_by.proofs.KeptLemmas.{late_send, opening_low, sent_grows}

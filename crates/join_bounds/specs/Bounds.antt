@@ -10,8 +10,8 @@ use Rattle.placement_core.specs.Lawful.{IsLawful}
 use Rattle.cluster_core.specs.Core.{AgreesWith, Opening}
 use Rattle.cluster_core.specs.Legal.{Legal}
 use Rattle.cluster_core.specs.declared.event.Event.{Event}
+use Rattle.transcripts.specs.Left.{OpeningStands}
 use Rattle.transcripts.specs.Record.{Record, line_of}
-use Rattle.told_by.specs.Openings.{OpeningStands}
 use Rattle.told_by.specs.Told.{ToldBy}
 use Rattle.told_runs.specs.Bounds.{writes_taken}
 

@@ -1,16 +1,19 @@
 -- A cause that lies later lies since the beginning.
-use Rattle.std.proofs.Common.{◌≡◌, ℕ, ◌≤◌, List, inl, inr, refl, sym, subst, arith}
-use Rattle.std.specs.Prelude.{◌⊎◌, Option, Some, None, Result, Ok, Err, IfErr, IsErrOf}
-use Rattle.std.specs.Io.KnownBytes.{Appends}
+use Rattle.std.proofs.Common.{◌≡◌, ℕ, ◌≤◌, List, inl, inr, refl, sym, ap, subst, ◌∙◌, arith}
+use Rattle.std.specs.Option.{ok_or}
+use Rattle.std.specs.Prelude.{◌⊎◌, Option, Some, None, Result, Ok, Err, IfErr, IsErrAnd, IsErrOf}
 use Rattle.m3_outside.specs.Causes.{CountsFaults, Rose}
 use Rattle.saved_cluster.specs.declared.lost.Lost.{Lost}
 use Rattle.saved_cluster.specs.declared.lost.Lost.TheVariants as lost
+use Rattle.m3_program.specs.Passing.{Outflow, Takes}
 use Rattle.m3_program.specs.declared.status.Status.{Status}
 use Rattle.m3_program.specs.declared.status.Status.TheVariants as status
 use Rattle.command_words.specs.declared.task.Task.{Task}
 use Rattle.command_words.specs.declared.task.Task.TheVariants as task
 use Rattle.m3_program.specs.Causes.{EndsLine, EndsReading, EndsScript, EndsStep, EndsTask}
-use Rattle.m3_program.specs.Openings.{ended_for}
+use Rattle.placement_log.specs.declared.open_err.OpenErr.{OpenErr}
+use Rattle.placement_log.specs.declared.open_err.OpenErr.TheVariants as failures
+use Rattle.m3_program.specs.Openings.{ended_by, ended_for}
 use Rattle.m3_program.specs.Writing.{WritesUntil}
 
 pub rose_earlier : (before mid now : ℕ) → before ≤ mid → Rose mid now → Rose before now
@@ -39,10 +42,41 @@ pub lost_ends_script : (why : Lost) (a b x y m n : ℕ) → (why ≡ lost.Meta �
 lost_ends_script lost.Meta a b x y m n rose = rose refl
 lost_ends_script lost.Memory a b x y m n rose = tt
 
+-- it failed where the run ends so
+pub meta_lost : (why : Lost) → ended_for why ≡ status.DiskFault → why ≡ lost.Meta
+meta_lost lost.Meta is = refl
+meta_lost lost.Memory is = cc
+
+-- and it didn't where memory was wanted
+pub wanted_no_meta : {T : Type 0} (r : Result T Lost) → IfErr r (λ e. e ≡ lost.Memory) → IsErrOf r lost.Meta → ⊥
+wanted_no_meta (Ok x) want is = cc
+wanted_no_meta {T} (Err e) want is =
+    let wanted : e ≡ lost.Memory = want in
+    let failed : ◌≡◌ {A = Result T Lost} (Err e) (Err lost.Meta) = is in
+    cc
+
+-- as it was where this gave none
+pub none_is_want : {T : Type 0} (o : Option T) → IfErr (ok_or o lost.Memory) (λ e. e ≡ lost.Memory)
+none_is_want None = refl
+none_is_want (Some x) = tt
+
+-- nor where a result that isn't so was passed on
+pub passed_no_meta : {T U : Type 0} (r : Result T Lost) (q : Result U Lost) (x : Lost) → q ≡ Err x → IsErrAnd r (λ e. e ≡ x) → (IsErrOf q lost.Meta → ⊥) → IsErrOf r lost.Meta → ⊥
+passed_no_meta (Ok t) q x was is never failed = absurd is
+passed_no_meta {T} {U} (Err y) q x was is never failed =
+    let same : y ≡ x = is in
+    let meta : ◌≡◌ {A = Result T Lost} (Err y) (Err lost.Meta) = failed in
+    let which : y ≡ lost.Meta = cc in
+    never (was ∙ ap Err (sym same ∙ which))
+
+-- nor where the sink failed
+pub sink_no_meta : (s : Status) → s ≡ status.WriteFault → s ≡ status.DiskFault → ⊥
+sink_no_meta s by is = cc
+
 -- all was written before
-pub lost_writes : (why : Lost) (written : Option (List ℕ)) (bytes : List ℕ) (written2 : Option (List ℕ)) → Appends written written2 bytes → WritesUntil (ended_for why) written bytes written2
-lost_writes lost.Meta written bytes written2 wrote = wrote
-lost_writes lost.Memory written bytes written2 wrote = wrote
+pub lost_writes : (why : Lost) (sink : Outflow) (bytes : List ℕ) (sink2 : Outflow) → Takes sink sink2 bytes → WritesUntil (ended_for why) sink bytes sink2
+lost_writes lost.Meta sink bytes sink2 wrote = wrote
+lost_writes lost.Memory sink bytes sink2 wrote = wrote
 
 -- ---- since the beginning
 
@@ -51,6 +85,21 @@ ends_earlier status.WriteFault a b c x y z m n k h i j e = elim e as (λ _. Rose
 ends_earlier status.DiskFault a b c x y z m n k h i j e = rose_earlier m n k j e
 ends_earlier status.Memory a b c x y z m n k h i j e = tt
 ends_earlier _ a b c x y z m n k h i j e = absurd e
+
+-- no step that failed ends a run as done
+pub step_not_done : (s : Status) (p q a b x y m n : ℕ) → EndsStep s p q a b x y m n → s ≡ status.Done → ⊥
+step_not_done status.ReadFault p q a b x y m n e is = cc
+step_not_done status.WriteFault p q a b x y m n e is = cc
+step_not_done status.DiskFault p q a b x y m n e is = cc
+step_not_done status.Memory p q a b x y m n e is = cc
+step_not_done _ p q a b x y m n e is = absurd e
+
+-- nor does a cluster that wasn't opened
+pub opening_not_done : (why : OpenErr) → ended_by why ≡ status.Done → ⊥
+opening_not_done failures.Disk is = cc
+opening_not_done failures.Memory is = cc
+opening_not_done (failures.Digest number kept found) is = cc
+opening_not_done (failures.Form number at) is = cc
 
 -- a failed source ends no line
 pub line_no_read : (s : Status) (a b x y m n : ℕ) → EndsLine s a b x y m n → s ≡ status.ReadFault → ⊥

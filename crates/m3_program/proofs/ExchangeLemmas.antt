@@ -75,9 +75,10 @@ answers state old new line text request r some means printed answered goes = λ 
     )
 
 -- a request that may have been served, and gets no reply
-pub drops_served : {D : Type 0} {G : Ghosts D} (state : D → DiskState) (old new : Stage D G) (line : List ℕ) (request : Request) (answered : Result Reply Lost) → LineMeans line (Ok request) → Serving state old request answered new → Drops state old line new
-drops_served state old new line request answered means s = λ first xs p. record { unanswered = Some request; means = means; promises = lost_so state old new first (turns_of xs) request answered p.stands s }
+pub drops_served : {D : Type 0} {G : Ghosts D} (state : D → DiskState) (old new : Stage D G) (line : List ℕ) (request : Request) (answered : Result Reply Lost) (Failed : Type 0) → LineMeans line (Ok request) → Serving state old request answered new → Drops state old line new Failed
+drops_served state old new line request answered Failed means s = λ first xs p.
+    record { unanswered = Some request; means = means; promises = lost_so state old new first (turns_of xs) request answered p.stands s; was_taken = λ failed. refl }
 
 -- a line that wasn't served
-pub drops_unserved : {D : Type 0} {G : Ghosts D} (state : D → DiskState) (now : Stage D G) (line : List ℕ) → Drops state now line now
-drops_unserved state now line = λ first xs p. record { unanswered = None; means = tt; promises = promised state first now xs None p }
+pub drops_unserved : {D : Type 0} {G : Ghosts D} (state : D → DiskState) (now : Stage D G) (line : List ℕ) (Failed : Type 0) → (Failed → ⊥) → Drops state now line now Failed
+drops_unserved state now line Failed never = λ first xs p. record { unanswered = None; means = tt; promises = promised state first now xs None p; was_taken = λ failed. absurd (never failed) }

@@ -14,6 +14,8 @@ use Rattle.m3_outside.specs.DiskState.{DiskState, IsEmpty}
 use Rattle.m3_outside.specs.Slots.{MayGive, Out}
 use Rattle.m3_outside.specs.declared.disk.Disk.{Ghosts}
 use Rattle.placement_log.specs.MetaHolds.{MetaHolds}
+use Rattle.transcripts.specs.Fates.{is_stopped}
+use Rattle.transcripts.specs.Record.{inner_turns}
 use Rattle.saved_cluster.specs.replica_calls.Slots.{MemberMap}
 use Rattle.saved_cluster.specs.replica_exchange.declared.slot.Slot.{Slot}
 use Rattle.saved_cluster.specs.cluster_members.declared.members.Members.{Members}
@@ -24,11 +26,13 @@ use Rattle.saved_cluster.specs.cluster_placements.Lending.{HaveGained, HaveRetur
 use Rattle.saved_cluster.specs.cluster_placements.Steps.{IsChanged}
 use Rattle.saved_cluster.specs.line_tracks.Acts.{IsInitAnswer, IsServedBy, IsStepAnswer}
 use Rattle.saved_cluster.specs.served_cluster.Acts.{Serves}
+use Rattle.saved_cluster.specs.served_cluster.Plans.{state_of}
 use Rattle.saved_cluster.specs.served_cluster.declared.cluster.Cluster.{Cluster}
 use Rattle.saved_cluster.proofs.served_cluster_proofs.OwnLemmas.{refused_returned}
-use Rattle.saved_cluster.specs.Saved.{ElapsesBy, IsSaved}
+use Rattle.saved_cluster.specs.Saved.{ElapsesBy, IsSaved, Leads, RunsOn}
+use Rattle.saved_cluster.specs.States.{IsOnRunning, kept_of}
 use Rattle.saved_cluster.proofs.OutLemmas.{meta_at}
-use Rattle.m3_program.specs.Saved.{HoldsLast, LeaveState, StopsLeave}
+use Rattle.m3_program.specs.Saved.{HoldsLast, LeadsUnanswered, LeaveState, StopsLeave, kept_by}
 
 module _ {D : Type 0} (state : D → DiskState) where
   -- ---- what is counted, whatever disks are taken or given back for replicas
@@ -95,21 +99,25 @@ pub saved_leaves : (d : DiskState) (start last : Option MetaState) (turns : List
 saved_leaves d start last turns unanswered leave saved tells c image = record { last = last; may = record { state = last; leave = leave; is = inl refl }; holds = saved tells c image }
 
 -- within a request, or after it
-pub lost_leaves : (old new : DiskState) (start last : Option MetaState) (turns : List Turn) (kept : ℕ) (asked : Request) → new.tells ≡ old.tells → LeaveState start turns last → IsSaved last old
-    → (old.tells ≡ true → ElapsesBy last kept asked old new) → StopsLeave new start turns (Some asked)
-lost_leaves old new start last turns kept asked same leave saved goes tells c image = by (goes told)
+pub lost_leaves : {D : Type 0} {G : Ghosts D} (old new : DiskState) (start : Option MetaState) (turns : List Turn) (cluster : Cluster D G) (asked : Request) → new.tells ≡ old.tells → LeaveState start turns (state_of cluster) → IsSaved (state_of cluster) old
+    → (start ≡ None → kept_of cluster ≡ kept_by turns (state_of cluster)) → (start ≡ None → RunsOn cluster asked → IsOnRunning (is_stopped (inner_turns turns)) asked)
+    → (old.tells ≡ true → ElapsesBy cluster asked old new) → StopsLeave new start turns (Some asked)
+lost_leaves old new start turns cluster asked same leave saved kept runs goes tells c image = by (goes told)
   where
     told : old.tells ≡ true
     told = sym same ∙ tells
 
-    is_last : MetaHolds last c → HoldsLast start turns (Some asked) c
-    is_last holds = record { last = last; may = record { state = last; leave = leave; is = inl refl }; holds = holds }
+    is_last : MetaHolds (state_of cluster) c → HoldsLast start turns (Some asked) c
+    is_last holds = record { last = state_of cluster; may = record { state = state_of cluster; leave = leave; is = inl refl }; holds = holds }
 
-    by : ElapsesBy last kept asked old new → HoldsLast start turns (Some asked) c
-    by (inl keeps) = let step = keeps.images c image in is_last (step.stepped.last last (saved told step.before step.was))
+    leads_on : (next : MetaState) → Leads cluster asked next → LeadsUnanswered start turns (state_of cluster) asked next
+    leads_on next leads = record { kept = kept_of cluster; leads = leads.to; kept_is = kept; running = λ none. runs none leads.runs }
+
+    by : ElapsesBy cluster asked old new → HoldsLast start turns (Some asked) c
+    by (inl keeps) = let step = keeps.images c image in is_last (step.stepped.last (state_of cluster) (saved told step.before step.was))
     by (inr (next, leads, may)) =
         let step = may.images c image in
-        elim (step.stepped.last last (saved told step.before step.was)) as (λ _. HoldsLast start turns (Some asked) c) [
+        elim (step.stepped.last (state_of cluster) (saved told step.before step.was)) as (λ _. HoldsLast start turns (Some asked) c) [
           | inl was ↦ is_last was
-          | inr saves ↦ record { last = Some next; may = record { state = last; leave = leave; is = inr (kept, next, refl, leads) }; holds = saves }
+          | inr saves ↦ record { last = Some next; may = record { state = state_of cluster; leave = leave; is = inr (next, refl, leads_on next leads) }; holds = saves }
         ]

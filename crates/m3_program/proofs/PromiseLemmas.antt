@@ -8,6 +8,7 @@ use Rattle.m3_model.specs.declared.turn.Request.{Request}
 use Rattle.m3_model.specs.declared.turn.Request.TheVariants as request
 use Rattle.m3_model.specs.declared.turn.Turn.{Turn}
 use Rattle.m3_model.proofs.Lists.{All-from_each}
+use Rattle.transcripts.specs.Fates.{is_stopped}
 use Rattle.transcripts.specs.Faults.{is_taking}
 use Rattle.transcripts.specs.Joined.{Joined}
 use Rattle.transcripts.specs.Kept.{Kept}
@@ -31,15 +32,16 @@ use Rattle.saved_cluster.proofs.served_cluster_proofs.EndLemmas.{caused_where_tr
 use Rattle.saved_cluster.specs.served_cluster.Acts.{ServesRequest}
 use Rattle.saved_cluster.specs.served_cluster.Owned.{TracksTurns, place_of}
 use Rattle.saved_cluster.specs.served_cluster.Plans.{state_of}
-use Rattle.saved_cluster.specs.Saved.{ElapsesBy, IsSaved, MayClose, MayServeSaved, ServesRequestSome, TracksRequest}
+use Rattle.saved_cluster.specs.Saved.{ElapsesBy, IsSaved, MayClose, MayServeSaved, RunsOn, ServesRequestSome, TracksRequest}
 use Rattle.saved_cluster.specs.declared.saved.SavedCluster.{SavedCluster}
-use Rattle.saved_cluster.specs.States.{kept_of}
+use Rattle.saved_cluster.specs.States.{IsOnRunning, kept_of}
+use Rattle.saved_cluster.proofs.BesideLemmas.{kept_left, running_left}
 use Rattle.saved_cluster.specs.declared.lost.Lost.{Lost}
 use Rattle.saved_cluster.proofs.OutLemmas.{meta_at}
 use Rattle.m3_program.specs.Exchanges.{Exchange, turns_of}
 use Rattle.m3_program.specs.Faults.{IsOfRun, counts_of, one_for}
 use Rattle.m3_program.specs.Runs.{HasCauses}
-use Rattle.m3_program.specs.Saved.{LeaveState}
+use Rattle.m3_program.specs.Saved.{LeaveState, kept_by}
 use Rattle.m3_program.specs.Streams.{HaveServed, IsFresh, Opening, Progress, PromisesSo, Stage, StandsAfter, opening_at}
 use Rattle.m3_program.proofs.MetaLemmas.{counted_stays, lost_leaves, saved_leaves}
 use Rattle.m3_program.proofs.StateLemmas.{leave_nothing, leave_on}
@@ -80,7 +82,7 @@ pub record Serving {D : Type 0} {G : Ghosts D} (state : D → DiskState) (old : 
   pub out : old.depot.held meta_slot ≡ Out
   pub served : ServesRequestSome state old.depot old.saved.cluster asked answered new.depot new.saved.cluster
   pub tracks : (tells : Bool) (first : Depot D) (turns : List Turn) → TracksTurns state tells first old.depot turns old.saved.cluster → TracksRequest state tells first new.depot turns asked answered new.saved
-  pub any_moment : (state old.saved.meta).tells ≡ true → ElapsesBy (state_of old.saved.cluster) (kept_of old.saved.cluster) asked (state old.saved.meta) (state new.saved.meta)
+  pub any_moment : (state old.saved.meta).tells ≡ true → ElapsesBy old.saved.cluster asked (state old.saved.meta) (state new.saved.meta)
   pub tells : (state new.saved.meta).tells ≡ (state old.saved.meta).tells
 
 module _ {D : Type 0} {G : Ghosts D} (state : D → DiskState) (old new : Stage D G) where
@@ -88,10 +90,20 @@ module _ {D : Type 0} {G : Ghosts D} (state : D → DiskState) (old new : Stage 
   counted_so (request.One a) (reply.One b) out h = counted_stays state old.depot old.saved.cluster a b new.depot new.saved.cluster h out
   counted_so _ _ out h = absurd h
 
+  -- in a first run, whatever the disks tell, the turns are tracked
+  tracked_so : (first : Opening D) (turns : List Turn) → StandsAfter state first turns old → first.start ≡ None → TracksTurns state false first.depot old.depot turns old.saved.cluster
+  tracked_so first turns was none = was.tracks false (record { none = none; tell = λ e. (let clash : false ≡ true = e in cc); bare = λ e. (let clash : false ≡ true = e in cc) })
+
+  kept_so : (first : Opening D) (turns : List Turn) → StandsAfter state first turns old → first.start ≡ None → kept_of old.saved.cluster ≡ kept_by turns (state_of old.saved.cluster)
+  kept_so first turns was none = kept_left state false first.depot old.depot turns old.saved.cluster (tracked_so first turns was none)
+
+  running_so : (first : Opening D) (turns : List Turn) (asked : Request) → StandsAfter state first turns old → first.start ≡ None → RunsOn old.saved.cluster asked → IsOnRunning (is_stopped (inner_turns turns)) asked
+  running_so first turns asked was none runs = running_left state false first.depot old.depot turns old.saved.cluster asked (tracked_so first turns was none) runs
+
   -- it may have been served, and got no reply
   pub lost_so : (first : Opening D) (turns : List Turn) (asked : Request) (answered : Result Reply Lost) → StandsAfter state first turns old → Serving state old asked answered new → HaveServed state first new turns (Some asked)
   lost_so first turns asked answered was s = record {
-    leaves = lost_leaves (state old.saved.meta) (state new.saved.meta) first.start (state_of old.saved.cluster) turns (kept_of old.saved.cluster) asked s.tells was.leave was.saved s.any_moment;
+    leaves = lost_leaves (state old.saved.meta) (state new.saved.meta) first.start turns old.saved.cluster asked s.tells was.leave was.saved (kept_so first turns was) (running_so first turns asked was) s.any_moment;
     counted = counted_so asked s.served.0 s.out s.served.2 ∙ was.counted;
     tracked = λ tells may.
         let next = s.tracks tells first.depot turns (was.tracks tells may) in

@@ -1,8 +1,9 @@
--- What is known of a run so far, where its source and its sink tell, and how it ends.
+-- What is known of a run so far, and how it ends.
 use Rattle.std.proofs.Common.{◌≡◌, ℕ, ◌+◌, ◌<◌, ◌≤◌, List, [], ◌++◌, length, length-append, refl, sym, ap, ◌∙◌, subst, append_assoc, append-nil, arith}
 use Rattle.m3_model.specs.declared.limits.TheConstants.{INPUT_END}
 use Rattle.std.specs.Prelude.{Option, Some, None}
-use Rattle.std.specs.Io.KnownBytes.{Appends, Consumes, IsAtEnd}
+use Rattle.std.specs.Io.KnownBytes.{IsAtEnd}
+use Rattle.std.proofs.KnownBytes.{Consumes-nil, Consumes-trans}
 use Rattle.m3_outside.specs.DiskState.{DiskState, IsLawfulDisk}
 use Rattle.m3_outside.specs.declared.disk.Disk.{Ghosts}
 use Rattle.m3_outside.specs.Depots.{Depot}
@@ -16,6 +17,7 @@ use Rattle.m3_program.specs.declared.status.Status.TheVariants as status
 use Rattle.m3_program.specs.Causes.{EndsStep}
 use Rattle.m3_program.specs.Exchanges.{Exchange, replies_text, turns_of}
 use Rattle.m3_program.specs.Openings.{IsUnopened, Opened, Unopened}
+use Rattle.m3_program.specs.Passing.{Gives, Outflow, Takes, left_in}
 use Rattle.m3_program.specs.Runs.{GotTo, AreWholeLines, Course, IsCutOff, Runs, lines_of}
 use Rattle.m3_program.specs.Streams.{Opening, Stage, IsFresh, opening_at, StreamState, TakesOn, Cuts, Finishes, Halted, HaltsLast, HasServed}
 use Rattle.m3_program.specs.Writing.{WritesUntil}
@@ -23,178 +25,145 @@ use Rattle.m3_program.proofs.CloseLemmas.{causes_of_first, kept_of_first}
 use Rattle.m3_program.proofs.FreshLemmas.{is_found, none_found}
 use Rattle.m3_program.proofs.PromiseLemmas.{Closes, promised}
 use Rattle.m3_program.proofs.StreamLemmas.{both_made, halted_of, stream_begins, stream_course, takes_all}
+use Rattle.m3_program.proofs.WrittenLemmas.{appends_more, appends_nothing}
 
--- these bytes were read, these are left, and the replies to these exchanges were written after what stood there
-pub record Heard {D : Type 0} {G : Ghosts D} (state : D → DiskState) (first : Opening D) (input before : List ℕ) (left written : Option (List ℕ)) (n : ℕ) (now : Stage D G) (line : List ℕ) : Type 0 where
+-- a source gave these bytes, and the sink took the replies to these exchanges behind what it took before
+pub record Heard {D : Type 0} {G : Ghosts D} (state : D → DiskState) (first : Opening D) (left0 : Option (List ℕ)) (gave0 : List ℕ) (sink0 : Outflow) (left : Option (List ℕ)) (gave : List ℕ) (sink : Outflow) (n : ℕ) (now : Stage D G) (line : List ℕ) : Type 0 where
   pub got : List ℕ
-  pub rest : List ℕ
   pub told : List ℕ
   pub exchanges : List Exchange
-  pub parts : input ≡ got ++ rest
-  pub left_is : left ≡ Some rest
-  pub written_is : written ≡ Some (before ++ told)
+  pub gives : Gives left0 gave0 got left gave
+  pub behind : Takes sink0 sink told
   pub told_is : told ≡ replies_text exchanges
   pub count : length got ≡ n
   pub stream : StreamState state first exchanges got now line
 
-abbrev pub Known : {D : Type 0} {G : Ghosts D} → (D → DiskState) → Opening D → Option (List ℕ) → Option (List ℕ) → Option (List ℕ) → Option (List ℕ) → ℕ → Stage D G → List ℕ → Type 0
-Known state first left0 written0 left written n now line = (input before : List ℕ) → left0 ≡ Some input → written0 ≡ Some before → Heard state first input before left written n now line
-
 -- what a run tells at its end, before its disks are given back
-abbrev pub Told : {D : Type 0} {G : Ghosts D} → (D → DiskState) → Opening D → Stage D G → Status → List ℕ → List ℕ → Option (List ℕ) → Option (List ℕ) → Type 0
-Told state first now s input before left written = (rest told : List ℕ) × (left ≡ Some rest) × (written ≡ Some (before ++ told)) × HasServed state first now s input rest told
+abbrev pub Told : {D : Type 0} {G : Ghosts D} → (D → DiskState) → Opening D → Stage D G → Status → Option (List ℕ) → List ℕ → Outflow → Option (List ℕ) → List ℕ → Outflow → Type 0
+Told state first now s left0 gave0 sink0 left gave sink =
+    (taken told : List ℕ) × Gives left0 gave0 taken left gave × Takes sink0 sink told × HasServed state first now s (taken ++ left_in left) (left_in left) told
 
 -- A run that ended within its last piece, when this was written before, and this text was made for the lines of the piece; not how it ended, and what of the text was written.
-pub record Stopped {D : Type 0} {G : Ghosts D} (state : D → DiskState) (first : Opening D) (now : Stage D G) (input before : List ℕ) (left written : Option (List ℕ)) (text : List ℕ) : Type 0 where
+pub record Stopped {D : Type 0} {G : Ghosts D} (state : D → DiskState) (first : Opening D) (now : Stage D G) (left0 : Option (List ℕ)) (gave0 : List ℕ) (sink0 : Outflow) (left : Option (List ℕ)) (gave : List ℕ) (sink : Outflow) (text : List ℕ) (Failed : Type 0) : Type 0 where
   pub earlier : List ℕ
   pub piece : List ℕ
-  pub rest : List ℕ
   pub told : List ℕ
   pub exchanges : List Exchange
   pub more : List Exchange
-  pub left_is : left ≡ Some rest
-  pub parts : input ≡ (earlier ++ piece) ++ rest
+  pub gives : Gives left0 gave0 (earlier ++ piece) left gave
   pub few : length (earlier ++ piece) ≤ INPUT_END
   pub short : length piece ≤ 65536
-  pub written_is : written ≡ Some (before ++ told)
+  pub behind : Takes sink0 sink told
   pub told_is : told ≡ replies_text exchanges
   pub made : text ≡ replies_text more
   pub ended : AreWholeLines earlier exchanges
-  pub halted : Halted state first (exchanges ++ more) now input (earlier ++ piece)
+  pub halted : Halted state first (exchanges ++ more) now ((earlier ++ piece) ++ left_in left) (earlier ++ piece) Failed
 
-consumed : (rest : List ℕ) (a b : Option (List ℕ)) (piece : List ℕ) → a ≡ Some rest → Consumes a b piece → (after : List ℕ) × (b ≡ Some after) × (rest ≡ piece ++ after)
-consumed rest None b piece e h = cc
-consumed rest (Some xs) None piece e h = absurd h
-consumed rest (Some xs) (Some ys) piece e h = let same : xs ≡ rest = cc in (ys, refl, sym same ∙ h)
+-- one piece after the other
+gives_more : (left left2 left3 : Option (List ℕ)) (gave gave2 gave3 got piece : List ℕ) → Gives left gave got left2 gave2 → Gives left2 gave2 piece left3 gave3 → Gives left gave (got ++ piece) left3 gave3
+gives_more left left2 left3 gave gave2 gave3 got piece one two = (Consumes-trans left left2 left3 got piece one.0 two.0, two.1 ∙ ap (λ l. l ++ piece) one.1 ∙ append_assoc gave got piece)
 
-appended : (was : List ℕ) (a b : Option (List ℕ)) (text : List ℕ) → a ≡ Some was → Appends a b text → b ≡ Some (was ++ text)
-appended was None b text e h = cc
-appended was (Some xs) None text e h = absurd h
-appended was (Some xs) (Some ys) text e h = let same : xs ≡ was = cc in ap Some (h ∙ ap (λ l. l ++ text) same)
+gives_none : (left : Option (List ℕ)) (gave : List ℕ) → Gives left gave [] left gave
+gives_none left gave = (Consumes-nil left, sym (append-nil gave))
 
--- more was written after what stood there first
-appended_on : (before told : List ℕ) (a b : Option (List ℕ)) (text : List ℕ) → a ≡ Some (before ++ told) → Appends a b text → b ≡ Some (before ++ (told ++ text))
-appended_on before told a b text e h = appended (before ++ told) a b text e h ∙ ap Some (append_assoc before told text)
-
-at_end : (a : Option (List ℕ)) (rest : List ℕ) → IsAtEnd a → a ≡ Some rest → rest ≡ []
-at_end None rest h e = cc
-at_end (Some xs) rest h e = let same : xs ≡ rest = cc in sym same ∙ h
+at_end : (left : Option (List ℕ)) → IsAtEnd left → left_in left ≡ []
+at_end None ended = refl
+at_end (Some xs) ended = ended
 
 -- all whole lines of what was taken were answered
 whole_of : {D : Type 0} {G : Ghosts D} {state : D → DiskState} {first : Opening D} {xs : List Exchange} {taken : List ℕ} {now : Stage D G} {line : List ℕ} → StreamState state first xs taken now line → AreWholeLines taken xs
 whole_of {D} {G} {state} {first} {xs} {taken} {now} {line} t = record { open_line = line; are = t.read; no_end = t.no_end }
 
-pub known_begins : {D : Type 0} {G : Ghosts D} (state : D → DiskState) (left written : Option (List ℕ)) (now : Stage D G) (line : List ℕ) → IsFresh state now → line ≡ [] → Known state (opening_at now) left written left written 0 now line
-known_begins state left written now line fresh empty = λ input before p q. record {
+pub known_begins : {D : Type 0} {G : Ghosts D} (state : D → DiskState) (left : Option (List ℕ)) (gave : List ℕ) (sink : Outflow) (now : Stage D G) (line : List ℕ) → IsFresh state now → line ≡ [] → Heard state (opening_at now) left gave sink left gave sink 0 now line
+known_begins state left gave sink now line fresh empty = record {
   got = [];
-  rest = input;
   told = [];
   exchanges = [];
-  parts = refl;
-  left_is = p;
-  written_is = q ∙ ap Some (sym (append-nil before));
+  gives = gives_none left gave;
+  behind = appends_nothing sink;
   told_is = refl;
   count = refl;
   stream = subst (λ l. StreamState state (opening_at now) [] [] now l) (sym empty) (stream_begins state now fresh);
 }
 
-pub known_more : {D : Type 0} {G : Ghosts D} (state : D → DiskState) (first : Opening D) (left0 written0 l l2 w w2 : Option (List ℕ)) (n k m : ℕ) (old new : Stage D G) (line line2 piece text : List ℕ)
-    → Known state first left0 written0 l w n old line → Consumes l l2 piece → length piece ≡ k → n + k ≡ m → Appends w w2 text → TakesOn state old line piece text new line2 → Known state first left0 written0 l2 w2 m new line2
-known_more state first left0 written0 l l2 w w2 n k m old new line line2 piece text known took size sum wrote takes = λ input before p q.
-    let h = known input before p q in
-    let after = consumed h.rest l l2 piece h.left_is took in
+pub known_more : {D : Type 0} {G : Ghosts D} (state : D → DiskState) (first : Opening D) (left0 : Option (List ℕ)) (gave0 : List ℕ) (sink0 : Outflow) (l l2 : Option (List ℕ)) (g g2 : List ℕ) (w w2 : Outflow) (n k m : ℕ) (old new : Stage D G) (line line2 piece text : List ℕ)
+    → Heard state first left0 gave0 sink0 l g w n old line → Gives l g piece l2 g2 → length piece ≡ k → n + k ≡ m → Takes w w2 text → TakesOn state old line piece text new line2 → Heard state first left0 gave0 sink0 l2 g2 w2 m new line2
+known_more state first left0 gave0 sink0 l l2 g g2 w w2 n k m old new line line2 piece text h gives size sum wrote takes =
     let next = takes first h.exchanges h.got h.stream in
     record {
       got = h.got ++ piece;
-      rest = after.0;
       told = h.told ++ text;
       exchanges = h.exchanges ++ next.0;
-      parts = h.parts ∙ ap (λ r. h.got ++ r) after.2 ∙ sym (append_assoc h.got piece after.0);
-      left_is = after.1;
-      written_is = appended_on before h.told w w2 text h.written_is wrote;
+      gives = gives_more left0 l l2 gave0 g g2 h.got piece h.gives gives;
+      behind = appends_more sink0 w w2 h.told text h.behind wrote;
       told_is = both_made h.exchanges next.0 h.told text h.told_is next.1;
       count = length-append h.got piece ∙ let e = h.count in omega arith;
       stream = next.2;
     }
 
 -- it stopped within a piece
-pub known_cuts : {D : Type 0} {G : Ghosts D} (state : D → DiskState) (first : Opening D) (left0 written0 l l2 w : Option (List ℕ)) (n : ℕ) (old new : Stage D G) (line piece text : List ℕ)
-    → Known state first left0 written0 l w n old line → Consumes l l2 piece → n + length piece ≤ INPUT_END → length piece ≤ 65536 → Cuts state old line piece text new
-    → (input before : List ℕ) → left0 ≡ Some input → written0 ≡ Some before → Stopped state first new input before l2 w text
-known_cuts state first left0 written0 l l2 w n old new line piece text known took few short cuts input before p q =
-    let h = known input before p q in
-    let after = consumed h.rest l l2 piece h.left_is took in
-    let all : input ≡ (h.got ++ piece) ++ after.0 = h.parts ∙ ap (λ r. h.got ++ r) after.2 ∙ sym (append_assoc h.got piece after.0) in
+pub known_cuts : {D : Type 0} {G : Ghosts D} (state : D → DiskState) (first : Opening D) (left0 : Option (List ℕ)) (gave0 : List ℕ) (sink0 : Outflow) (l l2 : Option (List ℕ)) (g g2 : List ℕ) (w : Outflow) (n : ℕ) (old new : Stage D G) (line piece text : List ℕ) (Failed : Type 0)
+    → Heard state first left0 gave0 sink0 l g w n old line → Gives l g piece l2 g2 → n + length piece ≤ INPUT_END → length piece ≤ 65536 → Cuts state old line piece text new Failed → Stopped state first new left0 gave0 sink0 l2 g2 w text Failed
+known_cuts state first left0 gave0 sink0 l l2 g g2 w n old new line piece text Failed h gives few short cuts =
     let cut = cuts first h.exchanges h.got h.stream in
     record {
       earlier = h.got;
       piece = piece;
-      rest = after.0;
       told = h.told;
       exchanges = h.exchanges;
       more = cut.0;
-      left_is = after.1;
-      parts = all;
+      gives = gives_more left0 l l2 gave0 g g2 h.got piece h.gives gives;
       few = let size = length-append h.got piece in let count = h.count in omega (arith, size, count, few);
       short = short;
-      written_is = h.written_is;
+      behind = h.behind;
       told_is = h.told_is;
       made = cut.1;
       ended = whole_of h.stream;
-      halted = subst (λ i. Halted state first (h.exchanges ++ cut.0) new i (h.got ++ piece)) (sym all) (halted_of state first (h.exchanges ++ cut.0) new (h.got ++ piece) after.0 cut.2);
+      halted = halted_of state first (h.exchanges ++ cut.0) new (h.got ++ piece) (left_in l2) Failed cut.2;
     }
 
--- all that was taken is the input
-heard_all : {D : Type 0} {G : Ghosts D} (state : D → DiskState) (first : Opening D) (input before : List ℕ) (l w : Option (List ℕ)) (n : ℕ) (now : Stage D G) (line : List ℕ) → (h : Heard state first input before l w n now line) → IsAtEnd l → input ≡ h.got
-heard_all state first input before l w n now line h ended = h.parts ∙ ap (λ r. h.got ++ r) (at_end l h.rest ended h.left_is) ∙ append-nil h.got
-
 -- it stopped within the last line
-pub known_stops : {D : Type 0} {G : Ghosts D} (state : D → DiskState) (first : Opening D) (left0 written0 l w : Option (List ℕ)) (n : ℕ) (old new : Stage D G) (line text : List ℕ)
-    → Known state first left0 written0 l w n old line → n ≤ INPUT_END → IsAtEnd l → HaltsLast state old line text new
-    → (input before : List ℕ) → left0 ≡ Some input → written0 ≡ Some before → Stopped state first new input before l w text
-known_stops state first left0 written0 l w n old new line text known few ended stops input before p q =
-    let h = known input before p q in
+pub known_stops : {D : Type 0} {G : Ghosts D} (state : D → DiskState) (first : Opening D) (left0 : Option (List ℕ)) (gave0 : List ℕ) (sink0 : Outflow) (l : Option (List ℕ)) (g : List ℕ) (w : Outflow) (n : ℕ) (old new : Stage D G) (line text : List ℕ) (Failed : Type 0)
+    → Heard state first left0 gave0 sink0 l g w n old line → n ≤ INPUT_END → IsAtEnd l → HaltsLast state old line text new Failed → Stopped state first new left0 gave0 sink0 l g w text Failed
+known_stops state first left0 gave0 sink0 l g w n old new line text Failed h few ended stops =
     let none = append-nil h.got in
+    let all : (h.got ++ []) ++ left_in l ≡ h.got = ap (λ r. (h.got ++ []) ++ r) (at_end l ended) ∙ append-nil (h.got ++ []) ∙ none in
     let end = stops first h.exchanges h.got h.stream in
     record {
       earlier = h.got;
       piece = [];
-      rest = h.rest;
       told = h.told;
       exchanges = h.exchanges;
       more = end.0;
-      left_is = h.left_is;
-      parts = h.parts ∙ ap (λ l. l ++ h.rest) (sym none);
+      gives = subst (λ t. Gives left0 gave0 t l g) (sym none) h.gives;
       few = let size = ap length none in let count = h.count in omega (arith, size, count, few);
       short = omega arith;
-      written_is = h.written_is;
+      behind = h.behind;
       told_is = h.told_is;
       made = end.1;
       ended = whole_of h.stream;
-      halted = subst (λ i. Halted state first (h.exchanges ++ end.0) new i (h.got ++ [])) (sym (heard_all state first input before l w n old line h ended))
-          (subst (Halted state first (h.exchanges ++ end.0) new h.got) (sym none) end.2);
+      halted = subst (λ i. Halted state first (h.exchanges ++ end.0) new i (h.got ++ []) Failed) (sym all)
+          (subst (λ it. Halted state first (h.exchanges ++ end.0) new h.got it Failed) (sym none) end.2);
     }
 
 -- it came to the end
-pub known_finishes : {D : Type 0} {G : Ghosts D} (state : D → DiskState) (first : Opening D) (left0 written0 l w w2 : Option (List ℕ)) (n : ℕ) (old new : Stage D G) (line text : List ℕ)
-    → Known state first left0 written0 l w n old line → n < INPUT_END → IsAtEnd l → Appends w w2 text → Finishes state old line text new
-    → (input before : List ℕ) → left0 ≡ Some input → written0 ≡ Some before → Told state first new status.Done input before l w2
-known_finishes state first left0 written0 l w w2 n old new line text known below ended wrote finishes input before p q =
-    let h = known input before p q in
-    let none = at_end l h.rest ended h.left_is in
-    let all : input ≡ h.got = heard_all state first input before l w n old line h ended in
+pub known_finishes : {D : Type 0} {G : Ghosts D} (state : D → DiskState) (first : Opening D) (left0 : Option (List ℕ)) (gave0 : List ℕ) (sink0 : Outflow) (l : Option (List ℕ)) (g : List ℕ) (w w2 : Outflow) (n : ℕ) (old new : Stage D G) (line text : List ℕ)
+    → Heard state first left0 gave0 sink0 l g w n old line → n < INPUT_END → IsAtEnd l → Takes w w2 text → Finishes state old line text new → Told state first new status.Done left0 gave0 sink0 l g w2
+known_finishes state first left0 gave0 sink0 l g w w2 n old new line text h below ended wrote finishes =
+    let none = at_end l ended in
+    let all : h.got ++ left_in l ≡ h.got = ap (λ r. h.got ++ r) none ∙ append-nil h.got in
     let end = finishes first h.exchanges h.got h.stream in
     let xs = h.exchanges ++ end.0 in (
-      h.rest,
+      h.got,
       h.told ++ text,
-      h.left_is,
-      appended_on before h.told w w2 text h.written_is wrote,
+      h.gives,
+      appends_more sink0 w w2 h.told text h.behind wrote,
       record {
         ran = record {
           taken = h.got;
-          parts = h.parts;
+          parts = refl;
           few = let count = h.count in omega (arith, count, below);
-          course = record { exchanges = xs; unanswered = None; each = end.2.each; of_input = takes_all input xs (ap lines_of all ∙ end.2.lines_are); of_taken = takes_all h.got xs end.2.lines_are };
+          course = record { exchanges = xs; unanswered = None; each = end.2.each; of_input = takes_all (h.got ++ left_in l) xs (ap lines_of all ∙ end.2.lines_are); of_taken = takes_all h.got xs end.2.lines_are };
           got_to = (refl, both_made h.exchanges end.0 h.told text h.told_is end.1, none, let count = h.count in omega (arith, count, below));
         };
         promises = end.2.promises;
@@ -202,31 +171,27 @@ known_finishes state first left0 written0 l w w2 n old new line text known below
     )
 
 -- the source failed when so much was taken
-pub known_fault : {D : Type 0} {G : Ghosts D} (state : D → DiskState) (first : Opening D) (left0 written0 l w : Option (List ℕ)) (n : ℕ) (now : Stage D G) (line : List ℕ) → Known state first left0 written0 l w n now line → n ≤ INPUT_END
-    → (input before : List ℕ) → left0 ≡ Some input → written0 ≡ Some before → Told state first now status.ReadFault input before l w
-known_fault state first left0 written0 l w n now line known few input before p q =
-    let h = known input before p q in
-    let course = stream_course state first h.exchanges input h.got h.rest now line h.stream h.parts in
+pub known_fault : {D : Type 0} {G : Ghosts D} (state : D → DiskState) (first : Opening D) (left0 : Option (List ℕ)) (gave0 : List ℕ) (sink0 : Outflow) (l : Option (List ℕ)) (g : List ℕ) (w : Outflow) (n : ℕ) (now : Stage D G) (line : List ℕ) → Heard state first left0 gave0 sink0 l g w n now line → n ≤ INPUT_END → Told state first now status.ReadFault left0 gave0 sink0 l g w
+known_fault state first left0 gave0 sink0 l g w n now line h few =
+    let course = stream_course state first h.exchanges (h.got ++ left_in l) h.got (left_in l) now line h.stream refl in
     let promises = promised state first now h.exchanges None h.stream.progress in (
-      h.rest,
+      h.got,
       h.told,
-      h.left_is,
-      h.written_is,
-      record { ran = record { taken = h.got; parts = h.parts; few = let count = h.count in omega (arith, count, few); course = course; got_to = (whole_of h.stream, h.told_is) }; promises = promises },
+      h.gives,
+      h.behind,
+      record { ran = record { taken = h.got; parts = refl; few = let count = h.count in omega (arith, count, few); course = course; got_to = (whole_of h.stream, h.told_is, refl) }; promises = promises },
     )
 
 -- it took as much as may be taken
-pub known_limit : {D : Type 0} {G : Ghosts D} (state : D → DiskState) (first : Opening D) (left0 written0 l w : Option (List ℕ)) (n : ℕ) (now : Stage D G) (line : List ℕ) → Known state first left0 written0 l w n now line → n ≡ INPUT_END
-    → (input before : List ℕ) → left0 ≡ Some input → written0 ≡ Some before → Told state first now status.TooLong input before l w
-known_limit state first left0 written0 l w n now line known full input before p q =
-    let h = known input before p q in
-    let course = stream_course state first h.exchanges input h.got h.rest now line h.stream h.parts in
+pub known_limit : {D : Type 0} {G : Ghosts D} (state : D → DiskState) (first : Opening D) (left0 : Option (List ℕ)) (gave0 : List ℕ) (sink0 : Outflow) (l : Option (List ℕ)) (g : List ℕ) (w : Outflow) (n : ℕ) (now : Stage D G) (line : List ℕ) → Heard state first left0 gave0 sink0 l g w n now line → n ≡ INPUT_END → Told state first now status.TooLong left0 gave0 sink0 l g w
+known_limit state first left0 gave0 sink0 l g w n now line h full =
+    let course = stream_course state first h.exchanges (h.got ++ left_in l) h.got (left_in l) now line h.stream refl in
     let promises = promised state first now h.exchanges None h.stream.progress in (
-      h.rest,
+      h.got,
       h.told,
-      h.left_is,
-      h.written_is,
-      record { ran = record { taken = h.got; parts = h.parts; few = let count = h.count in omega (arith, count, full); course = course; got_to = (whole_of h.stream, h.told_is, h.count ∙ full) }; promises = promises },
+      h.gives,
+      h.behind,
+      record { ran = record { taken = h.got; parts = refl; few = let count = h.count in omega (arith, count, full); course = course; got_to = (whole_of h.stream, h.told_is, h.count ∙ full, refl) }; promises = promises },
     )
 
 -- all replies were written
@@ -234,30 +199,30 @@ all_written : (told : List ℕ) (xs : List Exchange) → told ≡ replies_text x
 all_written told xs is = record { before = xs; last = []; parts = sym (append-nil xs); few = omega arith; part = []; rest = []; of_last = refl; are = is ∙ sym (append-nil (replies_text xs)) }
 
 -- the course of a run that stopped
-abbrev stopped_course : {D : Type 0} {G : Ghosts D} (state : D → DiskState) (first : Opening D) (now : Stage D G) (input before : List ℕ) (left written : Option (List ℕ)) (text : List ℕ) → (h : Stopped state first now input before left written text) → Course first.start input (h.earlier ++ h.piece)
-stopped_course state first now input before left written text h =
+abbrev stopped_course : {D : Type 0} {G : Ghosts D} (state : D → DiskState) (first : Opening D) (now : Stage D G) (left0 : Option (List ℕ)) (gave0 : List ℕ) (sink0 : Outflow) (left : Option (List ℕ)) (gave : List ℕ) (sink : Outflow) (text : List ℕ) (Failed : Type 0) → (h : Stopped state first now left0 gave0 sink0 left gave sink text Failed) → Course first.start ((h.earlier ++ h.piece) ++ left_in left) (h.earlier ++ h.piece)
+stopped_course state first now left0 gave0 sink0 left gave sink text Failed h =
     record { exchanges = h.exchanges ++ h.more; unanswered = h.halted.unanswered; each = h.halted.each; of_input = h.halted.of_input; of_taken = h.halted.of_taken }
 
--- it wrote this much behind what was written before
-stopped_told : {D : Type 0} {G : Ghosts D} (state : D → DiskState) (first : Opening D) (now : Stage D G) (s : Status) (input before : List ℕ) (left written last : Option (List ℕ)) (text out : List ℕ) → (h : Stopped state first now input before left written text) → Appends written last out
-    → GotTo s (h.earlier ++ h.piece) h.rest (h.told ++ out) (h.exchanges ++ h.more) h.halted.of_input.later → Told state first now s input before left last
-stopped_told state first now s input before left written last text out h wrote got = (
-  h.rest,
+-- this much was written behind what was written before
+stopped_told : {D : Type 0} {G : Ghosts D} (state : D → DiskState) (first : Opening D) (now : Stage D G) (s : Status) (left0 : Option (List ℕ)) (gave0 : List ℕ) (sink0 : Outflow) (left : Option (List ℕ)) (gave : List ℕ) (sink last : Outflow) (text out : List ℕ) (Failed : Type 0) → (h : Stopped state first now left0 gave0 sink0 left gave sink text Failed) → Takes sink last out
+    → GotTo s (h.earlier ++ h.piece) (left_in left) (h.told ++ out) (h.exchanges ++ h.more) h.halted.unanswered h.halted.of_input.later → Told state first now s left0 gave0 sink0 left gave last
+stopped_told state first now s left0 gave0 sink0 left gave sink last text out Failed h wrote got = (
+  h.earlier ++ h.piece,
   h.told ++ out,
-  h.left_is,
-  appended_on before h.told written last out h.written_is wrote,
+  h.gives,
+  appends_more sink0 sink last h.told out h.behind wrote,
   record {
-    ran = record { taken = h.earlier ++ h.piece; parts = h.parts; few = h.few; course = stopped_course state first now input before left written text h; got_to = got };
+    ran = record { taken = h.earlier ++ h.piece; parts = refl; few = h.few; course = stopped_course state first now left0 gave0 sink0 left gave sink text Failed h; got_to = got };
     promises = h.halted.promises;
   },
 )
 
 pub step_told : {D : Type 0} {G : Ghosts D} (state : D → DiskState) (first : Opening D) (now : Stage D G) (s : Status) (a b x y u v m n : ℕ) → EndsStep s a b x y u v m n
-    → (input before : List ℕ) (left written written2 : Option (List ℕ)) (text : List ℕ) → (s ≡ status.ReadFault → Told state first now status.ReadFault input before left written2)
-    → Stopped state first now input before left written text → WritesUntil s written text written2 → Told state first now s input before left written2
-step_told state first now status.ReadFault a b x y u v m n k input before left written written2 text fault h wrote = fault refl
-step_told state first now status.WriteFault a b x y u v m n k input before left written written2 text fault h wrote =
-    stopped_told state first now status.WriteFault input before left written written2 text wrote.0 h wrote.2 (record {
+    → (left0 : Option (List ℕ)) (gave0 : List ℕ) (sink0 : Outflow) (left : Option (List ℕ)) (gave : List ℕ) (sink sink2 : Outflow) (text : List ℕ) → (s ≡ status.ReadFault → Told state first now status.ReadFault left0 gave0 sink0 left gave sink2)
+    → Stopped state first now left0 gave0 sink0 left gave sink text (s ≡ status.DiskFault) → WritesUntil s sink text sink2 → Told state first now s left0 gave0 sink0 left gave sink2
+step_told state first now status.ReadFault a b x y u v m n k left0 gave0 sink0 left gave sink sink2 text fault h wrote = fault refl
+step_told state first now status.WriteFault a b x y u v m n k left0 gave0 sink0 left gave sink sink2 text fault h wrote =
+    stopped_told state first now status.WriteFault left0 gave0 sink0 left gave sink sink2 text wrote.0 _ h wrote.2 (record {
       earlier = h.earlier;
       piece = h.piece;
       of_taken = refl;
@@ -271,31 +236,31 @@ step_told state first now status.WriteFault a b x y u v m n k input before left 
       of_last = sym h.made ∙ wrote.3;
       are = ap (λ l. l ++ wrote.0) h.told_is;
     })
-step_told state first now status.DiskFault a b x y u v m n k input before left written written2 text fault h wrote =
-    stopped_told state first now status.DiskFault input before left written written2 text text h wrote (both_made h.exchanges h.more h.told text h.told_is h.made)
-step_told state first now status.Memory a b x y u v m n k input before left written written2 text fault h wrote =
-    stopped_told state first now status.Memory input before left written written2 text text h wrote (all_written (h.told ++ text) (h.exchanges ++ h.more) (both_made h.exchanges h.more h.told text h.told_is h.made))
-step_told state first now _ a b x y u v m n k input before left written written2 text fault h wrote = absurd k
+step_told state first now status.DiskFault a b x y u v m n k left0 gave0 sink0 left gave sink sink2 text fault h wrote =
+    stopped_told state first now status.DiskFault left0 gave0 sink0 left gave sink sink2 text text _ h wrote (both_made h.exchanges h.more h.told text h.told_is h.made, h.halted.was_taken refl)
+step_told state first now status.Memory a b x y u v m n k left0 gave0 sink0 left gave sink sink2 text fault h wrote =
+    stopped_told state first now status.Memory left0 gave0 sink0 left gave sink sink2 text text _ h wrote (all_written (h.told ++ text) (h.exchanges ++ h.more) (both_made h.exchanges h.more h.told text h.told_is h.made))
+step_told state first now _ a b x y u v m n k left0 gave0 sink0 left gave sink sink2 text fault h wrote = absurd k
 
 -- the words couldn't be read, or the cluster wasn't opened, and nothing was read or written
-pub told_unopened : {D : Type 0} (state : D → DiskState) (first now : Depot D) (s : Status) (left written : Option (List ℕ)) → IsUnopened state first now s → (input before : List ℕ) → left ≡ Some input → written ≡ Some before
-    → (rest told : List ℕ) × (left ≡ Some rest) × (written ≡ Some (before ++ told)) × Runs state first now [] s input rest told
-told_unopened state first now s left written unopened input before p q = (input, [], p, q ∙ ap Some (sym (append-nil before)), Unopened unopened (refl, refl))
+pub told_unopened : {D : Type 0} (state : D → DiskState) (first now : Depot D) (s : Status) (left : Option (List ℕ)) (gave : List ℕ) (sink : Outflow) → IsUnopened state first now s
+    → (taken told : List ℕ) × Gives left gave taken left gave × Takes sink sink told × Runs state first now [] s (taken ++ left_in left) (left_in left) told
+told_unopened state first now s left gave sink unopened = ([], [], gives_none left gave, appends_nothing sink, Unopened unopened (refl, refl))
 
 -- the disks are given back
 pub told_closes : {D : Type 0} {G : Ghosts D} (state : D → DiskState) → ((d : D) → IsLawfulDisk (state d)) → (before now : Depot D) (c : SavedCluster D G) → IsOpened state before now c → (mid : Stage D G) (last : Depot D) (s : Status)
     → (state_of c.cluster ≡ None → Closes state before (record { start = state_of c.cluster; depot = now }) mid last) → last.held meta_slot ≡ Here mid.saved.meta
-    → (input written0 : List ℕ) (left written : Option (List ℕ)) → Told state (record { start = state_of c.cluster; depot = now }) mid s input written0 left written
-    → (rest told : List ℕ) × (left ≡ Some rest) × (written ≡ Some (written0 ++ told)) × Runs state before last [] s input rest told
-told_closes state lawful before now c opened mid last s closes back input written0 left written (rest, told, l, w, run) =
+    → (left0 : Option (List ℕ)) (gave0 : List ℕ) (sink0 : Outflow) (left : Option (List ℕ)) (gave : List ℕ) (sink : Outflow) → Told state (record { start = state_of c.cluster; depot = now }) mid s left0 gave0 sink0 left gave sink
+    → (taken told : List ℕ) × Gives left0 gave0 taken left gave × Takes sink0 sink told × Runs state before last [] s (taken ++ left_in left) (left_in left) told
+told_closes state lawful before now c opened mid last s closes back left0 gave0 sink0 left gave sink (taken, told, gives, is, run) =
     let start = state_of c.cluster in
     let turns = turns_of run.ran.course.exchanges in
     let unanswered = run.ran.course.unanswered in
     let served = run.promises in (
-      rest,
+      taken,
       told,
-      l,
-      w,
+      gives,
+      is,
       Opened start (record {
         found = is_found state before now c opened;
         none_found = none_found state before now c opened;

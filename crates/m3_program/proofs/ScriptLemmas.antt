@@ -117,8 +117,8 @@ goes_more state first number left later r answered summary next old new goes is 
     }
 
 -- it stops before this request, or behind it
-abbrev pub stops_here : {D : Type 0} {G : Ghosts D} (state : D → DiskState) (first : Opening D) (number : ℕ) (parts : List Part) (later : List Request) (now : Stage D G) → IsWithin state first number parts later now → Stopped state first number now
-stops_here state first number parts later now w = record {
+abbrev pub stops_here : {D : Type 0} {G : Ghosts D} (state : D → DiskState) (first : Opening D) (number : ℕ) (parts : List Part) (later : List Request) (now : Stage D G) (Failed : Type 0) → (Failed → ⊥) → IsWithin state first number parts later now → Stopped state first number now Failed
+stops_here state first number parts later now Failed never w = record {
   parts = parts;
   later = later;
   unanswered = None;
@@ -126,13 +126,19 @@ stops_here state first number parts later now w = record {
   taken = tt;
   each = w.going.each;
   served = stood state first now (turns_of_parts parts) None w.going.stands;
+  was_taken = λ failed. absurd (never failed);
 }
 
+-- it failed in fewer cases
+abbrev pub stopped_fewer : {D : Type 0} {G : Ghosts D} (state : D → DiskState) (first : Opening D) (number : ℕ) (now : Stage D G) (Failed Fewer : Type 0) → Stopped state first number now Failed → (Fewer → Failed) → Stopped state first number now Fewer
+stopped_fewer state first number now Failed Fewer s less =
+    record { parts = s.parts; later = s.later; unanswered = s.unanswered; of_script = s.of_script; taken = s.taken; each = s.each; served = s.served; was_taken = λ fewer. s.was_taken (less fewer) }
+
 pub breaks_behind : {D : Type 0} {G : Ghosts D} (state : D → DiskState) (first : Opening D) (number : ℕ) (left later : List Request) (r : Request) (answered : Reply) (summary : Summary) (old new : Stage D G)
-    → Goes state first number left summary old → left ≡ r ∷ later → Continues state old r answered new → Stopped state first number new
-breaks_behind state first number left later r answered summary old new goes is continues =
+    → (Failed : Type 0) → (Failed → ⊥) → Goes state first number left summary old → left ≡ r ∷ later → Continues state old r answered new → Stopped state first number new Failed
+breaks_behind state first number left later r answered summary old new Failed never goes is continues =
     let (part, replied, within) = within_more state first number goes.parts left later r answered old new goes.within is continues in
-    stops_here state first number (goes.parts ++ part ∷ []) later new within
+    stops_here state first number (goes.parts ++ part ∷ []) later new Failed never within
 
 -- the next request is the one that was taken
 next_taken : (r : Request) (left later : List Request) → left ≡ r ∷ later → IsTaken (Some r) left
@@ -141,8 +147,8 @@ next_taken r (x ∷ left) later is = cc
 
 -- it stops at this request, which got no reply
 pub breaks_at : {D : Type 0} {G : Ghosts D} (state : D → DiskState) (first : Opening D) (number : ℕ) (left later : List Request) (r : Request) (summary : Summary) (old new : Stage D G)
-    → Goes state first number left summary old → left ≡ r ∷ later → Loses state old r new → Stopped state first number new
-breaks_at state first number left later r summary old new goes is lost = record {
+    → (Failed : Type 0) → Goes state first number left summary old → left ≡ r ∷ later → Loses state old r new → Stopped state first number new Failed
+breaks_at state first number left later r summary old new Failed goes is lost = record {
   parts = goes.parts;
   later = left;
   unanswered = Some r;
@@ -150,4 +156,5 @@ breaks_at state first number left later r summary old new goes is lost = record 
   taken = next_taken r left later is;
   each = goes.within.going.each;
   served = lost first goes.parts goes.within.going;
+  was_taken = λ failed. refl;
 }

@@ -1,6 +1,6 @@
 -- Reading goes on by a line, by a piece, and to the end.
 use Rattle.std.proofs.Common.{◌≡◌, ℕ, ◌<◌, List, [], ◌∷◌, ◌++◌, map, length, refl, sym, ap, ◌∙◌, subst, inl, inr, append_assoc, append-nil}
-use Rattle.std.specs.Prelude.{Option, Some, None}
+use Rattle.std.specs.Prelude.{Option, Some, None, IsSome}
 use Rattle.std.proofs.lemmas.List.{map-append}
 use Rattle.std.proofs.lemmas.List.Concat.{flat_map-append}
 use Rattle.m3_model.specs.declared.turn.Request.{Request}
@@ -51,32 +51,35 @@ stream_course state first xs input taken left now line t is = record {
 }
 
 -- a run that was cut short, with what is left of its input
-pub halted_of : {D : Type 0} {G : Ghosts D} (state : D → DiskState) (first : Opening D) (xs : List Exchange) (now : Stage D G) (taken left : List ℕ) → CutShort state first xs now taken → Halted state first xs now (taken ++ left) taken
-halted_of state first xs now taken left cut = record {
+pub halted_of : {D : Type 0} {G : Ghosts D} (state : D → DiskState) (first : Opening D) (xs : List Exchange) (now : Stage D G) (taken left : List ℕ) (Failed : Type 0) → CutShort state first xs now taken Failed → Halted state first xs now (taken ++ left) taken Failed
+halted_of state first xs now taken left Failed cut = record {
   unanswered = cut.unanswered;
   each = cut.each;
   of_input = cut.reads left;
   of_taken = subst (λ bytes. TakesLines bytes xs cut.unanswered) (append-nil taken) (cut.reads []);
   promises = cut.promises;
+  was_taken = cut.was_taken;
 }
 
 -- nothing more is done, and this request was taken at most
-cut_at : {D : Type 0} {G : Ghosts D} (state : D → DiskState) (first : Opening D) (xs : List Exchange) (taken piece : List ℕ) (old new : Stage D G) (line : List ℕ) (unanswered : Option Request) → StreamState state first xs taken old line
-    → ((left : List ℕ) → IsNext unanswered (lines_of (line ++ (piece ++ left)))) → PromisesSo state first new xs unanswered → CutShort state first xs new (taken ++ piece)
-cut_at state first xs taken piece old new line unanswered t next promises = record {
+cut_at : {D : Type 0} {G : Ghosts D} (state : D → DiskState) (first : Opening D) (xs : List Exchange) (taken piece : List ℕ) (old new : Stage D G) (line : List ℕ) (unanswered : Option Request) (Failed : Type 0) → StreamState state first xs taken old line
+    → ((left : List ℕ) → IsNext unanswered (lines_of (line ++ (piece ++ left)))) → PromisesSo state first new xs unanswered → (Failed → IsSome unanswered) → CutShort state first xs new (taken ++ piece) Failed
+cut_at state first xs taken piece old new line unanswered Failed t next promises was_taken = record {
   unanswered = unanswered;
   each = t.progress.each;
   reads = λ left. subst (λ bytes. TakesLines bytes xs unanswered) (sym (append_assoc taken piece left)) (reads_at state first xs taken (piece ++ left) old line unanswered t (next left));
   promises = promises;
+  was_taken = was_taken;
 }
 
 -- it took more, and did nothing with it
-cut_more : {D : Type 0} {G : Ghosts D} (state : D → DiskState) (first : Opening D) (xs : List Exchange) (now : Stage D G) (taken more : List ℕ) → CutShort state first xs now taken → CutShort state first xs now (taken ++ more)
-cut_more state first xs now taken more cut = record {
+cut_more : {D : Type 0} {G : Ghosts D} (state : D → DiskState) (first : Opening D) (xs : List Exchange) (now : Stage D G) (taken more : List ℕ) (Failed : Type 0) → CutShort state first xs now taken Failed → CutShort state first xs now (taken ++ more) Failed
+cut_more state first xs now taken more Failed cut = record {
   unanswered = cut.unanswered;
   each = cut.each;
   reads = λ left. subst (λ bytes. TakesLines bytes xs cut.unanswered) (sym (append_assoc taken more left)) (cut.reads (more ++ left));
   promises = cut.promises;
+  was_taken = cut.was_taken;
 }
 
 next_is : (unanswered : Option Request) (line : List ℕ) (lines : List (List ℕ)) → MayMean line unanswered → IsNext unanswered (line ∷ lines)
@@ -131,18 +134,24 @@ line_in state first xs taken left now line rest whole none is t =
     ∙ lines_of-line whole left (subst NoNewline (sym is) (no_end_of line rest t.no_end none))
 
 -- a line ends, and gets no reply
-pub drops_line : {D : Type 0} {G : Ghosts D} (state : D → DiskState) (old new : Stage D G) (line rest whole : List ℕ) → NoNewline rest → whole ≡ line ++ rest → Drops state old whole new → Cuts state old line (rest ++ 10 ∷ []) [] new
-drops_line state old new line rest whole none is drops = λ first xs taken t.
+pub drops_line : {D : Type 0} {G : Ghosts D} (state : D → DiskState) (old new : Stage D G) (line rest whole : List ℕ) (Failed : Type 0) → NoNewline rest → whole ≡ line ++ rest → Drops state old whole new Failed → Cuts state old line (rest ++ 10 ∷ []) [] new Failed
+drops_line state old new line rest whole Failed none is drops = λ first xs taken t.
     let d = drops first xs t.progress in
-    let cut = cut_at state first xs taken (rest ++ 10 ∷ []) old new line d.unanswered t
-    (λ left. subst (IsNext d.unanswered) (sym (line_in state first xs taken left old line rest whole none is t)) (next_is d.unanswered whole (lines_of left) d.means)) d.promises in
-    ([], refl, subst (λ ys. CutShort state first ys new (taken ++ (rest ++ 10 ∷ []))) (sym (append-nil xs)) cut)
+    let cut = cut_at state first xs taken (rest ++ 10 ∷ []) old new line d.unanswered Failed t
+    (λ left. subst (IsNext d.unanswered) (sym (line_in state first xs taken left old line rest whole none is t)) (next_is d.unanswered whole (lines_of left) d.means)) d.promises d.was_taken in
+    ([], refl, subst (λ ys. CutShort state first ys new (taken ++ (rest ++ 10 ∷ [])) Failed) (sym (append-nil xs)) cut)
 
 -- memory was wanted for a piece
-pub cuts_silently : {D : Type 0} {G : Ghosts D} (state : D → DiskState) (now : Stage D G) (line piece : List ℕ) → Cuts state now line piece [] now
-cuts_silently state now line piece = λ first xs taken t.
-    let cut = cut_at state first xs taken piece now now line None t (λ left. tt) (promised state first now xs None t.progress) in
-    ([], refl, subst (λ ys. CutShort state first ys now (taken ++ piece)) (sym (append-nil xs)) cut)
+pub cuts_silently : {D : Type 0} {G : Ghosts D} (state : D → DiskState) (now : Stage D G) (line piece : List ℕ) (Failed : Type 0) → (Failed → ⊥) → Cuts state now line piece [] now Failed
+cuts_silently state now line piece Failed never = λ first xs taken t.
+    let cut = cut_at state first xs taken piece now now line None Failed t (λ left. tt) (promised state first now xs None t.progress) (λ failed. absurd (never failed)) in
+    ([], refl, subst (λ ys. CutShort state first ys now (taken ++ piece) Failed) (sym (append-nil xs)) cut)
+
+-- it failed in fewer cases
+pub cuts_fewer : {D : Type 0} {G : Ghosts D} (state : D → DiskState) (old new : Stage D G) (line piece text : List ℕ) (Failed Fewer : Type 0) → Cuts state old line piece text new Failed → (Fewer → Failed) → Cuts state old line piece text new Fewer
+cuts_fewer state old new line piece text Failed Fewer cuts less = λ first xs taken t.
+    let (more, is, cut) = cuts first xs taken t in
+    (more, is, record { unanswered = cut.unanswered; each = cut.each; reads = cut.reads; promises = cut.promises; was_taken = λ fewer. cut.was_taken (less fewer) })
 
 -- one piece after the other
 pub takes_both : {D : Type 0} {G : Ghosts D} (state : D → DiskState) (a b c : Stage D G) (line line2 line3 piece piece2 text text2 : List ℕ) → TakesOn state a line piece text b line2 → TakesOn state b line2 piece2 text2 c line3
@@ -157,22 +166,22 @@ takes_both state a b c line line2 line3 piece piece2 text text2 f g = λ first x
     )
 
 -- a piece, and then one in which it is cut short, and what wasn't looked at
-pub cuts_after : {D : Type 0} {G : Ghosts D} (state : D → DiskState) (a b c : Stage D G) (line line2 piece piece2 more text text2 : List ℕ) → TakesOn state a line piece text b line2 → Cuts state b line2 piece2 text2 c
-    → Cuts state a line (piece ++ (piece2 ++ more)) (text ++ text2) c
-cuts_after state a b c line line2 piece piece2 more text text2 f g = λ first xs taken t.
+pub cuts_after : {D : Type 0} {G : Ghosts D} (state : D → DiskState) (a b c : Stage D G) (line line2 piece piece2 more text text2 : List ℕ) (Failed : Type 0) → TakesOn state a line piece text b line2 → Cuts state b line2 piece2 text2 c Failed
+    → Cuts state a line (piece ++ (piece2 ++ more)) (text ++ text2) c Failed
+cuts_after state a b c line line2 piece piece2 more text text2 Failed f g = λ first xs taken t.
     let mid = f first xs taken t in
     let end = g first (xs ++ mid.0) (taken ++ piece) mid.2 in
     let bytes : ((taken ++ piece) ++ piece2) ++ more ≡ taken ++ (piece ++ (piece2 ++ more)) = append_assoc (taken ++ piece) piece2 more ∙ append_assoc taken piece (piece2 ++ more) in (
       mid.0 ++ end.0,
       both_made mid.0 end.0 text text2 mid.1 end.1,
-      subst (λ ys. CutShort state first ys c (taken ++ (piece ++ (piece2 ++ more)))) (append_assoc xs mid.0 end.0)
-          (subst (CutShort state first ((xs ++ mid.0) ++ end.0) c) bytes (cut_more state first ((xs ++ mid.0) ++ end.0) c ((taken ++ piece) ++ piece2) more end.2)),
+      subst (λ ys. CutShort state first ys c (taken ++ (piece ++ (piece2 ++ more))) Failed) (append_assoc xs mid.0 end.0)
+          (subst (λ it. CutShort state first ((xs ++ mid.0) ++ end.0) c it Failed) bytes (cut_more state first ((xs ++ mid.0) ++ end.0) c ((taken ++ piece) ++ piece2) more Failed end.2)),
     )
 
 -- a piece, after which nothing more is done
-pub cuts_behind : {D : Type 0} {G : Ghosts D} (state : D → DiskState) (a b : Stage D G) (line line2 piece more text : List ℕ) → TakesOn state a line piece text b line2 → Cuts state a line (piece ++ more) text b
-cuts_behind state a b line line2 piece more text f =
-    subst (λ l. Cuts state a line (piece ++ more) l b) (append-nil text) (cuts_after state a b b line line2 piece [] more text [] f (cuts_silently state b line2 []))
+pub cuts_behind : {D : Type 0} {G : Ghosts D} (state : D → DiskState) (a b : Stage D G) (line line2 piece more text : List ℕ) (Failed : Type 0) → (Failed → ⊥) → TakesOn state a line piece text b line2 → Cuts state a line (piece ++ more) text b Failed
+cuts_behind state a b line line2 piece more text Failed never f =
+    subst (λ l. Cuts state a line (piece ++ more) l b Failed) (append-nil text) (cuts_after state a b b line line2 piece [] more text [] Failed f (cuts_silently state b line2 [] Failed never))
 
 -- before anything is read
 pub stream_begins : {D : Type 0} {G : Ghosts D} (state : D → DiskState) (now : Stage D G) → IsFresh state now → StreamState state (opening_at now) [] [] now []
@@ -212,20 +221,26 @@ finish_line state old new line text some goes = λ first xs taken t.
     )
 
 -- it gets no reply
-pub drops_last : {D : Type 0} {G : Ghosts D} (state : D → DiskState) (old new : Stage D G) (line : List ℕ) → 0 < length line → Drops state old line new → HaltsLast state old line [] new
-drops_last state old new line some drops = λ first xs taken t.
+pub drops_last : {D : Type 0} {G : Ghosts D} (state : D → DiskState) (old new : Stage D G) (line : List ℕ) (Failed : Type 0) → 0 < length line → Drops state old line new Failed → HaltsLast state old line [] new Failed
+drops_last state old new line Failed some drops = λ first xs taken t.
     let d = drops first xs t.progress in
     let takes : TakesLines taken xs d.unanswered = record { later = line ∷ []; lines_are = last_in state first xs taken old line some t; next = next_is d.unanswered line [] d.means } in
-    let end : Halted state first xs new taken taken = record { unanswered = d.unanswered; each = t.progress.each; of_input = takes; of_taken = takes; promises = d.promises } in
-    ([], refl, subst (λ ys. Halted state first ys new taken taken) (sym (append-nil xs)) end)
+    let end : Halted state first xs new taken taken Failed = record { unanswered = d.unanswered; each = t.progress.each; of_input = takes; of_taken = takes; promises = d.promises; was_taken = d.was_taken } in
+    ([], refl, subst (λ ys. Halted state first ys new taken taken Failed) (sym (append-nil xs)) end)
+
+-- it failed in fewer cases
+pub halts_fewer : {D : Type 0} {G : Ghosts D} (state : D → DiskState) (old new : Stage D G) (line text : List ℕ) (Failed Fewer : Type 0) → HaltsLast state old line text new Failed → (Fewer → Failed) → HaltsLast state old line text new Fewer
+halts_fewer state old new line text Failed Fewer halts less = λ first xs taken t.
+    let (more, is, end) = halts first xs taken t in
+    (more, is, record { unanswered = end.unanswered; each = end.each; of_input = end.of_input; of_taken = end.of_taken; promises = end.promises; was_taken = λ fewer. end.was_taken (less fewer) })
 
 -- all lines were answered
 abbrev pub takes_all : (input : List ℕ) (xs : List Exchange) → lines_of input ≡ map (λ x. x.line) xs → TakesLines input xs None
 takes_all input xs is = record { later = []; lines_are = is ∙ sym (append-nil (map (λ x. x.line) xs)); next = tt }
 
 -- a run that came to the end of its input
-pub halts_where_finished : {D : Type 0} {G : Ghosts D} (state : D → DiskState) (old new : Stage D G) (line text : List ℕ) → Finishes state old line text new → HaltsLast state old line text new
-halts_where_finished state old new line text f = λ first xs taken t.
+pub halts_where_finished : {D : Type 0} {G : Ghosts D} (state : D → DiskState) (old new : Stage D G) (line text : List ℕ) (Failed : Type 0) → (Failed → ⊥) → Finishes state old line text new → HaltsLast state old line text new Failed
+halts_where_finished state old new line text Failed never f = λ first xs taken t.
     let end = f first xs taken t in
     let takes = takes_all taken (xs ++ end.0) end.2.lines_are in
-    (end.0, end.1, record { unanswered = None; each = end.2.each; of_input = takes; of_taken = takes; promises = end.2.promises })
+    (end.0, end.1, record { unanswered = None; each = end.2.each; of_input = takes; of_taken = takes; promises = end.2.promises; was_taken = λ failed. absurd (never failed) })

@@ -15,7 +15,7 @@ code_of status.TooLong = 8
 
 abbrev pub message_of : Status → Option (List ℕ)
 message_of status.Done = None
-message_of status.Usage = Some (codes "usage: m3 run or m3 generate N")
+message_of status.Usage = Some (codes "usage: m3 run [--disk FOLDER] or m3 generate N")
 message_of status.ReadFault = Some (codes "m3: read fault")
 message_of status.WriteFault = Some (codes "m3: write fault")
 message_of status.DiskFault = Some (codes "m3: disk fault")

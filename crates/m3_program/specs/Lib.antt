@@ -1,11 +1,13 @@
 pub mod Codes
 pub mod Exchanges
+pub mod Long
 pub mod Faults
 pub mod FaultLaws
 pub mod Openings
 pub mod Saved
 pub mod Runs
 pub mod Causes
+pub mod Passing
 pub mod Writing
 pub mod Streams
 pub mod Scripts

@@ -1,5 +1,5 @@
 -- How far a run of a script has come.
-use Rattle.std.specs.Prelude.{◌≡◌, List, [], ◌∷◌, ◌++◌, map, ℕ, Option, Some}
+use Rattle.std.specs.Prelude.{◌≡◌, List, [], ◌∷◌, ◌++◌, map, ℕ, Option, Some, IsSome}
 use Rattle.m3_model.specs.declared.turn.Reply.{Reply}
 use Rattle.m3_model.specs.declared.turn.Request.{Request}
 use Rattle.m3_outside.specs.DiskState.{DiskState}
@@ -10,6 +10,7 @@ use Rattle.load_gen.specs.declared.summary.Summary.{Summary}
 use Rattle.m3_program.specs.Scripts.{AreParts, IsTaken, Part, PlayedTo, reply_of, request_of, turns_of_parts}
 use Rattle.m3_program.specs.Streams.{HaveServed, Opening, Stage, StandsAfter}
 use Rattle.m3_program.specs.declared.status.Status.{Status}
+use Rattle.m3_program.specs.declared.status.Status.TheVariants as status
 
 -- these parts came of the requests so far, and how the run stands after them
 pub record Going {D : Type 0} {G : Ghosts D} (state : D → DiskState) (first : Opening D) (parts : List Part) (now : Stage D G) : Type 0 where
@@ -36,8 +37,8 @@ pub record Goes {D : Type 0} {G : Ghosts D} (state : D → DiskState) (first : O
   pub within : IsWithin state first number parts later now
   pub counts : Counts (map reply_of parts) summary
 
--- it came so far, and goes no further; the next request may have been taken, and got no reply
-pub record Stopped {D : Type 0} {G : Ghosts D} (state : D → DiskState) (first : Opening D) (number : ℕ) (now : Stage D G) : Type 0 where
+-- it came so far, and goes no further; the next request may have been taken, and got no reply: it was where this failed
+pub record Stopped {D : Type 0} {G : Ghosts D} (state : D → DiskState) (first : Opening D) (number : ℕ) (now : Stage D G) (Failed : Type 0) : Type 0 where
   pub parts : List Part
   pub later : List Request
   pub unanswered : Option Request
@@ -45,8 +46,9 @@ pub record Stopped {D : Type 0} {G : Ghosts D} (state : D → DiskState) (first 
   pub taken : IsTaken unanswered later
   pub each : AreParts parts
   pub served : HaveServed state first now (turns_of_parts parts) unanswered
+  pub was_taken : Failed → IsSome unanswered
 
 -- it ended so, before its disks are given back
 pub record HasPlayed {D : Type 0} {G : Ghosts D} (state : D → DiskState) (first : Opening D) (number : ℕ) (ended : Status) (written : List ℕ) (now : Stage D G) : Type 0 where
-  pub stopped : Stopped state first number now
-  pub played_to : PlayedTo ended stopped.parts stopped.later written
+  pub stopped : Stopped state first number now (ended ≡ status.DiskFault)
+  pub played_to : PlayedTo ended stopped.parts stopped.later stopped.unanswered written

@@ -1,5 +1,5 @@
 -- What a run promises of its input and its output.
-use Rattle.std.specs.Prelude.{◌≡◌, ℕ, ◌<◌, ◌≤◌, List, [], ◌∷◌, ◌++◌, map, length, Option, Some, None, Ok, if◌then◌else◌, ◌==◌, Bool, true, false}
+use Rattle.std.specs.Prelude.{◌≡◌, ℕ, ◌<◌, ◌≤◌, List, [], ◌∷◌, ◌++◌, map, length, Option, Some, None, IsSome, Ok, if◌then◌else◌, ◌==◌, Bool, true, false}
 use Rattle.m3_model.specs.declared.limits.TheConstants.{INPUT_END}
 use Rattle.std.specs.List.{flat_map}
 use Rattle.m3_model.specs.Members.{IsIn}
@@ -102,15 +102,15 @@ pub record IsCutInPiece (taken written : List ℕ) (xs : List Exchange) : Type 0
   pub of_last : replies_text last ≡ part ++ rest
   pub are : written ≡ replies_text before ++ part
 
--- how far a run got that ended so
-abbrev pub GotTo : Status → List ℕ → List ℕ → List ℕ → List Exchange → List (List ℕ) → Type 0
-GotTo status.Done taken left written xs later = (later ≡ []) × (written ≡ replies_text xs) × (left ≡ []) × (length taken < INPUT_END)
-GotTo status.TooLong taken left written xs later = AreWholeLines taken xs × (written ≡ replies_text xs) × (length taken ≡ INPUT_END)
-GotTo status.ReadFault taken left written xs later = AreWholeLines taken xs × (written ≡ replies_text xs)
-GotTo status.WriteFault taken left written xs later = IsCutInPiece taken written xs
-GotTo status.DiskFault taken left written xs later = written ≡ replies_text xs
-GotTo status.Memory taken left written xs later = IsCutOff written xs
-GotTo _ taken left written xs later = ⊥
+-- How far a run got that ended so. Where the meta disk failed it was for a request that got no reply; where the source failed, or too much was taken, none was taken without one.
+abbrev pub GotTo : Status → List ℕ → List ℕ → List ℕ → List Exchange → Option Request → List (List ℕ) → Type 0
+GotTo status.Done taken left written xs unanswered later = (later ≡ []) × (written ≡ replies_text xs) × (left ≡ []) × (length taken < INPUT_END)
+GotTo status.TooLong taken left written xs unanswered later = AreWholeLines taken xs × (written ≡ replies_text xs) × (length taken ≡ INPUT_END) × (unanswered ≡ None)
+GotTo status.ReadFault taken left written xs unanswered later = AreWholeLines taken xs × (written ≡ replies_text xs) × (unanswered ≡ None)
+GotTo status.WriteFault taken left written xs unanswered later = IsCutInPiece taken written xs
+GotTo status.DiskFault taken left written xs unanswered later = (written ≡ replies_text xs) × IsSome unanswered
+GotTo status.Memory taken left written xs unanswered later = IsCutOff written xs
+GotTo _ taken left written xs unanswered later = ⊥
 
 -- What a run did that took at most so much of this input from a source, left the rest, and wrote this to a sink, over any disks.
 pub record Ran (start : Option MetaState) (ended : Status) (input left written : List ℕ) : Type 0 where
@@ -118,7 +118,7 @@ pub record Ran (start : Option MetaState) (ended : Status) (input left written :
   pub parts : input ≡ taken ++ left
   pub few : length taken ≤ INPUT_END
   pub course : Course start input taken
-  pub got_to : GotTo ended taken left written course.exchanges course.of_input.later
+  pub got_to : GotTo ended taken left written course.exchanges course.unanswered course.of_input.later
 
 -- Of which runs more is said: where the disks tell what they hold, of those over empty ones; and else of those that found no state.
 abbrev pub IsFirstRun : {D : Type 0} → Bool → (D → DiskState) → Depot D → Option MetaState → Type 0

@@ -8,12 +8,15 @@ use Rattle.m3_outside.specs.DiskState.{DiskState, EachImage, Told}
 use Rattle.m3_outside.specs.Depots.{Depot}
 use Rattle.m3_outside.specs.Files.{Files}
 use Rattle.m3_outside.specs.Slots.{Held, Here}
+use Rattle.transcripts.specs.Caused.{versions_after}
+use Rattle.transcripts.specs.Fates.{is_stopped}
 use Rattle.transcripts.specs.Placements.{seed_after, start_placement}
 use Rattle.transcripts.specs.Record.{inner_turns}
+use Rattle.transcripts.specs.Refusals.{kept_versions}
 use Rattle.transcripts.specs.Rules.{rules_after, start_rules}
 use Rattle.placement_log.specs.MetaHolds.{MetaHolds}
 use Rattle.saved_cluster.specs.Openings.{IsMetaDisk}
-use Rattle.saved_cluster.specs.States.{RequestLeadsTo}
+use Rattle.saved_cluster.specs.States.{IsOnRunning, RequestLeadsTo}
 use Rattle.m3_program.specs.Exchanges.{known_place}
 
 -- ---- states
@@ -28,16 +31,28 @@ pub record LeaveState (start : Option MetaState) (turns : List Turn) (last : Opt
   pub rules : rules_after (start_rules start) (inner_turns turns) ≡ start_rules last
   pub seed : seed_after start (inner_turns turns) ≡ seed_of last
 
--- a request that got no reply, if there is one, leads from a state to this one
-abbrev pub MayLead : Option MetaState → Option Request → Option MetaState → Type 0
-MayLead state None last = ⊥
-MayLead state (Some request) last = (kept : ℕ) × (next : MetaState) × (last ≡ Some next) × RequestLeadsTo state kept request next
+-- how many versions are kept after the turns of a run that found no state
+abbrev pub kept_by : List Turn → Option MetaState → ℕ
+kept_by turns state = kept_versions (start_placement state) (versions_after None (inner_turns turns))
+
+-- The request leads from the state that the turns left to the next one. Where the run found no state, it goes by as many versions as they left to be kept, and the
+-- node of a bootstrap isn't one that they stopped: so a request that is due to be refused leads to none.
+pub record LeadsUnanswered (start : Option MetaState) (turns : List Turn) (state : Option MetaState) (request : Request) (next : MetaState) : Type 0 where
+  pub kept : ℕ
+  pub leads : RequestLeadsTo state kept request next
+  pub kept_is : start ≡ None → kept ≡ kept_by turns state
+  pub running : start ≡ None → IsOnRunning (is_stopped (inner_turns turns)) request
+
+-- a request that got no reply, if there is one, leads to this state from the one that the turns left
+abbrev pub MayLead : Option MetaState → List Turn → Option MetaState → Option Request → Option MetaState → Type 0
+MayLead start turns state None last = ⊥
+MayLead start turns state (Some request) last = (next : MetaState) × (last ≡ Some next) × LeadsUnanswered start turns state request next
 
 -- It is the state that the turns leave, or the one to which the request leads from there that got no reply.
 pub record MayBeLast (start : Option MetaState) (turns : List Turn) (unanswered : Option Request) (last : Option MetaState) : Type 0 where
   pub state : Option MetaState
   pub leave : LeaveState start turns state
-  pub is : (last ≡ state) ⊎ MayLead state unanswered last
+  pub is : (last ≡ state) ⊎ MayLead start turns state unanswered last
 
 -- ---- the meta disk
 

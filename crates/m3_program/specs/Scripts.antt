@@ -1,5 +1,5 @@
 -- What a run of a script promises.
-use Rattle.std.specs.Prelude.{◌≡◌, List, [], ◌∷◌, ◌++◌, map, ℕ, Option, None, Some, Bool}
+use Rattle.std.specs.Prelude.{◌≡◌, List, [], ◌∷◌, ◌++◌, map, ℕ, Option, None, Some, IsSome, Bool}
 use Rattle.std.specs.List.{flat_map}
 use Rattle.m3_model.specs.Members.{IsIn}
 use Rattle.m3_model.specs.declared.answer.Answer.TheVariants as answer
@@ -69,13 +69,13 @@ pub record Play (number : ℕ) : Type 0 where
   pub taken : IsTaken unanswered later
   pub each : AreParts parts
 
--- how far a run got that ended so: to the end of the script, and then its summary is written, or a front of that; or the meta disk failed or memory was wanted before
-abbrev pub PlayedTo : Status → List Part → List Request → List ℕ → Type 0
-PlayedTo status.Done parts later written = (later ≡ []) × (written ≡ summary_line (map reply_of parts))
-PlayedTo status.WriteFault parts later written = (later ≡ []) × (lost : List ℕ) × (summary_line (map reply_of parts) ≡ written ++ lost)
-PlayedTo status.DiskFault parts later written = written ≡ []
-PlayedTo status.Memory parts later written = written ≡ []
-PlayedTo _ parts later written = ⊥
+-- how far a run got that ended so: to the end of the script, and then its summary is written, or a front of that; or the meta disk failed for a request, or memory was wanted before
+abbrev pub PlayedTo : Status → List Part → List Request → Option Request → List ℕ → Type 0
+PlayedTo status.Done parts later unanswered written = (later ≡ []) × (written ≡ summary_line (map reply_of parts))
+PlayedTo status.WriteFault parts later unanswered written = (later ≡ []) × (lost : List ℕ) × (summary_line (map reply_of parts) ≡ written ++ lost)
+PlayedTo status.DiskFault parts later unanswered written = (written ≡ []) × IsSome unanswered
+PlayedTo status.Memory parts later unanswered written = written ≡ []
+PlayedTo _ parts later unanswered written = ⊥
 
 -- the record of the run
 abbrev pub record_of_parts : Option MetaState → List Part → Option Request → Record
@@ -91,7 +91,7 @@ pub record HasGenerated {D : Type 0} (state : D → DiskState) (first now : Depo
   pub found : IsFound state first start
   pub none_found : AreEmpty state first.held → start ≡ None
   pub course : Play number
-  pub played_to : PlayedTo ended course.parts course.later written
+  pub played_to : PlayedTo ended course.parts course.later course.unanswered written
   pub meta : LeavesMeta state (now.held meta_slot) start (turns_of_parts course.parts) course.unanswered
   pub kept : AreEmpty state first.held → Kept (life_of_parts past start course.parts course.unanswered)
   pub joined : start ≡ None → Joined (life_of_parts past start course.parts course.unanswered)

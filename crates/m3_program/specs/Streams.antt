@@ -1,13 +1,11 @@
 -- How far reading and writing have come, within a run.
-use Rattle.std.specs.Prelude.{◌≡◌, ◌≤◌, ℕ, length, map, List, [], ◌∷◌, ◌++◌, Bool, true, Option, None, Some, Ok}
+use Rattle.std.specs.Prelude.{◌≡◌, ◌≤◌, ℕ, length, map, List, [], ◌∷◌, ◌++◌, Bool, true, Option, None, Some, IsSome, Ok}
 use Rattle.m3_model.specs.declared.rules.MetaState.{MetaState}
 use Rattle.m3_model.specs.Members.{IsIn}
 use Rattle.m3_model.specs.declared.turn.Request.{Request}
 use Rattle.m3_model.specs.declared.turn.Turn.{Turn}
 use Rattle.m3_outside.specs.DiskState.{DiskState}
 use Rattle.m3_outside.specs.declared.disk.Disk.{Ghosts}
-use Rattle.m3_outside.specs.Slots.{Held}
-use Rattle.m3_outside.specs.declared.slot.DiskSlot.{DiskSlot}
 use Rattle.m3_json.specs.Requests.{LineMeans}
 use Rattle.m3_outside.specs.Depots.{Depot, TellAll}
 use Rattle.transcripts.specs.Joined.{Joined}
@@ -30,8 +28,8 @@ pub record Stage (D : Type 0) (G : Ghosts D) : Type 0 where
   pub saved : SavedCluster D G
   pub depot : Depot D
 
-abbrev pub stage : {D : Type 0} {G : Ghosts D} → SavedCluster D G → (DiskSlot → Held D) → (DiskSlot → ℕ) → ℕ → Stage D G
-stage saved held counted faults = record { saved = saved; depot = record { held = held; counted = counted; faults = faults } }
+abbrev pub stage : {D : Type 0} {G : Ghosts D} → SavedCluster D G → Depot D → Stage D G
+stage saved depot = record { saved = saved; depot = depot }
 
 -- What a run began with: the last state that the meta disk had, and the disks that lay in their slots once its cluster was opened.
 pub record Opening (D : Type 0) : Type 0 where
@@ -94,14 +92,15 @@ abbrev pub MayMean : List ℕ → Option Request → Type 0
 MayMean line None = Unit {0}
 MayMean line (Some request) = LineMeans line (Ok request)
 
--- the line was taken and got no reply: it wasn't served, or it is a request that was
-pub record IsUnanswered {D : Type 0} {G : Ghosts D} (state : D → DiskState) (first : Opening D) (xs : List Exchange) (line : List ℕ) (now : Stage D G) : Type 0 where
+-- the line was taken and got no reply: it wasn't served, or it is a request that was; it is one where this failed
+pub record IsUnanswered {D : Type 0} {G : Ghosts D} (state : D → DiskState) (first : Opening D) (xs : List Exchange) (line : List ℕ) (now : Stage D G) (Failed : Type 0) : Type 0 where
   pub unanswered : Option Request
   pub means : MayMean line unanswered
   pub promises : PromisesSo state first now xs unanswered
+  pub was_taken : Failed → IsSome unanswered
 
-abbrev pub Drops : {D : Type 0} {G : Ghosts D} → (D → DiskState) → Stage D G → List ℕ → Stage D G → Type 0
-Drops {D} state old line new = (first : Opening D) (xs : List Exchange) → Progress state first xs old → IsUnanswered state first xs line new
+abbrev pub Drops : {D : Type 0} {G : Ghosts D} → (D → DiskState) → Stage D G → List ℕ → Stage D G → Type 0 → Type 0
+Drops {D} state old line new Failed = (first : Opening D) (xs : List Exchange) → Progress state first xs old → IsUnanswered state first xs line new Failed
 
 -- ---- pieces of the input
 
@@ -115,20 +114,22 @@ pub record StreamState {D : Type 0} {G : Ghosts D} (state : D → DiskState) (fi
   pub whole : (x : Exchange) → IsIn xs x → NoNewline x.line
   pub no_end : NoNewline line
 
--- The run is cut short after these exchanges, whatever is left of its input.
-pub record CutShort {D : Type 0} {G : Ghosts D} (state : D → DiskState) (first : Opening D) (xs : List Exchange) (now : Stage D G) (taken : List ℕ) : Type 0 where
+-- The run is cut short after these exchanges, whatever is left of its input; at a request, where this failed.
+pub record CutShort {D : Type 0} {G : Ghosts D} (state : D → DiskState) (first : Opening D) (xs : List Exchange) (now : Stage D G) (taken : List ℕ) (Failed : Type 0) : Type 0 where
   pub unanswered : Option Request
   pub each : AreExchanges first.start xs
   pub reads : (left : List ℕ) → TakesLines (taken ++ left) xs unanswered
   pub promises : PromisesSo state first now xs unanswered
+  pub was_taken : Failed → IsSome unanswered
 
--- The run ended after these exchanges, with or without the end of its input.
-pub record Halted {D : Type 0} {G : Ghosts D} (state : D → DiskState) (first : Opening D) (xs : List Exchange) (now : Stage D G) (input taken : List ℕ) : Type 0 where
+-- The run ended after these exchanges, with or without the end of its input; at a request, where this failed.
+pub record Halted {D : Type 0} {G : Ghosts D} (state : D → DiskState) (first : Opening D) (xs : List Exchange) (now : Stage D G) (input taken : List ℕ) (Failed : Type 0) : Type 0 where
   pub unanswered : Option Request
   pub each : AreExchanges first.start xs
   pub of_input : TakesLines input xs unanswered
   pub of_taken : TakesLines taken xs unanswered
   pub promises : PromisesSo state first now xs unanswered
+  pub was_taken : Failed → IsSome unanswered
 
 -- The run came to the end of its input: these exchanges came of all its lines.
 pub record Finished {D : Type 0} {G : Ghosts D} (state : D → DiskState) (first : Opening D) (xs : List Exchange) (now : Stage D G) (input : List ℕ) : Type 0 where
@@ -148,10 +149,10 @@ TakesOn {D} state old line piece text new line2 =
     → (more : List Exchange) × (text ≡ replies_text more) × StreamState state first (xs ++ more) (taken ++ piece) new line2
 
 -- it is cut short within a piece, whose lines got this text
-abbrev pub Cuts : {D : Type 0} {G : Ghosts D} → (D → DiskState) → Stage D G → List ℕ → List ℕ → List ℕ → Stage D G → Type 0
-Cuts {D} state old line piece text new =
+abbrev pub Cuts : {D : Type 0} {G : Ghosts D} → (D → DiskState) → Stage D G → List ℕ → List ℕ → List ℕ → Stage D G → Type 0 → Type 0
+Cuts {D} state old line piece text new Failed =
     (first : Opening D) (xs : List Exchange) (taken : List ℕ) → StreamState state first xs taken old line
-    → (more : List Exchange) × (text ≡ replies_text more) × CutShort state first (xs ++ more) new (taken ++ piece)
+    → (more : List Exchange) × (text ≡ replies_text more) × CutShort state first (xs ++ more) new (taken ++ piece) Failed
 
 -- the input ended, and its last line, if there is one, gets this text
 abbrev pub Finishes : {D : Type 0} {G : Ghosts D} → (D → DiskState) → Stage D G → List ℕ → List ℕ → Stage D G → Type 0
@@ -160,7 +161,7 @@ Finishes {D} state old line text new =
     → (more : List Exchange) × (text ≡ replies_text more) × Finished state first (xs ++ more) new taken
 
 -- the input ended, and the run with its last line, which got this text
-abbrev pub HaltsLast : {D : Type 0} {G : Ghosts D} → (D → DiskState) → Stage D G → List ℕ → List ℕ → Stage D G → Type 0
-HaltsLast {D} state old line text new =
+abbrev pub HaltsLast : {D : Type 0} {G : Ghosts D} → (D → DiskState) → Stage D G → List ℕ → List ℕ → Stage D G → Type 0 → Type 0
+HaltsLast {D} state old line text new Failed =
     (first : Opening D) (xs : List Exchange) (taken : List ℕ) → StreamState state first xs taken old line
-    → (more : List Exchange) × (text ≡ replies_text more) × Halted state first (xs ++ more) new taken taken
+    → (more : List Exchange) × (text ≡ replies_text more) × Halted state first (xs ++ more) new taken taken Failed

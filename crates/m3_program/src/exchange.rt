@@ -79,15 +79,15 @@ pub fn answer_line<X: Disks>(
     replies: &mut Vec<u8>,
     line: &[u8],
 ) -> Result<(), Lost>
-    requires may { MayServeSaved X.D.state cluster.old (X.held disks.old) }
+    requires may { MayServeSaved X.D.state cluster.old (X.depot disks.old).held }
     ensures ok { OnOk result ((text : List ℕ) × (replies.new.items ≡ replies.old.items ++ text)
-        × Advances X.D.state (stage cluster.old (X.held disks.old) (X.counted disks.old) (X.all_faults disks.old)) line.now text
-        (stage cluster.new (X.held disks.new) (X.counted disks.new) (X.all_faults disks.new))) }
-    ensures err { OnErr result (Drops X.D.state (stage cluster.old (X.held disks.old) (X.counted disks.old) (X.all_faults disks.old)) line.now
-        (stage cluster.new (X.held disks.new) (X.counted disks.new) (X.all_faults disks.new))) }
+        × Advances X.D.state (stage cluster.old (X.depot disks.old)) line.now text
+        (stage cluster.new (X.depot disks.new))) }
+    ensures err { OnErr result (Drops X.D.state (stage cluster.old (X.depot disks.old)) line.now
+        (stage cluster.new (X.depot disks.new)) (IsErrOf result lost.Meta)) }
     ensures nothing { OnErr result (replies.new.items ≡ replies.old.items) }
-    ensures may { OnOk result (MayServeSaved X.D.state cluster.new (X.held disks.new)) }
-    ensures close { MayClose cluster.new (X.held disks.new) }
+    ensures may { OnOk result (MayServeSaved X.D.state cluster.new (X.depot disks.new).held) }
+    ensures close { MayClose cluster.new (X.depot disks.new).held }
     ensures meta { CountsFaults (IsErrOf result lost.Meta) (X.D.state cluster.old.meta).faults (X.D.state cluster.new.meta).faults }
 {
     if is_blank(line) {

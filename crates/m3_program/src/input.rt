@@ -1,8 +1,9 @@
 ghost use Rattle.std.specs.Prelude.{◌≡◌, ◌<◌, ◌≤◌, ℕ, List, [], ◌∷◌, ◌++◌, length, OnOk, OnErr, IfErr, IsErrOf};
-ghost use Rattle.std.specs.Io.KnownBytes.{Appends};
 ghost use Rattle.m3_outside.specs.Causes.{CountsFaults};
 ghost use Rattle.saved_cluster.specs.Saved.{MayClose, MayServeSaved};
 ghost use Rattle.saved_cluster.specs.declared.lost.Lost.TheVariants as lost;
+ghost use Rattle.m3_program.specs.Passing.{Takes, outflow};
+ghost use Rattle.m3_program.specs.declared.status.Status.TheVariants as status;
 ghost use Rattle.m3_program.specs.Streams.{NoNewline, TakesOn, Cuts, stage};
 ghost use Rattle.m3_program.specs.Writing.{Gathers, WritesUntil};
 ghost use Rattle.m3_program.specs.Causes.{EndsLine};
@@ -26,15 +27,15 @@ fn serve_rest<X: Disks>(
     rest: &[u8],
 ) -> Result<(), Lost>
     requires whole { NoNewline rest.now }
-    requires may { MayServeSaved X.D.state cluster.old (X.held disks.old) }
+    requires may { MayServeSaved X.D.state cluster.old (X.depot disks.old).held }
     ensures ok { OnOk result ((text : List ℕ) × (replies.new.items ≡ replies.old.items ++ text)
-        × TakesOn X.D.state (stage cluster.old (X.held disks.old) (X.counted disks.old) (X.all_faults disks.old)) line.old.items (rest.now ++ 10 ∷ []) text
-        (stage cluster.new (X.held disks.new) (X.counted disks.new) (X.all_faults disks.new)) line.new.items) }
-    ensures err { OnErr result (Cuts X.D.state (stage cluster.old (X.held disks.old) (X.counted disks.old) (X.all_faults disks.old)) line.old.items (rest.now ++ 10 ∷ []) []
-        (stage cluster.new (X.held disks.new) (X.counted disks.new) (X.all_faults disks.new))) }
+        × TakesOn X.D.state (stage cluster.old (X.depot disks.old)) line.old.items (rest.now ++ 10 ∷ []) text
+        (stage cluster.new (X.depot disks.new)) line.new.items) }
+    ensures err { OnErr result (Cuts X.D.state (stage cluster.old (X.depot disks.old)) line.old.items (rest.now ++ 10 ∷ []) []
+        (stage cluster.new (X.depot disks.new)) (IsErrOf result lost.Meta)) }
     ensures nothing { OnErr result (replies.new.items ≡ replies.old.items) }
-    ensures may { OnOk result (MayServeSaved X.D.state cluster.new (X.held disks.new)) }
-    ensures close { MayClose cluster.new (X.held disks.new) }
+    ensures may { OnOk result (MayServeSaved X.D.state cluster.new (X.depot disks.new).held) }
+    ensures close { MayClose cluster.new (X.depot disks.new).held }
     ensures meta { CountsFaults (IsErrOf result lost.Meta) (X.D.state cluster.old.meta).faults (X.D.state cluster.new.meta).faults }
 {
     if line.as_slice().is_empty() {
@@ -65,16 +66,16 @@ fn serve_lines<K: Sink, X: Disks>(
     line: &mut Vec<u8>,
     piece: &[u8],
 ) -> Result<(), Status>
-    requires may { MayServeSaved X.D.state cluster.old (X.held disks.old) }
-    ensures ok { OnOk result ((text : List ℕ) × Gathers (K.written out.old) replies.old.items text (K.written out.new) replies.new.items
-        × TakesOn X.D.state (stage cluster.old (X.held disks.old) (X.counted disks.old) (X.all_faults disks.old)) line.old.items piece.now text
-        (stage cluster.new (X.held disks.new) (X.counted disks.new) (X.all_faults disks.new)) line.new.items) }
-    ensures err { IfErr result (λ s. (text : List ℕ) × WritesUntil s (K.written out.old) (replies.old.items ++ text) (K.written out.new)
-        × Cuts X.D.state (stage cluster.old (X.held disks.old) (X.counted disks.old) (X.all_faults disks.old)) line.old.items piece.now text
-        (stage cluster.new (X.held disks.new) (X.counted disks.new) (X.all_faults disks.new))) }
+    requires may { MayServeSaved X.D.state cluster.old (X.depot disks.old).held }
+    ensures ok { OnOk result ((text : List ℕ) × Gathers (outflow (K.written out.old) (K.took out.old)) replies.old.items text (outflow (K.written out.new) (K.took out.new)) replies.new.items
+        × TakesOn X.D.state (stage cluster.old (X.depot disks.old)) line.old.items piece.now text
+        (stage cluster.new (X.depot disks.new)) line.new.items) }
+    ensures err { IfErr result (λ s. (text : List ℕ) × WritesUntil s (outflow (K.written out.old) (K.took out.old)) (replies.old.items ++ text) (outflow (K.written out.new) (K.took out.new))
+        × Cuts X.D.state (stage cluster.old (X.depot disks.old)) line.old.items piece.now text
+        (stage cluster.new (X.depot disks.new)) (s ≡ status.DiskFault)) }
     ensures few { length replies.old.items < 65536 → OnOk result (length replies.new.items < 65536) }
-    ensures may { OnOk result (MayServeSaved X.D.state cluster.new (X.held disks.new)) }
-    ensures close { MayClose cluster.new (X.held disks.new) }
+    ensures may { OnOk result (MayServeSaved X.D.state cluster.new (X.depot disks.new).held) }
+    ensures close { MayClose cluster.new (X.depot disks.new).held }
     ensures later { (K.faulted out.old ≤ K.faulted out.new) × (K.stalled out.old ≤ K.stalled out.new) × ((X.D.state cluster.old.meta).faults ≤ (X.D.state cluster.new.meta).faults) }
     ensures cause { IfErr result (λ s. EndsLine s (K.faulted out.old) (K.faulted out.new) (K.stalled out.old) (K.stalled out.new) (X.D.state cluster.old.meta).faults (X.D.state cluster.new.meta).faults) }
 {
@@ -106,15 +107,15 @@ pub fn serve_piece<K: Sink, X: Disks>(
     line: &mut Vec<u8>,
     piece: &[u8],
 ) -> Result<(), Status>
-    requires may { MayServeSaved X.D.state cluster.old (X.held disks.old) }
-    ensures ok { OnOk result ((text : List ℕ) × Appends (K.written out.old) (K.written out.new) text
-        × TakesOn X.D.state (stage cluster.old (X.held disks.old) (X.counted disks.old) (X.all_faults disks.old)) line.old.items piece.now text
-        (stage cluster.new (X.held disks.new) (X.counted disks.new) (X.all_faults disks.new)) line.new.items) }
-    ensures err { IfErr result (λ s. (text : List ℕ) × WritesUntil s (K.written out.old) text (K.written out.new)
-        × Cuts X.D.state (stage cluster.old (X.held disks.old) (X.counted disks.old) (X.all_faults disks.old)) line.old.items piece.now text
-        (stage cluster.new (X.held disks.new) (X.counted disks.new) (X.all_faults disks.new))) }
-    ensures may { OnOk result (MayServeSaved X.D.state cluster.new (X.held disks.new)) }
-    ensures close { MayClose cluster.new (X.held disks.new) }
+    requires may { MayServeSaved X.D.state cluster.old (X.depot disks.old).held }
+    ensures ok { OnOk result ((text : List ℕ) × Takes (outflow (K.written out.old) (K.took out.old)) (outflow (K.written out.new) (K.took out.new)) text
+        × TakesOn X.D.state (stage cluster.old (X.depot disks.old)) line.old.items piece.now text
+        (stage cluster.new (X.depot disks.new)) line.new.items) }
+    ensures err { IfErr result (λ s. (text : List ℕ) × WritesUntil s (outflow (K.written out.old) (K.took out.old)) text (outflow (K.written out.new) (K.took out.new))
+        × Cuts X.D.state (stage cluster.old (X.depot disks.old)) line.old.items piece.now text
+        (stage cluster.new (X.depot disks.new)) (s ≡ status.DiskFault)) }
+    ensures may { OnOk result (MayServeSaved X.D.state cluster.new (X.depot disks.new).held) }
+    ensures close { MayClose cluster.new (X.depot disks.new).held }
     ensures later { (K.faulted out.old ≤ K.faulted out.new) × (K.stalled out.old ≤ K.stalled out.new) × ((X.D.state cluster.old.meta).faults ≤ (X.D.state cluster.new.meta).faults) }
     ensures cause { IfErr result (λ s. EndsLine s (K.faulted out.old) (K.faulted out.new) (K.stalled out.old) (K.stalled out.new) (X.D.state cluster.old.meta).faults (X.D.state cluster.new.meta).faults) }
 {

@@ -9,4 +9,5 @@ pub mod run;
 mod script;
 pub mod status;
 
+pub use command_words::{WordsErr, folder};
 pub use status::Status;

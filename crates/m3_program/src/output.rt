@@ -1,8 +1,8 @@
 ghost use Rattle.std.specs.Prelude.{◌≡◌, ◌<◌, ◌≤◌, ◌⊎◌, ℕ, List, [], length, take, OnOk, OnErr, IfErr};
-ghost use Rattle.std.specs.Io.KnownBytes.{Appends};
 ghost use Rattle.m3_outside.specs.Causes.{Rose};
 ghost use Rattle.saved_cluster.specs.declared.lost.Lost.TheVariants as lost;
 ghost use Rattle.m3_program.specs.Causes.{EndsLine};
+ghost use Rattle.m3_program.specs.Passing.{Takes, outflow};
 ghost use Rattle.m3_program.specs.Writing.{Gathers, WritesUntil};
 ghost use Rattle.m3_program.specs.declared.status.Status.TheVariants as status;
 
@@ -15,8 +15,8 @@ const FULL: usize = 65536;
 
 /// Writes all of the bytes, or a front of them where the sink fails.
 pub fn write_all<K: Sink>(out: &mut K, bytes: &[u8]) -> Result<(), Status>
-    ensures ok { OnOk result (Appends (K.written out.old) (K.written out.new) bytes.now) }
-    ensures err { OnErr result ((n : ℕ) × Appends (K.written out.old) (K.written out.new) (take n bytes.now)) }
+    ensures ok { OnOk result (Takes (outflow (K.written out.old) (K.took out.old)) (outflow (K.written out.new) (K.took out.new)) bytes.now) }
+    ensures err { OnErr result ((n : ℕ) × Takes (outflow (K.written out.old) (K.took out.old)) (outflow (K.written out.new) (K.took out.new)) (take n bytes.now)) }
     ensures by { IfErr result (λ s. s ≡ status.WriteFault) }
     ensures later { (K.faulted out.old ≤ K.faulted out.new) × (K.stalled out.old ≤ K.stalled out.new) }
     ensures cause { OnErr result (Rose (K.faulted out.old) (K.faulted out.new) ⊎ Rose (K.stalled out.old) (K.stalled out.new)) }
@@ -38,7 +38,8 @@ pub fn write_all<K: Sink>(out: &mut K, bytes: &[u8]) -> Result<(), Status>
 
 /// Writes all of the bytes before the run ends for this cause, and answers how it ends: by a write fault where the sink fails.
 pub fn write_before_end<K: Sink>(out: &mut K, bytes: &[u8], why: Lost) -> Status
-    ensures written { WritesUntil result (K.written out.old) bytes.now (K.written out.new) }
+    ensures written { WritesUntil result (outflow (K.written out.old) (K.took out.old)) bytes.now (outflow (K.written out.new) (K.took out.new)) }
+    ensures meta { result ≡ status.DiskFault → why ≡ lost.Meta }
     ensures later { (K.faulted out.old ≤ K.faulted out.new) × (K.stalled out.old ≤ K.stalled out.new) }
     ensures cause { (meta_before meta_now : ℕ) → (why ≡ lost.Meta → Rose meta_before meta_now)
         → EndsLine result (K.faulted out.old) (K.faulted out.new) (K.stalled out.old) (K.stalled out.new) meta_before meta_now }
@@ -51,8 +52,8 @@ pub fn write_before_end<K: Sink>(out: &mut K, bytes: &[u8], why: Lost) -> Status
 
 /// Writes what is held where that is 65,536 bytes or more, and nothing where it is less.
 pub fn write_full<K: Sink>(out: &mut K, replies: &mut Vec<u8>) -> Result<(), Status>
-    ensures ok { OnOk result (Gathers (K.written out.old) replies.old.items [] (K.written out.new) replies.new.items) }
-    ensures err { OnErr result ((lost : List ℕ) × Gathers (K.written out.old) replies.old.items [] (K.written out.new) lost) }
+    ensures ok { OnOk result (Gathers (outflow (K.written out.old) (K.took out.old)) replies.old.items [] (outflow (K.written out.new) (K.took out.new)) replies.new.items) }
+    ensures err { OnErr result ((lost : List ℕ) × Gathers (outflow (K.written out.old) (K.took out.old)) replies.old.items [] (outflow (K.written out.new) (K.took out.new)) lost) }
     ensures few { OnOk result (length replies.new.items < 65536) }
     ensures held { length replies.old.items < 65536 → replies.new.items ≡ replies.old.items }
     ensures by { IfErr result (λ s. s ≡ status.WriteFault) }

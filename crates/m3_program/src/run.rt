@@ -1,13 +1,14 @@
-ghost use Rattle.std.specs.Prelude.{◌≡◌, ◌<◌, ◌≤◌, ◌+◌, ◌⊎◌, ℕ, List, [], ◌++◌, Some, None, map, length, string_bytes, IfOk, OnOk, IfErr, IsErrOf};
-ghost use Rattle.std.specs.Io.KnownBytes.{Appends, Consumes, IsAtEnd};
+ghost use Rattle.std.specs.Prelude.{◌≡◌, ◌<◌, ◌≤◌, ◌+◌, ◌⊎◌, ℕ, List, [], ◌++◌, Some, None, map, length, string_bytes, true, IfOk, OnOk, IfErr, IsErrOf};
+ghost use Rattle.std.specs.Io.KnownBytes.{IsAtEnd};
 ghost use Rattle.m3_model.specs.declared.limits.TheConstants.{INPUT_END};
 ghost use Rattle.m3_outside.specs.Slots.{Out};
 ghost use Rattle.m3_outside.specs.declared.slot.DiskSlot.{DiskSlot};
-ghost use Rattle.saved_cluster.specs.first_cluster.Depots.{depot_by, meta_slot};
+ghost use Rattle.saved_cluster.specs.first_cluster.Depots.{meta_slot};
 ghost use Rattle.saved_cluster.specs.Saved.{MayClose, MayServeSaved};
 ghost use Rattle.command_words.specs.Tasks.{task_of};
 ghost use Rattle.command_words.specs.declared.task.Task.TheVariants as task;
 ghost use Rattle.m3_program.specs.Openings.{IsUnopened};
+ghost use Rattle.m3_program.specs.Passing.{Gives, Takes, left_in, outflow};
 ghost use Rattle.m3_program.specs.Streams.{TakesOn, Cuts, Finishes, HaltsLast, HasServed, IsFresh, opening_at, stage};
 ghost use Rattle.m3_program.specs.Writing.{WritesUntil};
 ghost use Rattle.m3_program.specs.Causes.{EndsLine, EndsStep, EndsReading, EndsScript, EndsTask};
@@ -40,21 +41,22 @@ fn serve_read<S: Source, K: Sink, X: Disks>(
     out: &mut K,
     buf: &mut [u8],
 ) -> Result<usize, Status>
-    requires may { MayServeSaved X.D.state cluster.old (X.held disks.old) }
-    ensures ok { IfOk result (λ n. (piece text : List ℕ) × Consumes (S.left source.old) (S.left source.new) piece × (length piece ≡ n) × (n ≤ length buf.old)
-        × Appends (K.written out.old) (K.written out.new) text
-        × TakesOn X.D.state (stage cluster.old (X.held disks.old) (X.counted disks.old) (X.all_faults disks.old)) line.old.items piece text
-        (stage cluster.new (X.held disks.new) (X.counted disks.new) (X.all_faults disks.new)) line.new.items
+    requires may { MayServeSaved X.D.state cluster.old (X.depot disks.old).held }
+    ensures ok { IfOk result (λ n. (piece text : List ℕ) × Gives (S.left source.old) (S.gave source.old) piece (S.left source.new) (S.gave source.new) × (length piece ≡ n) × (n ≤ length buf.old)
+        × Takes (outflow (K.written out.old) (K.took out.old)) (outflow (K.written out.new) (K.took out.new)) text
+        × TakesOn X.D.state (stage cluster.old (X.depot disks.old)) line.old.items piece text
+        (stage cluster.new (X.depot disks.new)) line.new.items
         × (n ≡ 0 → 0 < length buf.old → IsAtEnd (S.left source.new))) }
-    ensures err { IfErr result (λ s. (piece text : List ℕ) × Consumes (S.left source.old) (S.left source.new) piece × (length piece ≤ length buf.old)
-        × WritesUntil s (K.written out.old) text (K.written out.new)
-        × Cuts X.D.state (stage cluster.old (X.held disks.old) (X.counted disks.old) (X.all_faults disks.old)) line.old.items piece text
-        (stage cluster.new (X.held disks.new) (X.counted disks.new) (X.all_faults disks.new))) }
-    ensures at_fault { IsErrOf result status.ReadFault → Consumes (S.left source.old) (S.left source.new) [] × Appends (K.written out.old) (K.written out.new) []
-        × TakesOn X.D.state (stage cluster.old (X.held disks.old) (X.counted disks.old) (X.all_faults disks.old)) line.old.items [] []
-        (stage cluster.new (X.held disks.new) (X.counted disks.new) (X.all_faults disks.new)) line.new.items }
-    ensures may { OnOk result (MayServeSaved X.D.state cluster.new (X.held disks.new)) }
-    ensures close { MayClose cluster.new (X.held disks.new) }
+    ensures ended { IfOk result (λ n. n ≡ 0 → 0 < length buf.old → S.ended source.new ≡ true) }
+    ensures err { IfErr result (λ s. (piece text : List ℕ) × Gives (S.left source.old) (S.gave source.old) piece (S.left source.new) (S.gave source.new) × (length piece ≤ length buf.old)
+        × WritesUntil s (outflow (K.written out.old) (K.took out.old)) text (outflow (K.written out.new) (K.took out.new))
+        × Cuts X.D.state (stage cluster.old (X.depot disks.old)) line.old.items piece text
+        (stage cluster.new (X.depot disks.new)) (s ≡ status.DiskFault)) }
+    ensures at_fault { IsErrOf result status.ReadFault → Gives (S.left source.old) (S.gave source.old) [] (S.left source.new) (S.gave source.new) × Takes (outflow (K.written out.old) (K.took out.old)) (outflow (K.written out.new) (K.took out.new)) []
+        × TakesOn X.D.state (stage cluster.old (X.depot disks.old)) line.old.items [] []
+        (stage cluster.new (X.depot disks.new)) line.new.items }
+    ensures may { OnOk result (MayServeSaved X.D.state cluster.new (X.depot disks.new).held) }
+    ensures close { MayClose cluster.new (X.depot disks.new).held }
     ensures later { (S.faulted source.old ≤ S.faulted source.new) × (K.faulted out.old ≤ K.faulted out.new) × (K.stalled out.old ≤ K.stalled out.new) × ((X.D.state cluster.old.meta).faults ≤ (X.D.state cluster.new.meta).faults) }
     ensures cause { IfErr result (λ s. EndsStep s (S.faulted source.old) (S.faulted source.new) (K.faulted out.old) (K.faulted out.new) (K.stalled out.old) (K.stalled out.new) (X.D.state cluster.old.meta).faults (X.D.state cluster.new.meta).faults) }
 {
@@ -76,14 +78,14 @@ fn serve_last<K: Sink, X: Disks>(
     out: &mut K,
     line: &[u8],
 ) -> Result<(), Status>
-    requires may { MayServeSaved X.D.state cluster.old (X.held disks.old) }
-    ensures ok { OnOk result ((text : List ℕ) × Appends (K.written out.old) (K.written out.new) text
-        × Finishes X.D.state (stage cluster.old (X.held disks.old) (X.counted disks.old) (X.all_faults disks.old)) line.now text
-        (stage cluster.new (X.held disks.new) (X.counted disks.new) (X.all_faults disks.new))) }
-    ensures err { IfErr result (λ s. (text : List ℕ) × WritesUntil s (K.written out.old) text (K.written out.new)
-        × HaltsLast X.D.state (stage cluster.old (X.held disks.old) (X.counted disks.old) (X.all_faults disks.old)) line.now text
-        (stage cluster.new (X.held disks.new) (X.counted disks.new) (X.all_faults disks.new))) }
-    ensures close { MayClose cluster.new (X.held disks.new) }
+    requires may { MayServeSaved X.D.state cluster.old (X.depot disks.old).held }
+    ensures ok { OnOk result ((text : List ℕ) × Takes (outflow (K.written out.old) (K.took out.old)) (outflow (K.written out.new) (K.took out.new)) text
+        × Finishes X.D.state (stage cluster.old (X.depot disks.old)) line.now text
+        (stage cluster.new (X.depot disks.new))) }
+    ensures err { IfErr result (λ s. (text : List ℕ) × WritesUntil s (outflow (K.written out.old) (K.took out.old)) text (outflow (K.written out.new) (K.took out.new))
+        × HaltsLast X.D.state (stage cluster.old (X.depot disks.old)) line.now text
+        (stage cluster.new (X.depot disks.new)) (s ≡ status.DiskFault)) }
+    ensures close { MayClose cluster.new (X.depot disks.new).held }
     ensures later { (K.faulted out.old ≤ K.faulted out.new) × (K.stalled out.old ≤ K.stalled out.new) × ((X.D.state cluster.old.meta).faults ≤ (X.D.state cluster.new.meta).faults) }
     ensures cause { IfErr result (λ s. EndsLine s (K.faulted out.old) (K.faulted out.new) (K.stalled out.old) (K.stalled out.new) (X.D.state cluster.old.meta).faults (X.D.state cluster.new.meta).faults) }
 {
@@ -116,13 +118,13 @@ fn serve_all<S: Source, K: Sink, X: Disks>(
     source: &mut S,
     out: &mut K,
 ) -> Status
-    requires fresh { IsFresh X.D.state (stage cluster.old (X.held disks.old) (X.counted disks.old) (X.all_faults disks.old)) }
-    requires may { MayServeSaved X.D.state cluster.old (X.held disks.old) }
-    ensures told { (input before : List ℕ) → S.left source.old ≡ Some input → K.written out.old ≡ Some before
-        → (left written : List ℕ) × (S.left source.new ≡ Some left) × (K.written out.new ≡ Some (before ++ written))
-        × HasServed X.D.state (opening_at (stage cluster.old (X.held disks.old) (X.counted disks.old) (X.all_faults disks.old)))
-        (stage cluster.new (X.held disks.new) (X.counted disks.new) (X.all_faults disks.new)) result input left written }
-    ensures close { MayClose cluster.new (X.held disks.new) }
+    requires fresh { IsFresh X.D.state (stage cluster.old (X.depot disks.old)) }
+    requires may { MayServeSaved X.D.state cluster.old (X.depot disks.old).held }
+    ensures told { (taken written : List ℕ) × Gives (S.left source.old) (S.gave source.old) taken (S.left source.new) (S.gave source.new) × Takes (outflow (K.written out.old) (K.took out.old)) (outflow (K.written out.new) (K.took out.new)) written
+        × HasServed X.D.state (opening_at (stage cluster.old (X.depot disks.old)))
+        (stage cluster.new (X.depot disks.new)) result (taken ++ left_in (S.left source.new)) (left_in (S.left source.new)) written }
+    ensures ended { result ≡ status.Done → S.ended source.new ≡ true }
+    ensures close { MayClose cluster.new (X.depot disks.new).held }
     ensures later { (X.D.state cluster.old.meta).faults ≤ (X.D.state cluster.new.meta).faults }
     ensures cause { EndsReading result (S.faulted source.old) (S.faulted source.new) (K.faulted out.old) (K.faulted out.new) (K.stalled out.old) (K.stalled out.new) (X.D.state cluster.old.meta).faults (X.D.state cluster.new.meta).faults }
 {
@@ -162,13 +164,13 @@ fn run_lines<S: Source, K: Sink, X: Disks>(
     out: &mut K,
     disks: &mut X,
 ) -> Status
-    requires none_out { (slot : DiskSlot) → ¬ (X.held disks.old slot ≡ Out) }
-    ensures told { (input before : List ℕ) → S.left source.old ≡ Some input → K.written out.old ≡ Some before
-        → (left written : List ℕ) × (S.left source.new ≡ Some left) × (K.written out.new ≡ Some (before ++ written))
-        × Runs X.D.state (depot_by X.held X.counted X.all_faults disks.old) (depot_by X.held X.counted X.all_faults disks.new) [] result input left written }
-    ensures none_out { (slot : DiskSlot) → ¬ (X.held disks.new slot ≡ Out) }
-    ensures cause { ((source.new ≡ source.old) × (out.new ≡ out.old) × IsUnopened X.D.state (depot_by X.held X.counted X.all_faults disks.old) (depot_by X.held X.counted X.all_faults disks.new) result)
-        ⊎ EndsReading result (S.faulted source.old) (S.faulted source.new) (K.faulted out.old) (K.faulted out.new) (K.stalled out.old) (K.stalled out.new) (X.counted disks.old meta_slot) (X.counted disks.new meta_slot) }
+    requires none_out { (slot : DiskSlot) → ¬ ((X.depot disks.old).held slot ≡ Out) }
+    ensures told { (taken written : List ℕ) × Gives (S.left source.old) (S.gave source.old) taken (S.left source.new) (S.gave source.new) × Takes (outflow (K.written out.old) (K.took out.old)) (outflow (K.written out.new) (K.took out.new)) written
+        × Runs X.D.state (X.depot disks.old) (X.depot disks.new) [] result (taken ++ left_in (S.left source.new)) (left_in (S.left source.new)) written }
+    ensures ended { result ≡ status.Done → S.ended source.new ≡ true }
+    ensures none_out { (slot : DiskSlot) → ¬ ((X.depot disks.new).held slot ≡ Out) }
+    ensures cause { ((source.new ≡ source.old) × (out.new ≡ out.old) × IsUnopened X.D.state (X.depot disks.old) (X.depot disks.new) result)
+        ⊎ EndsReading result (S.faulted source.old) (S.faulted source.new) (K.faulted out.old) (K.faulted out.new) (K.stalled out.old) (K.stalled out.new) ((X.depot disks.old).counted meta_slot) ((X.depot disks.new).counted meta_slot) }
 {
     let mut cluster = match SavedCluster::open(alloc, disks) {
         Ok(cluster) => cluster,
@@ -181,11 +183,11 @@ fn run_lines<S: Source, K: Sink, X: Disks>(
 
 /// Opens the cluster that the meta disk has, serves the script of a number, and gives all disks back at the end.
 fn run_script<K: Sink, X: Disks>(alloc: Global, out: &mut K, disks: &mut X, number: u32) -> Status
-    requires none_out { (slot : DiskSlot) → ¬ (X.held disks.old slot ≡ Out) }
-    ensures told { (before : List ℕ) → K.written out.old ≡ Some before → (written : List ℕ) × (K.written out.new ≡ Some (before ++ written))
-        × Generates X.D.state (depot_by X.held X.counted X.all_faults disks.old) (depot_by X.held X.counted X.all_faults disks.new) [] number result written }
-    ensures none_out { (slot : DiskSlot) → ¬ (X.held disks.new slot ≡ Out) }
-    ensures cause { ((out.new ≡ out.old) × IsUnopened X.D.state (depot_by X.held X.counted X.all_faults disks.old) (depot_by X.held X.counted X.all_faults disks.new) result) ⊎ EndsScript result (K.faulted out.old) (K.faulted out.new) (K.stalled out.old) (K.stalled out.new) (X.counted disks.old meta_slot) (X.counted disks.new meta_slot) }
+    requires none_out { (slot : DiskSlot) → ¬ ((X.depot disks.old).held slot ≡ Out) }
+    ensures told { (written : List ℕ) × Takes (outflow (K.written out.old) (K.took out.old)) (outflow (K.written out.new) (K.took out.new)) written
+        × Generates X.D.state (X.depot disks.old) (X.depot disks.new) [] number result written }
+    ensures none_out { (slot : DiskSlot) → ¬ ((X.depot disks.new).held slot ≡ Out) }
+    ensures cause { ((out.new ≡ out.old) × IsUnopened X.D.state (X.depot disks.old) (X.depot disks.new) result) ⊎ EndsScript result (K.faulted out.old) (K.faulted out.new) (K.stalled out.old) (K.stalled out.new) ((X.depot disks.old).counted meta_slot) ((X.depot disks.new).counted meta_slot) }
 {
     let mut cluster = match SavedCluster::open(alloc, disks) {
         Ok(cluster) => cluster,
@@ -207,18 +209,17 @@ pub fn run<S: Source, K: Sink, X: Disks>(
     out: &mut K,
     disks: &mut X,
 ) -> Status
-    requires none_out { (slot : DiskSlot) → ¬ (X.held disks.old slot ≡ Out) }
-    ensures told { task_of (map string_bytes words.now) ≡ Some task.Run → (input before : List ℕ) → S.left source.old ≡ Some input → K.written out.old ≡ Some before
-        → (left written : List ℕ) × (S.left source.new ≡ Some left) × (K.written out.new ≡ Some (before ++ written))
-        × Runs X.D.state (depot_by X.held X.counted X.all_faults disks.old) (depot_by X.held X.counted X.all_faults disks.new) [] result input left written }
-    ensures generated { (number : ℕ) → task_of (map string_bytes words.now) ≡ Some (task.Generate number) → (before : List ℕ) → K.written out.old ≡ Some before
-        → (written : List ℕ) × (K.written out.new ≡ Some (before ++ written))
-        × Generates X.D.state (depot_by X.held X.counted X.all_faults disks.old) (depot_by X.held X.counted X.all_faults disks.new) [] number result written }
+    requires none_out { (slot : DiskSlot) → ¬ ((X.depot disks.old).held slot ≡ Out) }
+    ensures told { task_of (map string_bytes words.now) ≡ Some task.Run → (taken written : List ℕ) × Gives (S.left source.old) (S.gave source.old) taken (S.left source.new) (S.gave source.new) × Takes (outflow (K.written out.old) (K.took out.old)) (outflow (K.written out.new) (K.took out.new)) written
+        × Runs X.D.state (X.depot disks.old) (X.depot disks.new) [] result (taken ++ left_in (S.left source.new)) (left_in (S.left source.new)) written }
+    ensures ended { task_of (map string_bytes words.now) ≡ Some task.Run → result ≡ status.Done → S.ended source.new ≡ true }
+    ensures generated { (number : ℕ) → task_of (map string_bytes words.now) ≡ Some (task.Generate number) → (written : List ℕ) × Takes (outflow (K.written out.old) (K.took out.old)) (outflow (K.written out.new) (K.took out.new)) written
+        × Generates X.D.state (X.depot disks.old) (X.depot disks.new) [] number result written }
     ensures unread { (task_of (map string_bytes words.now) ≡ Some task.Run → ⊥) → source.new ≡ source.old }
     ensures idle { task_of (map string_bytes words.now) ≡ None → (out.new ≡ out.old) × (disks.new ≡ disks.old) }
-    ensures none_out { (slot : DiskSlot) → ¬ (X.held disks.new slot ≡ Out) }
-    ensures cause { EndsTask (task_of (map string_bytes words.now)) result ((source.new ≡ source.old) × (out.new ≡ out.old) × IsUnopened X.D.state (depot_by X.held X.counted X.all_faults disks.old) (depot_by X.held X.counted X.all_faults disks.new) result)
-        (S.faulted source.old) (S.faulted source.new) (K.faulted out.old) (K.faulted out.new) (K.stalled out.old) (K.stalled out.new) (X.counted disks.old meta_slot) (X.counted disks.new meta_slot) }
+    ensures none_out { (slot : DiskSlot) → ¬ ((X.depot disks.new).held slot ≡ Out) }
+    ensures cause { EndsTask (task_of (map string_bytes words.now)) result ((source.new ≡ source.old) × (out.new ≡ out.old) × IsUnopened X.D.state (X.depot disks.old) (X.depot disks.new) result)
+        (S.faulted source.old) (S.faulted source.new) (K.faulted out.old) (K.faulted out.new) (K.stalled out.old) (K.stalled out.new) ((X.depot disks.old).counted meta_slot) ((X.depot disks.new).counted meta_slot) }
 {
     match task_of(alloc, words) {
         Ok(Task::Run) => run_lines(alloc, source, out, disks),

@@ -6,6 +6,7 @@ ghost use Rattle.saved_cluster.specs.Saved.{MayClose, MayServeSaved};
 ghost use Rattle.saved_cluster.specs.declared.lost.Lost.TheVariants as lost;
 ghost use Rattle.m3_program.specs.Causes.{EndsScript};
 ghost use Rattle.m3_program.specs.Rounds.{Continues, Goes, HasPlayed, Loses, Stopped};
+ghost use Rattle.m3_program.specs.Passing.{Takes, outflow};
 ghost use Rattle.m3_program.specs.Streams.{IsFresh, opening_at, stage};
 
 use crate::output::write_all;
@@ -25,13 +26,13 @@ fn serve_request<X: Disks>(
     request: Request,
 ) -> Result<Reply, Lost>
     requires limits { KeepsLimits request }
-    requires may { MayServeSaved X.D.state cluster.old (X.held disks.old) }
-    ensures continues { IfOk result (λ reply. Continues X.D.state (stage cluster.old (X.held disks.old) (X.counted disks.old) (X.all_faults disks.old)) request reply
-        (stage cluster.new (X.held disks.new) (X.counted disks.new) (X.all_faults disks.new))) }
-    ensures loses { OnErr result (Loses X.D.state (stage cluster.old (X.held disks.old) (X.counted disks.old) (X.all_faults disks.old)) request
-        (stage cluster.new (X.held disks.new) (X.counted disks.new) (X.all_faults disks.new))) }
-    ensures may { OnOk result (MayServeSaved X.D.state cluster.new (X.held disks.new)) }
-    ensures close { MayClose cluster.new (X.held disks.new) }
+    requires may { MayServeSaved X.D.state cluster.old (X.depot disks.old).held }
+    ensures continues { IfOk result (λ reply. Continues X.D.state (stage cluster.old (X.depot disks.old)) request reply
+        (stage cluster.new (X.depot disks.new))) }
+    ensures loses { OnErr result (Loses X.D.state (stage cluster.old (X.depot disks.old)) request
+        (stage cluster.new (X.depot disks.new))) }
+    ensures may { OnOk result (MayServeSaved X.D.state cluster.new (X.depot disks.new).held) }
+    ensures close { MayClose cluster.new (X.depot disks.new).held }
     ensures meta { CountsFaults (IsErrOf result lost.Meta) (X.D.state cluster.old.meta).faults (X.D.state cluster.new.meta).faults }
 {
     if !is_served(&request) {
@@ -59,13 +60,13 @@ fn serve_script<X: Disks>(
     disks: &mut X,
     number: u32,
 ) -> Result<Summary, Lost>
-    requires fresh { IsFresh X.D.state (stage cluster.old (X.held disks.old) (X.counted disks.old) (X.all_faults disks.old)) }
-    requires may { MayServeSaved X.D.state cluster.old (X.held disks.old) }
-    ensures ok { IfOk result (λ summary. Goes X.D.state (opening_at (stage cluster.old (X.held disks.old) (X.counted disks.old) (X.all_faults disks.old))) number [] summary
-        (stage cluster.new (X.held disks.new) (X.counted disks.new) (X.all_faults disks.new))) }
-    ensures err { OnErr result (Stopped X.D.state (opening_at (stage cluster.old (X.held disks.old) (X.counted disks.old) (X.all_faults disks.old))) number
-        (stage cluster.new (X.held disks.new) (X.counted disks.new) (X.all_faults disks.new))) }
-    ensures close { MayClose cluster.new (X.held disks.new) }
+    requires fresh { IsFresh X.D.state (stage cluster.old (X.depot disks.old)) }
+    requires may { MayServeSaved X.D.state cluster.old (X.depot disks.old).held }
+    ensures ok { IfOk result (λ summary. Goes X.D.state (opening_at (stage cluster.old (X.depot disks.old))) number [] summary
+        (stage cluster.new (X.depot disks.new))) }
+    ensures err { OnErr result (Stopped X.D.state (opening_at (stage cluster.old (X.depot disks.old))) number
+        (stage cluster.new (X.depot disks.new)) (IsErrOf result lost.Meta)) }
+    ensures close { MayClose cluster.new (X.depot disks.new).held }
     ensures later { (X.D.state cluster.old.meta).faults ≤ (X.D.state cluster.new.meta).faults }
     ensures rose { IsErrOf result lost.Meta → Rose (X.D.state cluster.old.meta).faults (X.D.state cluster.new.meta).faults }
 {
@@ -88,12 +89,12 @@ pub fn generate<K: Sink, X: Disks>(
     out: &mut K,
     number: u32,
 ) -> Status
-    requires fresh { IsFresh X.D.state (stage cluster.old (X.held disks.old) (X.counted disks.old) (X.all_faults disks.old)) }
-    requires may { MayServeSaved X.D.state cluster.old (X.held disks.old) }
-    ensures told { (before : List ℕ) → K.written out.old ≡ Some before → (written : List ℕ) × (K.written out.new ≡ Some (before ++ written))
-        × HasPlayed X.D.state (opening_at (stage cluster.old (X.held disks.old) (X.counted disks.old) (X.all_faults disks.old))) number result written
-        (stage cluster.new (X.held disks.new) (X.counted disks.new) (X.all_faults disks.new)) }
-    ensures close { MayClose cluster.new (X.held disks.new) }
+    requires fresh { IsFresh X.D.state (stage cluster.old (X.depot disks.old)) }
+    requires may { MayServeSaved X.D.state cluster.old (X.depot disks.old).held }
+    ensures told { (written : List ℕ) × Takes (outflow (K.written out.old) (K.took out.old)) (outflow (K.written out.new) (K.took out.new)) written
+        × HasPlayed X.D.state (opening_at (stage cluster.old (X.depot disks.old))) number result written
+        (stage cluster.new (X.depot disks.new)) }
+    ensures close { MayClose cluster.new (X.depot disks.new).held }
     ensures later { (X.D.state cluster.old.meta).faults ≤ (X.D.state cluster.new.meta).faults }
     ensures cause { EndsScript result (K.faulted out.old) (K.faulted out.new) (K.stalled out.old) (K.stalled out.new) (X.D.state cluster.old.meta).faults (X.D.state cluster.new.meta).faults }
 {

@@ -71,7 +71,7 @@ impl Status {
     {
         match self {
             Status::Done => None,
-            Status::Usage => Some("usage: m3 run or m3 generate N"),
+            Status::Usage => Some("usage: m3 run [--disk FOLDER] or m3 generate N"),
             Status::ReadFault => Some("m3: read fault"),
             Status::WriteFault => Some("m3: write fault"),
             Status::DiskFault => Some("m3: disk fault"),

@@ -10,6 +10,7 @@ use Rattle.std.proofs.lemmas.Bool.{and_parts}
 use Rattle.transcripts.specs.Caused.{Caused, CausedAt, IsDueBy, refusal_after}
 use Rattle.transcripts.specs.Calls.{call_of}
 use Rattle.transcripts.specs.Levels.{IsAcked, MissesLevel, IsFoundFor}
+use Rattle.transcripts.specs.Waiting.{IsBegunFor}
 use Rattle.transcripts.specs.Reasons.{MayRefuse, MayServe, TakesPoint, IsOutside}
 use Rattle.placement_core.specs.NodeNames.{IsNamedBelow}
 use Rattle.transcripts.specs.Fates.{reaches}
@@ -45,7 +46,7 @@ use Rattle.model_laws.specs.Building.{life_of, made, named, begun, at_moment, ei
 use Rattle.model_laws.specs.Accepted.{write_then_read, edge_writes, narrow_writes, unmet_then_read}
 use Rattle.model_laws.proofs.EachLemmas.{Each, EachPair, each_in, ascends_by, texts_differ, ◌also◌}
 use Rattle.model_laws.proofs.PositionLemmas.{EachSplit, EachInLine, DeliversOnce, is_not_whole, caused_with, caused_by_positions, position_after, only, due, stands_then}
-use Rattle.model_laws.proofs.SampleLemmas.{rules_when, StandsAt, stands, reached_by, WindowRefuses, call_with}
+use Rattle.model_laws.proofs.SampleLemmas.{rules_when, StandsAt, stands, reached_by, WindowRefuses, call_with, begun_by}
 
 -- a fact of each element with its number
 abbrev pub EachAt : {X : Type 0} → (ℕ → X → Type 0) → List X → Type 0
@@ -153,6 +154,7 @@ all_take lines rules ns k within t v stood at in_spaces not_past not_future = re
       subst (λ k. (node : ℕ) → IsIn (0 ∷ 1 ∷ 2 ∷ []) node → IsCounted place k node) (sym zero_is) (each_in (IsCounted place 0) (0 ∷ 1 ∷ 2 ∷ []) (counted_0 also counted_1 also counted_2 also tt));
   by_name = ascends_by (IsNamedBelow place) (0 ∷ 1 ∷ 2 ∷ []) ((below_0_1 also below_0_2 also tt) also (below_1_2 also tt) also tt also tt);
   reached = each_in (λ node. reaches (position_after lines (write_in ns t v) (acks (0 ∷ 1 ∷ 2 ∷ []))) place node ≡ true) (0 ∷ 1 ∷ 2 ∷ []) (reached_by lines rules (write_in ns t v) (acks (0 ∷ 1 ∷ 2 ∷ [])) 0 _ stood refl also reached_by lines rules (write_in ns t v) (acks (0 ∷ 1 ∷ 2 ∷ [])) 1 _ stood refl also reached_by lines rules (write_in ns t v) (acks (0 ∷ 1 ∷ 2 ∷ [])) 2 _ stood refl also tt);
+  begun = λ shard asked. each_in (IsBegunFor None (position_after lines (write_in ns t v) (acks (0 ∷ 1 ∷ 2 ∷ []))) place shard) (0 ∷ 1 ∷ 2 ∷ []) (begun_by lines rules (write_in ns t v) (acks (0 ∷ 1 ∷ 2 ∷ [])) shard 0 _ stood refl also begun_by lines rules (write_in ns t v) (acks (0 ∷ 1 ∷ 2 ∷ [])) shard 1 _ stood refl also begun_by lines rules (write_in ns t v) (acks (0 ∷ 1 ∷ 2 ∷ [])) shard 2 _ stood refl also tt);
   enough = omega arith;
   takes = subst (λ r. TakesPoint r (write_in ns t v)) (sym stood.rules_is) (takes_by rules ns k within t v at in_spaces not_past not_future);
 }
@@ -300,16 +302,16 @@ with_eight-caused a b here =
     also tt)
 
 pub write_then_read-caused : Caused true (life_of write_then_read) []
-write_then_read-caused = begun_caused 100 _ refl (only (due true [] [] _ _ _ (all_take _ (rules_when 100) _ _ _ _ _ (stands refl refl refl refl refl (λ name. refl) (λ name. refl also refl also refl also tt)) refl refl (omega arith) (omega arith))) also only (due true [] [] _ _ _ (found_by _ (rules_when 100) _ _ _ (stands refl refl refl refl refl (λ name. refl) (λ name. refl also refl also refl also tt)))) also tt)
+write_then_read-caused = begun_caused 100 _ refl (only (due true [] [] _ _ _ (all_take _ (rules_when 100) _ _ _ _ _ (stands refl refl refl refl refl (λ name. refl) (λ name. refl also refl also refl also tt) (λ x. refl)) refl refl (omega arith) (omega arith))) also only (due true [] [] _ _ _ (found_by _ (rules_when 100) _ _ _ (stands refl refl refl refl refl (λ name. refl) (λ name. refl also refl also refl also tt) (λ x. refl)))) also tt)
 
 pub edge_writes-caused : Caused true (life_of edge_writes) []
 edge_writes-caused =
     begun_caused 250 _ refl (
-    only (due true [] [] _ _ _ (all_refuse _ (rules_when 250) _ _ _ _ (stands refl refl refl refl refl (λ name. refl) (λ name. refl also refl also refl also tt)) (past_by (rules_when 250) _ 0 space _ _ refl refl (omega arith))))
-    also only (due true [] [] _ _ _ (all_take _ (rules_when 250) _ _ _ _ _ (stands refl refl refl refl refl (λ name. refl) (λ name. refl also refl also refl also tt)) refl refl (omega arith) (omega arith)))
-    also only (due true [] [] _ _ _ (all_take _ (rules_when 250) _ _ _ _ _ (stands refl refl refl refl refl (λ name. refl) (λ name. refl also refl also refl also tt)) refl refl (omega arith) (omega arith)))
-    also only (due true [] [] _ _ _ (all_refuse _ (rules_when 250) _ _ _ _ (stands refl refl refl refl refl (λ name. refl) (λ name. refl also refl also refl also tt)) (future_by (rules_when 250) _ 0 space _ _ refl refl (omega arith))))
-    also only (due true [] [] _ _ _ (found_by _ (rules_when 250) _ _ _ (stands refl refl refl refl refl (λ name. refl) (λ name. refl also refl also refl also tt))))
+    only (due true [] [] _ _ _ (all_refuse _ (rules_when 250) _ _ _ _ (stands refl refl refl refl refl (λ name. refl) (λ name. refl also refl also refl also tt) (λ x. refl)) (past_by (rules_when 250) _ 0 space _ _ refl refl (omega arith))))
+    also only (due true [] [] _ _ _ (all_take _ (rules_when 250) _ _ _ _ _ (stands refl refl refl refl refl (λ name. refl) (λ name. refl also refl also refl also tt) (λ x. refl)) refl refl (omega arith) (omega arith)))
+    also only (due true [] [] _ _ _ (all_take _ (rules_when 250) _ _ _ _ _ (stands refl refl refl refl refl (λ name. refl) (λ name. refl also refl also refl also tt) (λ x. refl)) refl refl (omega arith) (omega arith)))
+    also only (due true [] [] _ _ _ (all_refuse _ (rules_when 250) _ _ _ _ (stands refl refl refl refl refl (λ name. refl) (λ name. refl also refl also refl also tt) (λ x. refl)) (future_by (rules_when 250) _ 0 space _ _ refl refl (omega arith))))
+    also only (due true [] [] _ _ _ (found_by _ (rules_when 250) _ _ _ (stands refl refl refl refl refl (λ name. refl) (λ name. refl also refl also refl also tt) (λ x. refl))))
     also tt)
 
 -- the rules with both namespaces at moment 250
@@ -323,27 +325,27 @@ narrow_writes-caused =
     also only (due true [] [] _ _ _ tt)
     also only (due true [] [] _ _ _ tt)
     also only (due true [] [] _ _ _ tt)
-    also only (due true [] [] _ _ _ (all_refuse _ both_rules _ _ _ _ (stands refl refl refl refl refl (λ name. refl) (λ name. refl also refl also refl also tt)) (past_by both_rules _ 1 narrow _ _ refl refl (omega arith))))
-    also only (due true [] [] _ _ _ (all_take _ both_rules _ 1 narrow _ _ (stands refl refl refl refl refl (λ name. refl) (λ name. refl also refl also refl also tt)) refl refl (omega arith) (omega arith)))
-    also only (due true [] [] _ _ _ (all_take _ both_rules _ 1 narrow _ _ (stands refl refl refl refl refl (λ name. refl) (λ name. refl also refl also refl also tt)) refl refl (omega arith) (omega arith)))
-    also only (due true [] [] _ _ _ (all_refuse _ both_rules _ _ _ _ (stands refl refl refl refl refl (λ name. refl) (λ name. refl also refl also refl also tt)) (future_by both_rules _ 1 narrow _ _ refl refl (omega arith))))
-    also only (due true [] [] _ _ _ (all_take _ both_rules _ 0 space _ _ (stands refl refl refl refl refl (λ name. refl) (λ name. refl also refl also refl also tt)) refl refl (omega arith) (omega arith)))
-    also only (due true [] [] _ _ _ (all_take _ both_rules _ 0 space _ _ (stands refl refl refl refl refl (λ name. refl) (λ name. refl also refl also refl also tt)) refl refl (omega arith) (omega arith)))
+    also only (due true [] [] _ _ _ (all_refuse _ both_rules _ _ _ _ (stands refl refl refl refl refl (λ name. refl) (λ name. refl also refl also refl also tt) (λ x. refl)) (past_by both_rules _ 1 narrow _ _ refl refl (omega arith))))
+    also only (due true [] [] _ _ _ (all_take _ both_rules _ 1 narrow _ _ (stands refl refl refl refl refl (λ name. refl) (λ name. refl also refl also refl also tt) (λ x. refl)) refl refl (omega arith) (omega arith)))
+    also only (due true [] [] _ _ _ (all_take _ both_rules _ 1 narrow _ _ (stands refl refl refl refl refl (λ name. refl) (λ name. refl also refl also refl also tt) (λ x. refl)) refl refl (omega arith) (omega arith)))
+    also only (due true [] [] _ _ _ (all_refuse _ both_rules _ _ _ _ (stands refl refl refl refl refl (λ name. refl) (λ name. refl also refl also refl also tt) (λ x. refl)) (future_by both_rules _ 1 narrow _ _ refl refl (omega arith))))
+    also only (due true [] [] _ _ _ (all_take _ both_rules _ 0 space _ _ (stands refl refl refl refl refl (λ name. refl) (λ name. refl also refl also refl also tt) (λ x. refl)) refl refl (omega arith) (omega arith)))
+    also only (due true [] [] _ _ _ (all_take _ both_rules _ 0 space _ _ (stands refl refl refl refl refl (λ name. refl) (λ name. refl also refl also refl also tt) (λ x. refl)) refl refl (omega arith) (omega arith)))
     also tt)
 
 pub unmet_then_read-caused : (points : List (ℕ × ℤ)) → Caused true (life_of (unmet_then_read points)) []
 unmet_then_read-caused points =
     begun_caused 100 _ refl (
-    only (due true [] [] _ _ _ (unmet_by _ (rules_when 100) _ _ 1 _ (stands refl refl refl refl refl (λ name. refl) (λ name. refl also refl also refl also tt)) refl refl (omega arith) refl
+    only (due true [] [] _ _ _ (unmet_by _ (rules_when 100) _ _ 1 _ (stands refl refl refl refl refl (λ name. refl) (λ name. refl also refl also refl also tt) (λ x. refl)) refl refl (omega arith) refl
     (counted_1 also counted_2 also tt) ((below_1_2 also tt) also tt also tt) (tt also tt also tt)
     (λ some. takes_by (rules_when 100) _ 0 space _ _ refl refl (omega arith) (omega arith))))
-    also only (due true [] [] _ _ _ (found_by _ (rules_when 100) _ _ _ (stands refl refl refl refl refl (λ name. refl) (λ name. refl also refl also refl also tt))))
+    also only (due true [] [] _ _ _ (found_by _ (rules_when 100) _ _ _ (stands refl refl refl refl refl (λ name. refl) (λ name. refl also refl also refl also tt) (λ x. refl))))
     also tt)
 
 pub fetch_unmet-caused : Caused true (life_of (at_moment 100 (fetch 0 200) (unmet 1 ((0, reason.Memory) ∷ (2, reason.Memory) ∷ [])))) []
 fetch_unmet-caused =
     at_moment-caused 100 _ _ (
-    due true [] [] _ _ _ (unmet_by _ (rules_when 100) _ _ 1 _ (stands refl refl refl refl refl (λ name. refl) (λ name. refl also refl also refl also tt)) refl refl (omega arith) refl
+    due true [] [] _ _ _ (unmet_by _ (rules_when 100) _ _ 1 _ (stands refl refl refl refl refl (λ name. refl) (λ name. refl also refl also refl also tt) (λ x. refl)) refl refl (omega arith) refl
     (counted_0 also counted_2 also tt) ((below_0_2 also tt) also tt also tt) (tt also tt also tt) (λ some. tt)))
 
 pub first_placement_of_two : IsInitial 1 2 two_nodes place_of_two
@@ -372,6 +374,7 @@ second_took = record {
   counted = λ shard asked. subst (λ k. (node : ℕ) → IsIn (1 ∷ []) node → IsCounted place_of_two k node) (sym asked) (each_in (IsCounted place_of_two 1) (1 ∷ []) (counted_of_two also tt));
   by_name = ascends_by (IsNamedBelow place_of_two) (1 ∷ []) (tt also tt);
   reached = each_in (λ node. reaches (position_after two_made (write 10 (pos 5)) (acks (1 ∷ []))) place_of_two node ≡ true) (1 ∷ []) (refl also tt);
+  begun = λ shard asked. each_in (IsBegunFor None (position_after two_made (write 10 (pos 5)) (acks (1 ∷ []))) place_of_two shard) (1 ∷ []) (record { instance_ = _; stands = refl; holds = refl } also tt);
   enough = omega arith;
   takes = takes_by (rules_when 0) _ 0 space 10 (pos 5) refl refl (omega arith) (omega arith);
 }

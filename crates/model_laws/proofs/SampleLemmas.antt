@@ -12,10 +12,11 @@ use Rattle.transcripts.specs.Placements.{placement_after, placements, seed_after
 use Rattle.transcripts.specs.Points.{sent_at, acked_at}
 use Rattle.m3_model.specs.Reads.{Read, Found, read_of, IsSought}
 use Rattle.transcripts.specs.Kept.{Kept, KeepsPoints}
-use Rattle.transcripts.specs.Waiting.{Replica, waiting_after}
+use Rattle.transcripts.specs.Waiting.{IsBegunFor, Replica, idles_after, waiting_after}
 use Rattle.transcripts.specs.Fates.{numbering_after, call_number, fate_in, fate_at, is_stopped, is_reached, reaches}
 use Rattle.m3_model.specs.Delivery.{is_cut}
 use Rattle.std.specs.Option.{option_map_or}
+use Rattle.std.proofs.lemmas.List.{append-nil}
 use Rattle.std.proofs.lemmas.Option.{same_Some}
 use Rattle.m3_model.specs.declared.act.Act.{Act}
 use Rattle.m3_model.specs.declared.answer.Answer.{Answer}
@@ -48,10 +49,12 @@ pub record StandsAt (lines : List Turn) (rules : Rules) : Type 0 where
   pub no_fates : (numbering_after 0 lines).fates ≡ []
   pub none_stopped : (name : List ℕ) → is_stopped (inner_turns lines) name ≡ false
   pub none_waits : (name : List ℕ) → Each (λ node. (waiting_after (of_shard node name) None lines).waits ≡ false) (0 ∷ 1 ∷ 2 ∷ [])
+  pub none_idle : (x : Replica) → idles_after x None (inner_turns lines) ≡ false
 
 pub stands : {lines : List Turn} {rules : Rules} → placement_after None (inner_turns lines) ≡ Some place → placements None (inner_turns lines) ≡ place ∷ [] → rules_after (start_rules None) (inner_turns lines) ≡ rules → seed_after None (inner_turns lines) ≡ 0
-    → (numbering_after 0 lines).fates ≡ [] → ((name : List ℕ) → is_stopped (inner_turns lines) name ≡ false) → ((name : List ℕ) → Each (λ node. (waiting_after (of_shard node name) None lines).waits ≡ false) (0 ∷ 1 ∷ 2 ∷ [])) → StandsAt lines rules
-stands place_is one_place rules_is seed_is no_fates none_stopped none_waits = record { place_is = place_is; one_place = one_place; rules_is = rules_is; seed_is = seed_is; no_fates = no_fates; none_stopped = none_stopped; none_waits = none_waits }
+    → (numbering_after 0 lines).fates ≡ [] → ((name : List ℕ) → is_stopped (inner_turns lines) name ≡ false) → ((name : List ℕ) → Each (λ node. (waiting_after (of_shard node name) None lines).waits ≡ false) (0 ∷ 1 ∷ 2 ∷ []))
+    → ((x : Replica) → idles_after x None (inner_turns lines) ≡ false) → StandsAt lines rules
+stands place_is one_place rules_is seed_is no_fates none_stopped none_waits none_idle = record { place_is = place_is; one_place = one_place; rules_is = rules_is; seed_is = seed_is; no_fates = no_fates; none_stopped = none_stopped; none_waits = none_waits; none_idle = none_idle }
 
 -- nothing is lost or late then
 pub not_cut : (lines : List Turn) (rules : Rules) (a : Act) (b : Answer) (name : List ℕ) → StandsAt lines rules → is_cut (fate_at (position_after lines a b) name) ≡ false
@@ -62,6 +65,12 @@ pub reached_by : (lines : List Turn) (rules : Rules) (a : Act) (b : Answer) (nod
 reached_by lines rules a b node one stood there =
     ap (λ o. option_map_or (λ (i : Instance). is_reached (position_after lines a b) i.name) o false) there
     ∙ ap₂ (λ (x y : Bool). not x && not y) (not_cut lines rules a b one.name stood) (stood.none_stopped one.name)
+
+-- no bootstrap is wanted of its replica
+pub begun_by : (lines : List Turn) (rules : Rules) (a : Act) (b : Answer) (shard node : ℕ) (one : Instance) → StandsAt lines rules → slice_get place.instances node ≡ Some one → IsBegunFor None (position_after lines a b) place shard node
+begun_by lines rules a b shard node one stood there =
+    let x : Replica = record { shard = shard; node = node; name = one.name } in
+    record { instance_ = one; stands = there; holds = ap (idles_after x None) (append-nil (inner_turns lines)) ∙ stood.none_idle x }
 
 -- a call of `hello` at the present version that needs so many replicas
 abbrev pub call_with : (ℕ → ℕ) → Call

@@ -95,7 +95,7 @@ taken_by now t v taken stood caused =
 
 -- what is due of the nodes that took the write at 100
 taken_at_100 : (taken : List ℕ) → Caused true (life_of (write_answered (acks taken))) [] → TakenBy 100 100 (pos 5) taken
-taken_at_100 taken caused = taken_by 100 100 (pos 5) taken (stands refl refl refl refl refl (λ name. refl) (λ name. refl also refl also refl also tt)) caused
+taken_at_100 taken caused = taken_by 100 100 (pos 5) taken (stands refl refl refl refl refl (λ name. refl) (λ name. refl also refl also refl also tt) (λ x. refl)) caused
 
 pub acks_too_few-refused : ¬ Caused true (life_of (write_answered (acks (0 ∷ [])))) []
 acks_too_few-refused caused = let enough : 2 ≤ 1 = (taken_at_100 (0 ∷ []) caused).enough in omega arith
@@ -140,12 +140,12 @@ takes-window now t v takes =
 
 pub taken_past-refused : ¬ Caused true (life_of (at_moment 250 (write 150 (pos 5)) (acks (0 ∷ 1 ∷ 2 ∷ [])))) []
 taken_past-refused caused =
-    let not_past : 250 < 150 + 100 = (takes-window 250 150 (pos 5) (taken_by 250 150 (pos 5) _ (stands refl refl refl refl refl (λ name. refl) (λ name. refl also refl also refl also tt)) caused).takes).0 in
+    let not_past : 250 < 150 + 100 = (takes-window 250 150 (pos 5) (taken_by 250 150 (pos 5) _ (stands refl refl refl refl refl (λ name. refl) (λ name. refl also refl also refl also tt) (λ x. refl)) caused).takes).0 in
     omega arith
 
 pub taken_future-refused : ¬ Caused true (life_of (at_moment 250 (write 300 (pos 5)) (acks (0 ∷ 1 ∷ 2 ∷ [])))) []
 taken_future-refused caused =
-    let not_future : 300 < 250 + 50 = (takes-window 250 300 (pos 5) (taken_by 250 300 (pos 5) _ (stands refl refl refl refl refl (λ name. refl) (λ name. refl also refl also refl also tt)) caused).takes).1 in
+    let not_future : 300 < 250 + 50 = (takes-window 250 300 (pos 5) (taken_by 250 300 (pos 5) _ (stands refl refl refl refl refl (λ name. refl) (λ name. refl also refl also refl also tt) (λ x. refl)) caused).takes).1 in
     omega arith
 
 -- What is due where fewer nodes than are needed did as a call asked.
@@ -199,7 +199,7 @@ write_unmet now t v got needed reasons stood caused =
 
 -- what is due of the write at 100
 unmet_at_100 : (got needed : ℕ) (reasons : List (ℕ × Reason)) → Caused true (life_of (write_answered (answer.Consistency got needed reasons 0))) [] → UnmetBy 100 (write 100 (pos 5)) 2 got needed reasons
-unmet_at_100 got needed reasons caused = write_unmet 100 100 (pos 5) got needed reasons (stands refl refl refl refl refl (λ name. refl) (λ name. refl also refl also refl also tt)) caused
+unmet_at_100 got needed reasons caused = write_unmet 100 100 (pos 5) got needed reasons (stands refl refl refl refl refl (λ name. refl) (λ name. refl also refl also refl also tt) (λ x. refl)) caused
 
 -- a write that may be refused as past lies at or below the moment less 100
 past-outside : (now t : ℕ) (v : ℤ) → WindowRefuses (rules_when now) (write t v) reason.Past → t + 100 ≤ now
@@ -219,35 +219,35 @@ each_refuses now t v why stood caused = (write_unmet now t v 0 2 (by_each why) s
 
 pub past-refused : (t : ℕ) → 250 < t + 100 → ¬ Caused true (life_of (at_moment 250 (write t (pos 5)) (unmet 0 (by_each reason.Past)))) []
 past-refused t inside caused =
-    let outside : t + 100 ≤ 250 = past-outside 250 t (pos 5) (each_refuses 250 t (pos 5) reason.Past (stands refl refl refl refl refl (λ name. refl) (λ name. refl also refl also refl also tt)) caused) in
+    let outside : t + 100 ≤ 250 = past-outside 250 t (pos 5) (each_refuses 250 t (pos 5) reason.Past (stands refl refl refl refl refl (λ name. refl) (λ name. refl also refl also refl also tt) (λ x. refl)) caused) in
     omega arith
 
 pub future-refused : (t : ℕ) → t < 250 + 50 → ¬ Caused true (life_of (at_moment 250 (write t (pos 5)) (unmet 0 (by_each reason.Future)))) []
 future-refused t inside caused =
-    let outside : 250 + 50 ≤ t = future-outside 250 t (pos 5) (each_refuses 250 t (pos 5) reason.Future (stands refl refl refl refl refl (λ name. refl) (λ name. refl also refl also refl also tt)) caused) in
+    let outside : 250 + 50 ≤ t = future-outside 250 t (pos 5) (each_refuses 250 t (pos 5) reason.Future (stands refl refl refl refl refl (λ name. refl) (λ name. refl also refl also refl also tt) (λ x. refl)) caused) in
     omega arith
 
 pub one_took-refused : ¬ Caused true (life_of (at_moment 250 (write 150 (pos 5)) (unmet 1 ((1, reason.Past) ∷ (2, reason.Past) ∷ [])))) []
 one_took-refused caused =
-    let takes = (write_unmet 250 150 (pos 5) 1 2 _ (stands refl refl refl refl refl (λ name. refl) (λ name. refl also refl also refl also tt)) caused).served (omega arith) in
+    let takes = (write_unmet 250 150 (pos 5) 1 2 _ (stands refl refl refl refl refl (λ name. refl) (λ name. refl also refl also refl also tt) (λ x. refl)) caused).served (omega arith) in
     let not_past : 250 < 150 + 100 = (takes-window 250 150 (pos 5) takes).0 in
     omega arith
 
 pub fetch_past-refused : ¬ Caused true (life_of (at_moment 250 (fetch 0 200) (unmet 0 (by_each reason.Past)))) []
 fetch_past-refused caused =
-    let due = unmet_by 250 (fetch 0 200) (unmet 0 (by_each reason.Past)) (needed_read read_level.Majority) 0 2 (by_each reason.Past) (stands refl refl refl refl refl (λ name. refl) (λ name. refl also refl also refl also tt)) refl (due_at 250 (fetch 0 200) (unmet 0 (by_each reason.Past)) (λ e. cc) (λ e. cc) caused) in
+    let due = unmet_by 250 (fetch 0 200) (unmet 0 (by_each reason.Past)) (needed_read read_level.Majority) 0 2 (by_each reason.Past) (stands refl refl refl refl refl (λ name. refl) (λ name. refl also refl also refl also tt) (λ x. refl)) refl (due_at 250 (fetch 0 200) (unmet 0 (by_each reason.Past)) (λ e. cc) (λ e. cc) caused) in
     let may = due.refused (0, reason.Past) (inl refl) in
     let point : None ≡ Some may.point = may.of_act in
     cc
 
 pub cut-refused : ¬ Caused true (life_of (write_answered (unmet 0 (by_each reason.Cut)))) []
-cut-refused caused = each_refuses 100 100 (pos 5) reason.Cut (stands refl refl refl refl refl (λ name. refl) (λ name. refl also refl also refl also tt)) caused
+cut-refused caused = each_refuses 100 100 (pos 5) reason.Cut (stands refl refl refl refl refl (λ name. refl) (λ name. refl also refl also refl also tt) (λ x. refl)) caused
 
 pub disk-refused : ¬ Caused true (life_of (write_answered (unmet 0 (by_each reason.Disk)))) []
-disk-refused caused = each_refuses 100 100 (pos 5) reason.Disk (stands refl refl refl refl refl (λ name. refl) (λ name. refl also refl also refl also tt)) caused
+disk-refused caused = each_refuses 100 100 (pos 5) reason.Disk (stands refl refl refl refl refl (λ name. refl) (λ name. refl also refl also refl also tt) (λ x. refl)) caused
 
 pub boot-refused : ¬ Caused true (life_of (write_answered (unmet 0 (by_each reason.Boot)))) []
-boot-refused caused = each_refuses 100 100 (pos 5) reason.Boot (stands refl refl refl refl refl (λ name. refl) (λ name. refl also refl also refl also tt)) caused
+boot-refused caused = each_refuses 100 100 (pos 5) reason.Boot (stands refl refl refl refl refl (λ name. refl) (λ name. refl also refl also refl also tt) (λ x. refl)) caused
 
 pub reason_repeated-refused : ¬ Caused true (life_of (write_answered (unmet 0 ((0, reason.Memory) ∷ (0, reason.Memory) ∷ (1, reason.Memory) ∷ [])))) []
 reason_repeated-refused caused =

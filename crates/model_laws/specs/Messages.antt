@@ -1,5 +1,5 @@
 -- Transcripts with fates of messages and stopped nodes: some whose answers have their causes, and some that are broken in one way.
-use Rattle.std.specs.Prelude.{ℕ, List, [], ◌∷◌, Option, None, true, false, pos, codes}
+use Rattle.std.specs.Prelude.{ℕ, List, [], ◌∷◌, ◌++◌, Option, None, true, false, pos, codes}
 use Rattle.transcripts.specs.Record.{TurnPosition}
 use Rattle.m3_model.specs.declared.answer.Answer.{Answer}
 use Rattle.m3_model.specs.declared.reason.Reason.{Reason}
@@ -13,7 +13,7 @@ use Rattle.m3_model.specs.declared.act.ReadLevel.TheVariants as read_level
 use Rattle.m3_model.specs.declared.answer.Answer.TheVariants as answer
 use Rattle.m3_model.specs.declared.reason.Reason.TheVariants as reason
 use Rattle.m3_model.specs.declared.turn.Turn.{Turn}
-use Rattle.model_laws.specs.Building.{begun, at_moment, wrote, read, line, write, fetch, acks, unmet, by_each, series_of, position_after}
+use Rattle.model_laws.specs.Building.{made, named, moved, begun, at_moment, wrote, read, line, write, fetch, acks, unmet, by_each, series_of, position_after}
 
 -- an accepted list of fates
 abbrev pub fated : List (ℕ × ℕ × List ℕ × Fate) → Turn
@@ -91,6 +91,10 @@ down_unstopped = at_moment 100 (write 100 (pos 5)) (unmet 0 (by_each reason.Down
 abbrev pub cut_by_other_fate : List Turn
 cut_by_other_fate = begun 100 (fated ((0, 1, codes "c", Lose) ∷ []) ∷ line (write 100 (pos 5)) (unmet 1 ((1, reason.Memory) ∷ (2, reason.Cut) ∷ [])) ∷ [])
 
+-- a call of client 0 that is cut by a fate of client 3
+abbrev pub cut_by_other_client : List Turn
+cut_by_other_client = begun 100 (fated ((3, 0, codes "c", Lose) ∷ []) ∷ line (write 100 (pos 5)) (unmet 1 ((1, reason.Memory) ∷ (2, reason.Cut) ∷ [])) ∷ [])
+
 -- an unstrict fetch that only one node was reached by, and that isn't short
 abbrev pub not_short_enough : List Turn
 not_short_enough = begun 100 (stopped (codes "b") ∷ stopped (codes "c") ∷ line (unstrict 0 200) (answer.Found [] false) ∷ [])
@@ -162,3 +166,13 @@ after_c_lost a b = position_after c_lost a b
 -- a tick that c was cut off from
 abbrev pub tick_cut : List Turn
 tick_cut = begun 100 (fated ((0, 0, codes "c", Lose) ∷ []) ∷ line act.Tick (unmet 1 ((1, reason.Memory) ∷ (2, reason.Cut) ∷ [])) ∷ [])
+
+-- ---- a write that wasn't sent
+
+-- before the namespace is there
+abbrev pub refused_as_unknown : List Turn
+refused_as_unknown = made ∷ b_then_c_late ∷ line (write 100 (pos 5)) (answer.Unknown (codes "m")) ∷ named ∷ moved 100 ∷ []
+
+-- and its message to b comes
+abbrev pub unknown_came : List Turn
+unknown_came = refused_as_unknown ++ delivered b_came ∷ []

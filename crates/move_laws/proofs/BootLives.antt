@@ -18,13 +18,13 @@ use Rattle.transcripts.specs.Caused.{Caused, CausedAt, EndsInto, EndsMoves, IsBo
 use Rattle.transcripts.specs.Fates.{OfNode}
 use Rattle.transcripts.specs.Faults.{Fault}
 use Rattle.transcripts.specs.Record.{AreSomeOf, InnerTurn, TurnPosition}
-use Rattle.transcripts.specs.Waiting.{is_covering}
+use Rattle.transcripts.specs.Waiting.{is_covering, waiting_after}
 use Rattle.model_laws.specs.Building.{begun, life_of, nodes, place}
 use Rattle.fault_laws.specs.Faulty.{bootstrap_c}
 use Rattle.model_laws.proofs.EachLemmas.{◌also◌, each_in, ascends_by, texts_differ}
 use Rattle.model_laws.proofs.PositionLemmas.{position_after, position_after-stands, after_all, caused_by_positions, due_after, due_from, due_here, only, only_used, used_from}
-use Rattle.move_laws.specs.Moving.{both_moving, both_on_a, both_to_a, first_on_a, held, holding, leaving, reopened_with, b_to_a, on_a, joining, a_took, a_joined, both_print, bootstrap, reopened_moving}
-use Rattle.move_laws.proofs.MovingLemmas.{of_name}
+use Rattle.move_laws.specs.Moving.{MayWaitAfter, both_joined, both_moving, both_on_a, both_to_a, first_on_a, held, holding, leaving, reopened_with, b_to_a, on_a, joining, a_took, a_joined, both_print, bootstrap, reopened_moving}
+use Rattle.move_laws.proofs.MovingLemmas.{of_b, of_name}
 
 -- ---- accepted
 
@@ -245,3 +245,14 @@ nobody-refused faults caused = by_answer (caused.each first_worker (record { aft
     by_answer (inl memory) = cc
     by_answer (inr (inl full)) = let bad = full.0 in cc
     by_answer (inr (inr due)) = by_due (due.1).others due.0 (due.1).some_of (due.1).are due.2
+
+-- ---- waiting
+
+pub left-waits : MayWaitAfter both_joined
+left-waits told = record { instance_ = _; stands = refl; holds = refl }
+
+pub stayed-refused : ¬ MayWaitAfter (both_print b_to_a)
+stayed-refused may =
+    let waits = may refl in
+    let bad : false ≡ true = of_name b_to_a (λ name. (waiting_after (of_b name) (Some (held b_to_a)) (both_print b_to_a ∷ [])).waits ≡ true) 1 _ refl (record { instance_ = waits.instance_; stands = waits.stands; holds = waits.holds }) in
+    cc

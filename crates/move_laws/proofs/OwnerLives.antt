@@ -38,7 +38,7 @@ one_placement-refused tells faults caused =
     let missed : MissesLevel tells faults None p 0 2 (by_each reason.NotOwned) 0 = due_after lines a b [] (λ e. cc) (λ e. cc) caused in
     let known : call ≡ missed.call = same_Some call missed.call missed.of_act in
     let same : place ≡ missed.place = only_used lines a b place missed.place refl (subst (λ c. MayUse None p c.version missed.place) (sym known) missed.may_use) in
-    none_unowned lines (rules_when 100) a b 0 (stands refl refl refl refl refl (λ name. refl) (λ name. refl also refl also refl also tt)) counted_0
+    none_unowned lines (rules_when 100) a b 0 (stands refl refl refl refl refl (λ name. refl) (λ name. refl also refl also refl also tt) (λ x. refl)) counted_0
     (subst (λ x. MayRefuse tells faults None p x 0 0 reason.NotOwned) (sym same) (missed.silent.refused (0, reason.NotOwned) (inl refl)))
 
 -- ---- taken away

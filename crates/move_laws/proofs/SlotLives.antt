@@ -1,22 +1,26 @@
 -- Which slots had a replica of a shard that moves.
-use Rattle.std.proofs.Common.{ℕ, zero, suc, ◌≡◌, ◌≢◌, ◌<◌, true, false, List, [], ◌∷◌, ◌++◌, take, refl, sym, subst, inl, inr, arith}
+use Rattle.std.proofs.Common.{ℕ, zero, suc, ◌≡◌, ◌≢◌, ◌<◌, ◌∙◌, true, false, List, [], ◌∷◌, ◌++◌, take, refl, sym, ap, subst, inl, inr, arith}
 use Rattle.std.specs.Prelude.{Some, None, codes, IsTrue}
+use Rattle.m3_model.specs.Limits.{IsInit, IsNamed}
 use Rattle.m3_model.specs.declared.act.Act.{Act}
 use Rattle.m3_model.specs.declared.act.Act.TheVariants as act
 use Rattle.m3_model.specs.declared.answer.Answer.{Answer}
 use Rattle.m3_model.specs.declared.answer.Answer.TheVariants as answer
 use Rattle.m3_model.specs.declared.reason.Damage.{Damage}
 use Rattle.m3_model.specs.declared.reason.Reason.TheVariants as reason
-use Rattle.transcripts.specs.Caused.{Caused, InFiles, IsCalled, IsDueBy, OnDisk, refusal_after}
+use Rattle.transcripts.specs.Caused.{Caused, InFiles, IsCalled, IsDueBy, IsUnmade, OnDisk, refusal_after}
 use Rattle.transcripts.specs.Fates.{OfNode, is_stopped}
 use Rattle.transcripts.specs.Faults.{Fault}
 use Rattle.transcripts.specs.Placements.{HadReplica, has_replica}
 use Rattle.transcripts.specs.Record.{inner_turns}
-use Rattle.model_laws.specs.Building.{life_of, line, place_of_two, two_made}
+use Rattle.model_laws.specs.Building.{life_of, line, place_of_two, two_made, two_nodes}
 use Rattle.model_laws.specs.Messages.{stopped}
-use Rattle.model_laws.proofs.EachLemmas.{◌also◌, each_in, texts_differ}
+use Rattle.model_laws.proofs.CausedLives.{first_placement_of_two}
+use Rattle.model_laws.proofs.EachLemmas.{◌also◌, ascends_by, each_in, texts_differ}
 use Rattle.model_laws.proofs.PositionLemmas.{position_after, position_after-stands, after_all, caused_by_positions, due_after, due_from, due_here, only, only_used, used_from}
 use Rattle.move_laws.specs.Moving.{b_to_a, on_a, on_b, a_joined, bootstrap, restart, came_back, fails_at, held, moved_to_a, reopened_moving, MayRefuseAfter}
+use Rattle.move_laws.specs.Planned.{init_answered}
+use Rattle.placement_lines.proofs.PlanLemmas.{one_start}
 use Rattle.move_laws.proofs.MovingLemmas.{of_name}
 use Rattle.move_laws.proofs.BootLives.{ends}
 
@@ -45,6 +49,26 @@ bootstrapped-refused faults caused =
     let due : OnDisk faults None (position_after two_made a b) (λ node. IsTrue (has_replica (Some place_of_two) 1 node)) (codes "a") 1 = (due_after two_made a b [] (λ e. cc) (λ e. cc) caused).2 in
     let same : place_of_two ≡ due.1.place = only_used two_made a b place_of_two due.1.place refl due.1.stands in
     not_of_a due.0 (subst (λ q. OfNode q due.0 (λ own. own ≡ codes "a")) (sym same) due.1.named) due.2
+
+-- what `init` asks for keeps to the limits
+two_asked : IsInit 1 2 0 two_nodes
+two_asked = record {
+  some_replicas = omega arith;
+  few_replicas = omega arith;
+  some_shards = omega arith;
+  few_shards = omega arith;
+  seed_fits = omega arith;
+  some_nodes = omega arith;
+  few_nodes = omega arith;
+  named = each_in IsNamed two_nodes ((refl, refl) also (refl, refl) also tt);
+  distinct = ascends_by (λ (a b : List ℕ × List ℕ). a.0 ≢ b.0) two_nodes ((texts_differ (codes "a") (codes "b") refl refl also tt) also tt also tt);
+}
+
+pub made-refused : (faults : List Fault) → ¬ Caused true (init_answered 1 2 (answer.Disk (codes "a") 1)) faults
+made-refused faults caused =
+    let due : IsUnmade faults None (position_after [] (act.Init 1 2 0 two_nodes) (answer.Disk (codes "a") 1)) 1 2 two_nodes (codes "a") 1 = due_after [] (act.Init 1 2 0 two_nodes) (answer.Disk (codes "a") 1) [] (λ e. cc) (λ e. cc) caused in
+    let same : place_of_two ≡ due.0 = one_start 1 2 two_nodes place_of_two due.0 two_asked first_placement_of_two due.1 in
+    not_of_a due.2.node (subst (λ q. OfNode q due.2.node (λ own. own ≡ codes "a")) (sym same) due.2.named) (subst (λ q. IsTrue (has_replica (Some q) 1 due.2.node)) (sym same) due.2.member)
 
 pub ended-caused : Caused true (reopened_moving (a_joined ∷ stopped (codes "b") ∷ restart (codes "b") (answer.Disk (codes "b") 1) ∷ [])) (fails_at 2 1 ∷ [])
 ended-caused =
@@ -122,6 +146,16 @@ before-refused may =
             let had : HadReplica None (inner_turns (take 2 moved_to_a)) 1 0 = subst (λ (f : Fault). f.line < 4 → HadReplica None (inner_turns (take (suc f.line) moved_to_a)) 1 0) (sym e) closed.was_there (omega arith) in
             let bad : false ≡ true = each_in (λ q. IsTrue (has_replica (Some q) 1 0) → false ≡ true) (place_of_two ∷ []) ((λ has. has) also tt) had.place had.known had.member in
             cc
+        | inr none ↦ absurd none
+      ]
+    ]
+
+pub other_shard-refused : ¬ MayRefuseAfter true (record (fails_at 3 1) { shard = 0 } ∷ []) came_back on_b 1 reason.Down
+other_shard-refused may =
+    elim may as (λ _. ⊥) [
+      | inl stops ↦ let bad : false ≡ true = of_name on_b (λ name. is_stopped (inner_turns came_back) name ≡ true) 1 _ refl stops in cc
+      | inr closed ↦ elim closed.among as (λ _. ⊥) [
+        | inl e ↦ let bad : 0 ≡ 1 = ap (λ (f : Fault). f.shard) e ∙ closed.of_shard in omega (arith, bad)
         | inr none ↦ absurd none
       ]
     ]

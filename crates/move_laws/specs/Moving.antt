@@ -1,5 +1,5 @@
 -- Transcripts in which one shard of two moves from b to a, and back. What is said here doesn't look at which nodes are listed or drained, so these flags stay.
-use Rattle.std.specs.Prelude.{ℕ, List, [], ◌∷◌, ◌++◌, Bool, Option, Some, None, pos, codes}
+use Rattle.std.specs.Prelude.{ℕ, List, [], ◌∷◌, ◌++◌, Bool, Option, Some, None, true, pos, codes}
 use Rattle.m3_model.specs.declared.act.Act.TheVariants as act
 use Rattle.m3_model.specs.declared.answer.Answer.{Answer}
 use Rattle.m3_model.specs.declared.answer.Answer.TheVariants as answer
@@ -7,6 +7,7 @@ use Rattle.m3_model.specs.declared.placement.Assignment.{Assignment}
 use Rattle.m3_model.specs.declared.placement.Placement.{Placement}
 use Rattle.m3_model.specs.declared.placement.ShardState.TheVariants.{Initializing, Available, Leaving}
 use Rattle.m3_model.specs.declared.reason.Reason.{Reason}
+use Rattle.m3_model.specs.declared.reason.Reason.TheVariants as reason
 use Rattle.m3_model.specs.declared.rules.MetaState.{MetaState}
 use Rattle.m3_model.specs.declared.turn.Reply.TheVariants as replies
 use Rattle.m3_model.specs.declared.turn.Request.TheVariants as request
@@ -198,6 +199,17 @@ both_print place = record {
   request = request.Par [] ((act.Bootstrap (codes "a") None ∷ []) ∷ (act.Bootstrap (codes "b") None ∷ []) ∷ []);
   reply = replies.Par [] ((answer.Available [] place 3 ∷ []) ∷ (answer.Available [] place 3 ∷ []) ∷ []);
 }
+
+-- two workers bootstrap a, which takes the shard over, and b, which has none of it then
+abbrev pub both_joined : Turn
+both_joined = record {
+  request = request.Par [] ((act.Bootstrap (codes "a") None ∷ []) ∷ (act.Bootstrap (codes "b") None ∷ []) ∷ []);
+  reply = replies.Par [] ((a_took ∷ []) ∷ (answer.Available [] on_a 3 ∷ []) ∷ []);
+}
+
+-- in a run that begins while b is to give its shard to a, b may say after this line that it waits for a bootstrap, to a write at the version before
+abbrev pub MayWaitAfter : Turn → Type 0
+MayWaitAfter next = MayRefuse true [] (Some (held b_to_a)) (call_at (next ∷ []) b_to_a 1 reason.Boot) b_to_a 1 1 reason.Boot
 
 -- a bootstrap of a, as a turn, that prints the placement in which a is to have the shard
 abbrev pub a_prints_move : InnerTurn

@@ -6,7 +6,7 @@ ghost use Rattle.transcripts.specs.Faults.{Fault};
 ghost use Rattle.placement_plan.specs.First.{first_instances};
 ghost use Rattle.model_laws.specs.Building.{life_of, nodes, place, begun};
 ghost use Rattle.fault_laws.specs.Faulty.{bootstrap_c};
-ghost use Rattle.move_laws.specs.Moving.{both_moving, both_on_a, first_on_a, b_to_a, on_a, a_took, a_joined, both_print, bootstrap, reopened_moving};
+ghost use Rattle.move_laws.specs.Moving.{MayWaitAfter, both_joined, both_moving, both_on_a, first_on_a, b_to_a, on_a, a_took, a_joined, both_print, bootstrap, reopened_moving};
 
 /// A bootstrap that ends a move prints its shard, and the next placement; one that ends none prints the placement that stands.
 pub fn bootstrap_prints_moves()
@@ -53,4 +53,10 @@ pub fn shards_out_of_order()
 /// Two bootstraps beside each other print a placement that neither of them made, each as the other's.
 pub fn placement_of_nobody()
     ensures { (faults : List Fault) → ¬ Caused true (reopened_moving (both_print on_a ∷ [])) faults }
+{}
+
+/// A bootstrap ends the waiting of a replica that stays a member throughout its line, and not of one that leaves in it.
+pub fn replica_that_left_waits()
+    ensures left { MayWaitAfter both_joined }
+    ensures stayed { ¬ MayWaitAfter (both_print b_to_a) }
 {}

@@ -7,10 +7,12 @@ ghost use Rattle.transcripts.specs.Caused.{Caused};
 ghost use Rattle.transcripts.specs.Faults.{Fault};
 ghost use Rattle.model_laws.specs.Building.{life_of, two_made};
 ghost use Rattle.model_laws.specs.Messages.{stopped};
+ghost use Rattle.move_laws.specs.Planned.{init_answered};
 ghost use Rattle.move_laws.specs.Moving.{on_a, on_b, a_joined, bootstrap, restart, came_back, fails_at, moved_to_a, reopened_moving, MayRefuseAfter};
 
-/// A restart, or a bootstrap, fails at the disk of a slot that never had a replica: its shard is another node's.
+/// An `init`, a restart or a bootstrap fails at the disk of a slot that never had a replica: its shard is another node's.
 pub fn disk_of_no_replica()
+    ensures init { (faults : List Fault) → ¬ Caused true (init_answered 1 2 (answer.Disk (codes "a") 1)) faults }
     ensures restart { (faults : List Fault) → ¬ Caused true (life_of (two_made ++ stopped (codes "a") ∷ restart (codes "a") (answer.Disk (codes "a") 1) ∷ [])) faults }
     ensures bootstrap { (faults : List Fault) → ¬ Caused true (life_of (two_made ++ bootstrap (codes "a") None (answer.Disk (codes "a") 1) ∷ [])) faults }
 {}
@@ -24,9 +26,11 @@ pub fn disk_of_moved_shard()
 {}
 
 /// A fault closes the replica of a slot that had one by the end of its line, also where the shard moved away in that line
-/// and came back since; a fault from before the slot had one closes none.
+/// and came back since; a fault from before the slot had one closes none, and neither does one of
+/// the node's other shard.
 pub fn down_by_fault_before_move()
     ensures came_back { MayRefuseAfter true (fails_at 3 1 ∷ []) came_back on_b 1 reason.Down }
     ensures given { MayRefuseAfter true (fails_at 2 0 ∷ []) moved_to_a on_a 0 reason.Down }
     ensures before { ¬ MayRefuseAfter true (fails_at 1 0 ∷ []) moved_to_a on_a 0 reason.Down }
+    ensures other_shard { ¬ MayRefuseAfter true (record (fails_at 3 1) { shard = 0 } ∷ []) came_back on_b 1 reason.Down }
 {}

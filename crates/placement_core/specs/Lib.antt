@@ -1,4 +1,5 @@
 pub mod Shards
+pub mod Majorities
 pub mod Lawful
 pub mod LawfulParts
 pub mod NodeNames

@@ -6,6 +6,7 @@ use Rattle.m3_model.specs.declared.act.Act.TheVariants as act
 use Rattle.m3_model.specs.declared.answer.Answer.{Answer}
 use Rattle.m3_model.specs.declared.answer.Answer.TheVariants as answer
 use Rattle.m3_model.specs.declared.rules.MetaState.{MetaState}
+use Rattle.m3_model.specs.declared.turn.Request.TheVariants as request
 use Rattle.m3_outside.specs.Causes.{CountsFaults}
 use Rattle.m3_outside.specs.Depots.{Depot}
 use Rattle.m3_outside.specs.DiskState.{DiskState, Elapses}
@@ -28,8 +29,8 @@ use Rattle.line_tracks.specs.tracks.Acts.{IsInitAnswer}
 use Rattle.line_tracks.specs.tracks.Lines.{EachMember}
 use Rattle.served_cluster.specs.Acts.{Serves}
 use Rattle.served_cluster.specs.Plans.{state_of}
-use Rattle.saved_cluster.specs.Saved.{AnswersSaved, IsSaved, MayServeSaved}
-use Rattle.saved_cluster.specs.States.{LeadsToState, kept_of, unplanned}
+use Rattle.saved_cluster.specs.Saved.{AnswersSaved, IsSaved, Leads, MayServeSaved}
+use Rattle.saved_cluster.specs.States.{unplanned}
 use Rattle.saved_cluster.specs.declared.lost.Lost.{Lost}
 use Rattle.saved_cluster.specs.declared.lost.Lost.TheVariants as lost
 use Rattle.saved_cluster.specs.declared.saved.SavedCluster.{SavedCluster}
@@ -53,7 +54,7 @@ unplanned_init G state rf shards seed nodes depot _ h = (refl, refl, returned_no
 
 module _ {D : Type 0} {G : Ghosts D} (state : D → DiskState) (rf shards seed : ℕ) (nodes : List (List ℕ × List ℕ)) where
   module _ (before after : Depot D) (old mid new : SavedCluster D G) (next : MetaState) (none : old.cluster.members ≡ None) (may : MayServeSaved state old before.held)
-      (leads : LeadsToState (state_of old.cluster) (kept_of old.cluster) (act.Init rf shards seed nodes) next) (lawful : IsMetaState next)
+      (leads : Leads old.cluster (request.One (act.Init rf shards seed nodes)) next) (lawful : IsMetaState next)
       (readied : (state old.meta).tells ≡ true → Elapses KeepsLast (state old.meta) (state mid.meta)) (mid_tells : (state mid.meta).tells ≡ (state old.meta).tells) (mid_counts : CountsFaults ⊥ (state old.meta).faults (state mid.meta).faults)
       (goes : (state mid.meta).tells ≡ true → Elapses (MaySave next) (state mid.meta) (state new.meta)) (new_tells : (state new.meta).tells ≡ (state mid.meta).tells) (log : MetaStands new.log (state new.meta)) (mid_saved : IsSaved (state_of old.cluster) (state mid.meta)) where
     serves_of : (said : Answer) → new.cluster.calls ≡ old.cluster.calls → IsInitAnswer state before None rf shards seed nodes said after new.cluster.members → Serves state before old.cluster (act.Init rf shards seed nodes) said after new.cluster

@@ -10,6 +10,7 @@ use Rattle.m3_model.specs.declared.act.Act.TheVariants as act
 use Rattle.m3_model.specs.declared.answer.Answer.{Answer}
 use Rattle.m3_model.specs.declared.answer.Answer.TheVariants as answer
 use Rattle.m3_model.specs.declared.rules.MetaState.{MetaState}
+use Rattle.m3_model.specs.declared.turn.Request.TheVariants as request
 use Rattle.m3_outside.specs.Causes.{CountsFaults}
 use Rattle.m3_outside.specs.Depots.{Depot}
 use Rattle.m3_outside.specs.DiskState.{DiskState, Elapses}
@@ -35,7 +36,7 @@ use Rattle.served_cluster.specs.Owned.{MayServeCluster, StillServes}
 use Rattle.served_cluster.specs.Plans.{state_of}
 use Rattle.served_cluster.specs.declared.cluster.Cluster.{Cluster}
 use Rattle.served_cluster.proofs.OwnLemmas.{serves_so}
-use Rattle.saved_cluster.specs.Saved.{AnswersSaved, IsSaved, MayServeSaved}
+use Rattle.saved_cluster.specs.Saved.{AnswersSaved, IsSaved, Leads, MayServeSaved}
 use Rattle.saved_cluster.specs.States.{IsMovedState, LeadsToState, kept_of, unready}
 use Rattle.saved_cluster.specs.declared.lost.Lost.{Lost}
 use Rattle.saved_cluster.specs.declared.lost.Lost.TheVariants as lost
@@ -167,8 +168,8 @@ module _ {D : Type 0} {G : Ghosts D} (state : D → DiskState) (depot : Depot D)
       from_joined : Some next ≡ option_map (by_marking marking) (state_of opened)
       from_joined = sym next_is ∙ leads ∙ ap (λ (c : Cluster D G). option_map (by_marking marking) (state_of c)) stays
 
-      line_leads : LeadsToState (state_of old.cluster) (kept_of old.cluster) boot next
-      line_leads = joined_leads state old.cluster opened name asked marking joined next from_joined
+      line_leads : Leads old.cluster (request.One boot) next
+      line_leads = record { to = joined_leads state old.cluster opened name asked marking joined next from_joined; runs = (joined.was, joined.stood, (joined.step.0).may.runs) }
 
       answers : Answers state old.cluster boot b final.cluster
       answers = ended.answers old.cluster opened name asked marking joined (subst (λ (c : Cluster D G). HasMarked state c marking marked saved) stays (subst (λ (c : Cluster D G). HasMarked state mid.cluster marking marked c) (sym saved_is) marks))

@@ -1,4 +1,5 @@
 mod AloneLemmas
+pub mod BesideLemmas
 pub mod CloseLemmas
 mod DiskLemmas
 mod FirstLemmas

@@ -1,11 +1,12 @@
 -- The state to which a plan leads may be saved, and is the one to which the line leads.
-use Rattle.std.proofs.Common.{◌≡◌, ap, refl, subst, sym, true}
+use Rattle.std.proofs.Common.{◌≡◌, ap, refl, subst, sym, true, false}
 use Rattle.std.specs.Prelude.{Some}
 use Rattle.m3_model.specs.Limits.{MeetsLimits}
 use Rattle.m3_model.specs.declared.act.Act.{Act}
 use Rattle.m3_model.specs.declared.act.Act.TheVariants as act
 use Rattle.m3_model.specs.declared.rules.MetaState.{MetaState}
 use Rattle.m3_model.specs.declared.rules.Rules.{Rules}
+use Rattle.m3_model.specs.declared.turn.Request.TheVariants as request
 use Rattle.m3_outside.specs.declared.disk.Disk.{Ghosts}
 use Rattle.placement_acts.specs.Acts.{is_step_act}
 use Rattle.line_tracks.specs.cluster_members.declared.members.Members.{Members}
@@ -13,9 +14,11 @@ use Rattle.line_tracks.specs.cluster_placements.Steps.{IsChange, kept_in}
 use Rattle.line_tracks.specs.cluster_placements.declared.plan.Change.{Change}
 use Rattle.meta_bytes.specs.States.{IsMetaState}
 use Rattle.served_cluster.specs.Plans.{IsPlannedOn, by_plan}
+use Rattle.served_cluster.specs.declared.cluster.Cluster.{Cluster}
 use Rattle.served_cluster.specs.declared.plan.Plan.{Plan}
 use Rattle.served_cluster.specs.declared.plan.Plan.TheVariants as plan
 use Rattle.served_cluster.proofs.PlanLemmas.{next_of}
+use Rattle.saved_cluster.specs.Saved.{RunsOn}
 use Rattle.saved_cluster.specs.States.{IsNextState, LeadsToState}
 use Rattle.saved_cluster.proofs.StateLemmas.{moment_lawful, place_lawful, space_lawful}
 
@@ -38,7 +41,15 @@ step_leads m _ change step h = record { leads = h.leads.leads; rules = refl; see
 
 -- and the one to which the line leads
 pub planned_leads : {D : Type 0} {G : Ghosts D} (m : Members D G) (a : Act) (made : Plan) → IsPlannedOn m a made → LeadsToState (Some m.net.state) (kept_in m) a (by_plan made m.net.state)
-planned_leads m (act.Namespace name block past future retention) (plan.Rules rules) h = let state : MetaState = m.net.state in ap (λ (r : Rules). record state { rules = r }) h.rules_are
-planned_leads m (act.Now now) (plan.Rules rules) h = let state : MetaState = m.net.state in ap (λ (r : Rules). record state { rules = r }) h.rules_are
+planned_leads m (act.Namespace name block past future retention) (plan.Rules rules) h = let state : MetaState = m.net.state in (h.may_name, ap (λ (r : Rules). record state { rules = r }) h.rules_are)
+planned_leads m (act.Now now) (plan.Rules rules) h = let state : MetaState = m.net.state in (h.not_lower, ap (λ (r : Rules). record state { rules = r }) h.rules_are)
 planned_leads m a (plan.Next change) h = let of = next_of m a change h in step_leads m a change of.0 of.1
 planned_leads m _ (plan.Rules rules) h = absurd h
+
+-- no bootstrap is planned so
+pub planned_runs : {D : Type 0} {G : Ghosts D} (c : Cluster D G) (m : Members D G) (a : Act) (made : Plan) → IsPlannedOn m a made → RunsOn c (request.One a)
+planned_runs c m (act.Bootstrap node shard) (plan.Next change) h =
+    let step : is_step_act (act.Bootstrap node shard) ≡ true = (next_of m (act.Bootstrap node shard) change h).0 in
+    cc
+planned_runs c m (act.Bootstrap node shard) (plan.Rules rules) h = absurd h
+planned_runs c m _ made h = tt

@@ -4,6 +4,7 @@ use Rattle.std.specs.Prelude.{Option, Some, None, Result, Ok, Err, IsErrOf}
 use Rattle.m3_model.specs.declared.act.Act.{Act}
 use Rattle.m3_model.specs.declared.answer.Answer.{Answer}
 use Rattle.m3_model.specs.declared.rules.MetaState.{MetaState}
+use Rattle.m3_model.specs.declared.turn.Request.TheVariants as request
 use Rattle.m3_outside.specs.Causes.{CountsFaults}
 use Rattle.m3_outside.specs.Depots.{Depot}
 use Rattle.m3_outside.specs.DiskState.{DiskState, Elapses}
@@ -17,8 +18,7 @@ use Rattle.served_cluster.specs.Acts.{Serves}
 use Rattle.served_cluster.specs.Owned.{MayServeCluster}
 use Rattle.served_cluster.specs.Plans.{state_of}
 use Rattle.served_cluster.specs.declared.cluster.Cluster.{Cluster}
-use Rattle.saved_cluster.specs.Saved.{AnswersSaved, IsSaved, MayClose, MayServeSaved}
-use Rattle.saved_cluster.specs.States.{LeadsToState, kept_of}
+use Rattle.saved_cluster.specs.Saved.{AnswersSaved, IsSaved, Leads, MayClose, MayServeSaved}
 use Rattle.saved_cluster.specs.declared.lost.Lost.{Lost}
 use Rattle.saved_cluster.specs.declared.lost.Lost.TheVariants as lost
 use Rattle.saved_cluster.specs.declared.saved.SavedCluster.{SavedCluster}
@@ -81,7 +81,7 @@ module _ {D : Type 0} {G : Ghosts D} (state : D → DiskState) where
   }
 
   -- it was saved, or the save failed, behind what readied it
-  module _ (before after : Depot D) (old mid new : SavedCluster D G) (a : Act) (next : MetaState) (leads : LeadsToState (state_of old.cluster) (kept_of old.cluster) a next)
+  module _ (before after : Depot D) (old mid new : SavedCluster D G) (a : Act) (next : MetaState) (leads : Leads old.cluster (request.One a) next)
       (readied : (state old.meta).tells ≡ true → Elapses KeepsLast (state old.meta) (state mid.meta)) (mid_tells : (state mid.meta).tells ≡ (state old.meta).tells) (mid_counts : CountsFaults ⊥ (state old.meta).faults (state mid.meta).faults)
       (goes : (state mid.meta).tells ≡ true → Elapses (MaySave next) (state mid.meta) (state new.meta)) (new_tells : (state new.meta).tells ≡ (state mid.meta).tells) where
     pub answered_saved : (b : Answer) → MayServeSaved state new after.held → Serves state before old.cluster a b after new.cluster → CountsFaults ⊥ (state mid.meta).faults (state new.meta).faults → AnswersSaved state before old a (Ok b) after new

@@ -43,11 +43,11 @@ use Rattle.served_cluster.specs.declared.plan.Plan.TheVariants as plan
 use Rattle.served_cluster.proofs.KeptLemmas.{first_ready, first_serves}
 use Rattle.served_cluster.proofs.OwnLemmas.{none_returned, refused_returned}
 use Rattle.served_cluster.proofs.PlanLemmas.{planned_changes, refused_serves}
-use Rattle.saved_cluster.specs.Saved.{IsReadyFor}
+use Rattle.saved_cluster.specs.Saved.{IsReadyFor, Leads}
 use Rattle.saved_cluster.specs.States.{LeadsToState, is_init_request, kept_of}
 use Rattle.saved_cluster.specs.declared.lost.Lost.{Lost}
 use Rattle.saved_cluster.specs.declared.lost.Lost.TheVariants as lost
-use Rattle.saved_cluster.proofs.PlanLemmas.{planned_lawful, planned_leads}
+use Rattle.saved_cluster.proofs.PlanLemmas.{planned_lawful, planned_leads, planned_runs}
 
 -- ---- stops
 
@@ -91,11 +91,14 @@ module _ {D : Type 0} {G : Ghosts D} (c : Cluster D G) (a : Act) (made : Plan) (
   plan_lawful limits was = subst IsMetaState (sym next_is) (planned_lawful planned.0 a made limits planned.2 (subst MayBeState (state_is c planned.0 planned.1) was))
 
   -- and the line leads to it
-  pub plan_leads : LeadsToState (state_of c) (kept_of c) a next
-  plan_leads =
+  plan_leads_to : LeadsToState (state_of c) (kept_of c) a next
+  plan_leads_to =
       subst (λ (n : MetaState). LeadsToState (state_of c) (kept_of c) a n) (sym next_is)
       (subst (λ (o : Option MetaState). LeadsToState o (kept_of c) a (by_plan made planned.0.net.state)) (sym (state_is c planned.0 planned.1))
       (subst (λ (k : ℕ). LeadsToState (Some planned.0.net.state) k a (by_plan made planned.0.net.state)) (sym (kept_is c planned.0 planned.1)) (planned_leads planned.0 a made planned.2)))
+
+  pub plan_leads : Leads c (request.One a) next
+  plan_leads = record { to = plan_leads_to; runs = planned_runs c planned.0 a made planned.2 }
 
 -- what was made is what was planned
 pub state_made : (b : Bool) (made : Plan) (o : Option MetaState) → b ≡ true → option_map (state_after b made) o ≡ option_map (by_plan made) o

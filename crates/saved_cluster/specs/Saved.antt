@@ -1,6 +1,7 @@
 -- What a cluster whose state is kept needs to serve a request, and what is so of the meta disk within and after each.
-use Rattle.std.specs.Prelude.{◌≡◌, ◌⊎◌, ℕ, List, ◌∷◌, [], ◌++◌, Option, Some, None, Bool, true, Result, IfOk, OnOk, IsErrOf}
+use Rattle.std.specs.Prelude.{◌≡◌, ◌⊎◌, ℕ, List, ◌∷◌, [], ◌++◌, Option, Some, None, Bool, true, false, Result, IfOk, OnOk, IsErrOf, ⊤}
 use Rattle.m3_model.specs.declared.act.Act.{Act}
+use Rattle.m3_model.specs.declared.act.Act.TheVariants as act
 use Rattle.m3_model.specs.declared.answer.Answer.{Answer}
 use Rattle.m3_model.specs.declared.rules.MetaState.{MetaState}
 use Rattle.m3_model.specs.declared.turn.Reply.{Reply}
@@ -15,7 +16,9 @@ use Rattle.m3_outside.specs.declared.disk.Disk.{Ghosts}
 use Rattle.m3_outside.specs.declared.slot.DiskSlot.{DiskSlot}
 use Rattle.placement_log.specs.MetaHolds.{IsReadyToSave, KeepsLast, MaySave, MetaEnd, MetaHolds, MetaStands}
 use Rattle.placement_log.specs.States.{MayBeState}
+use Rattle.line_tracks.specs.cluster_members.declared.members.Members.{Members}
 use Rattle.line_tracks.specs.first_cluster.Depots.{meta_slot}
+use Rattle.line_tracks.specs.node_calls.Nodes.{IsNode}
 use Rattle.served_cluster.specs.Acts.{Serves, ServesRequest}
 use Rattle.served_cluster.specs.Owned.{MayServeCluster, TracksTurns}
 use Rattle.served_cluster.specs.Plans.{state_of}
@@ -42,9 +45,19 @@ pub record MayServeSaved {D : Type 0} {G : Ghosts D} (disk_state : D → DiskSta
   pub state : MayBeState (state_of c.cluster)
   pub saved : IsSaved (state_of c.cluster) (disk_state c.meta)
 
+-- the node of a bootstrap is one of the cluster's that runs
+abbrev pub RunsOn : {D : Type 0} {G : Ghosts D} → Cluster D G → Request → Type 0
+RunsOn {D} {G} c (request.One (act.Bootstrap name asked)) = (m : Members D G) × (c.members ≡ Some m) × IsNode m name false
+RunsOn c _ = ⊤
+
+-- the request leads from the cluster's state to this one
+pub record Leads {D : Type 0} {G : Ghosts D} (c : Cluster D G) (asked : Request) (next : MetaState) : Type 0 where
+  pub to : RequestLeadsTo (state_of c) (kept_of c) asked next
+  pub runs : RunsOn c asked
+
 -- Within a request a stop left the last state from before it; or that or the one to which the request leads.
-abbrev pub ElapsesBy : Option MetaState → ℕ → Request → DiskState → DiskState → Type 0
-ElapsesBy state kept asked old new = Elapses KeepsLast old new ⊎ ((next : MetaState) × RequestLeadsTo state kept asked next × Elapses (MaySave next) old new)
+abbrev pub ElapsesBy : {D : Type 0} {G : Ghosts D} → Cluster D G → Request → DiskState → DiskState → Type 0
+ElapsesBy c asked old new = Elapses KeepsLast old new ⊎ ((next : MetaState) × Leads c asked next × Elapses (MaySave next) old new)
 
 -- all is there that a save of this state takes, if there is one
 abbrev pub IsReadyFor : Option MetaState → MetaEnd → DiskState → Type 0
@@ -61,7 +74,7 @@ pub record AnswersSaved {D : Type 0} {G : Ghosts D} (disk_state : D → DiskStat
   pub may : OnOk answered (MayServeSaved disk_state new after.held)
   pub close : MayClose new after.held
   pub served : ServesSome disk_state before old.cluster a answered after new.cluster
-  pub any_moment : (disk_state old.meta).tells ≡ true → ElapsesBy (state_of old.cluster) (kept_of old.cluster) (request.One a) (disk_state old.meta) (disk_state new.meta)
+  pub any_moment : (disk_state old.meta).tells ≡ true → ElapsesBy old.cluster (request.One a) (disk_state old.meta) (disk_state new.meta)
   pub tells : (disk_state new.meta).tells ≡ (disk_state old.meta).tells
   pub faults : CountsFaults (IsErrOf answered lost.Meta) (disk_state old.meta).faults (disk_state new.meta).faults
 

@@ -1,5 +1,5 @@
 -- The state that a cluster keeps, and the one to which a line leads.
-use Rattle.std.specs.Prelude.{◌≡◌, ◌≢◌, ◌<◌, ℕ, suc, [], length, map, Option, Some, None, Bool, true, false, IsTrue, List, Result, Ok, Err}
+use Rattle.std.specs.Prelude.{◌≡◌, ◌≢◌, ◌≤◌, ◌<◌, ℕ, suc, [], length, map, Option, Some, None, Bool, true, false, IsTrue, List, Result, Ok, Err, ⊤}
 use Rattle.m3_model.specs.Members.{IsIn}
 use Rattle.m3_model.specs.declared.act.Act.{Act}
 use Rattle.m3_model.specs.declared.act.Act.TheVariants as act
@@ -20,7 +20,7 @@ use Rattle.placement_plan.specs.declared.plan_err.PlaceErr.{PlaceErr}
 use Rattle.placement_plan.specs.declared.plan_err.PlaceErr.TheVariants as refused
 use Rattle.line_tracks.specs.transcripts.Waiting.{is_covering}
 use Rattle.line_tracks.specs.cluster_members.Names.{node_named}
-use Rattle.line_tracks.specs.cluster_members.Steps.{at_moment, with_space}
+use Rattle.line_tracks.specs.cluster_members.Steps.{MayName, at_moment, with_space}
 use Rattle.line_tracks.specs.cluster_members.declared.members.Members.{Members}
 use Rattle.served_cluster.specs.Plans.{changes_state}
 use Rattle.served_cluster.specs.declared.cluster.Cluster.{Cluster}
@@ -69,12 +69,14 @@ pub record IsMovedState (state : MetaState) (kept : ℕ) (name : List ℕ) (aske
   pub rules : next.rules ≡ state.rules
   pub seed_is : next.seed ≡ state.seed
 
--- The state that stands once the act is answered ok: that of a first cluster, with one more namespace, at another moment, or with the next placement; where a bootstrap
--- ends moves, with the one in which they are over.
+-- The state that stands once the act is answered ok: that of a first cluster, with one more namespace, of which the name is new and for which there is room, at another
+-- moment, which isn't below the one before, or with the next placement; where a bootstrap ends moves, with the one in which they are over.
 abbrev pub LeadsToState : Option MetaState → ℕ → Act → MetaState → Type 0
 LeadsToState None kept (act.Init rf shards seed nodes) next = IsFirstState rf shards seed nodes next
-LeadsToState (Some state) kept (act.Namespace name block past future retention) next = next ≡ record state { rules = with_space (record { name = name; block = block; past = past; future = future; retention = retention }) state.rules }
-LeadsToState (Some state) kept (act.Now now) next = next ≡ record state { rules = at_moment now state.rules }
+LeadsToState (Some state) kept (act.Namespace name block past future retention) next =
+    MayName state.rules.spaces (record { name = name; block = block; past = past; future = future; retention = retention })
+    × (next ≡ record state { rules = with_space (record { name = name; block = block; past = past; future = future; retention = retention }) state.rules })
+LeadsToState (Some state) kept (act.Now now) next = (state.rules.now ≤ now) × (next ≡ record state { rules = at_moment now state.rules })
 LeadsToState (Some state) kept (act.Bootstrap node shard) next = IsMovedState state kept node shard next
 LeadsToState (Some state) kept a next = IsNextState state kept a next
 LeadsToState None kept _ next = ⊥
@@ -83,6 +85,11 @@ LeadsToState None kept _ next = ⊥
 abbrev pub RequestLeadsTo : Option MetaState → ℕ → Request → MetaState → Type 0
 RequestLeadsTo state kept (request.One a) next = LeadsToState state kept a next
 RequestLeadsTo state kept (request.Par clients workers) next = ⊥
+
+-- the node of a bootstrap isn't one of those that are stopped
+abbrev pub IsOnRunning : (List ℕ → Bool) → Request → Type 0
+IsOnRunning stopped (request.One (act.Bootstrap node shard)) = stopped node ≡ false
+IsOnRunning stopped _ = ⊤
 
 -- the answer where a first placement can't be planned
 abbrev pub unplanned : PlaceErr → Answer

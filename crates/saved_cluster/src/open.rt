@@ -7,7 +7,7 @@ ghost use Rattle.m3_outside.specs.Slots.{Out};
 ghost use Rattle.m3_outside.specs.declared.slot.DiskSlot.{DiskSlot as AtSlot};
 ghost use Rattle.line_tracks.specs.acts.Stands.{ClusterStands};
 ghost use Rattle.line_tracks.specs.tracks.Lines.{EachMember};
-ghost use Rattle.line_tracks.specs.first_cluster.Depots.{IsForReplicas, depot_by};
+ghost use Rattle.line_tracks.specs.first_cluster.Depots.{IsForReplicas};
 ghost use Rattle.served_cluster.specs.Acts.{first_numbers};
 ghost use Rattle.served_cluster.specs.Owned.{MayServeCluster};
 ghost use Rattle.line_tracks.specs.first_cluster.Lending.{AreAsTheyWere};
@@ -31,15 +31,15 @@ fn opened<D: Disk, X: Disks<D = D>>(
     last: Option<MetaState>,
 ) -> Result<Cluster<D>, OpenErr>
     requires state { MayBeState last }
-    requires free { (disk_slot : AtSlot) → IsForReplicas disk_slot → X.held disks.old disk_slot ≢ Out }
-    ensures opened { IfOk result (λ c. OpensWith D.state last (depot_by X.held X.counted X.all_faults disks.old) (depot_by X.held X.counted X.all_faults disks.new) c.members) }
+    requires free { (disk_slot : AtSlot) → IsForReplicas disk_slot → (X.depot disks.old).held disk_slot ≢ Out }
+    ensures opened { IfOk result (λ c. OpensWith D.state last (X.depot disks.old) (X.depot disks.new) c.members) }
     ensures state { IfOk result (λ c. state_of c ≡ last) }
     ensures calls { IfOk result (λ c. c.calls ≡ first_numbers) }
-    ensures may { IfOk result (λ c. MayServeCluster c (X.held disks.new)) }
+    ensures may { IfOk result (λ c. MayServeCluster c (X.depot disks.new).held) }
     ensures stands { IfOk result (λ c. EachMember c.members (ClusterStands last [])) }
-    ensures tracks { IfOk result (BeginsTracked D.state (depot_by X.held X.counted X.all_faults disks.new)) }
-    ensures returned { OnErr result (AreAsTheyWere D.state (depot_by X.held X.counted X.all_faults disks.old) (depot_by X.held X.counted X.all_faults disks.new)) }
-    ensures cause { IfErr result (MayNotGoOn (depot_by X.held X.counted X.all_faults disks.old) (depot_by X.held X.counted X.all_faults disks.new)) }
+    ensures tracks { IfOk result (BeginsTracked D.state (X.depot disks.new)) }
+    ensures returned { OnErr result (AreAsTheyWere D.state (X.depot disks.old) (X.depot disks.new)) }
+    ensures cause { IfErr result (MayNotGoOn (X.depot disks.old) (X.depot disks.new)) }
 {
     let Some(state) = last else {
         return Ok(Cluster::new());
@@ -57,19 +57,19 @@ fn opened_over<D: Disk, X: Disks<D = D>>(
     disks: &mut X,
     meta: &mut D,
 ) -> Result<(Cluster<D>, MetaLog), OpenErr>
-    requires free { (disk_slot : AtSlot) → IsForReplicas disk_slot → X.held disks.old disk_slot ≢ Out }
-    ensures opened { IfOk result (λ made. OpensWith D.state (state_of made.0) (depot_by X.held X.counted X.all_faults disks.old) (depot_by X.held X.counted X.all_faults disks.new) made.0.members) }
+    requires free { (disk_slot : AtSlot) → IsForReplicas disk_slot → (X.depot disks.old).held disk_slot ≢ Out }
+    ensures opened { IfOk result (λ made. OpensWith D.state (state_of made.0) (X.depot disks.old) (X.depot disks.new) made.0.members) }
     ensures last { IfOk result (λ made. Told (D.state meta.old) (MetaHolds (state_of made.0))) }
     ensures saved { IfOk result (λ made. IsSaved (state_of made.0) (D.state meta.new)) }
     ensures state { IfOk result (λ made. MayBeState (state_of made.0)) }
     ensures calls { IfOk result (λ made. made.0.calls ≡ first_numbers) }
     ensures log { IfOk result (λ made. MetaStands made.1 (D.state meta.new)) }
-    ensures may { IfOk result (λ made. MayServeCluster made.0 (X.held disks.new)) }
+    ensures may { IfOk result (λ made. MayServeCluster made.0 (X.depot disks.new).held) }
     ensures stands { IfOk result (λ made. EachMember made.0.members (ClusterStands (state_of made.0) [])) }
-    ensures tracks { IfOk result (λ made. BeginsTracked D.state (depot_by X.held X.counted X.all_faults disks.new) made.0) }
+    ensures tracks { IfOk result (λ made. BeginsTracked D.state (X.depot disks.new) made.0) }
     ensures read { IsRead D.state meta.old meta.new }
-    ensures returned { OnErr result (AreAsTheyWere D.state (depot_by X.held X.counted X.all_faults disks.old) (depot_by X.held X.counted X.all_faults disks.new)) }
-    ensures cause { IfErr result (MayNotOpenOver D.state (depot_by X.held X.counted X.all_faults disks.old) (depot_by X.held X.counted X.all_faults disks.new) meta.old meta.new) }
+    ensures returned { OnErr result (AreAsTheyWere D.state (X.depot disks.old) (X.depot disks.new)) }
+    ensures cause { IfErr result (MayNotOpenOver D.state (X.depot disks.old) (X.depot disks.new) meta.old meta.new) }
 {
     let (log, last) = match MetaLog::open(alloc, meta) {
         Ok(found) => found,
@@ -90,19 +90,19 @@ impl<D: Disk> SavedCluster<D> {
     /// A fault, by which the count of all faults rose, or that of the meta disk. Damage of the log of the meta disk. Want of memory. Each disk that was
     /// taken is given back: those of nodes as they were, and the meta disk with the files that it had.
     pub fn open<X: Disks<D = D>>(alloc: Global, disks: &mut X) -> Result<SavedCluster<D>, OpenErr>
-        requires none_out { (disk_slot : AtSlot) → X.held disks.old disk_slot ≢ Out }
-        ensures opened { IfOk result (IsOpened D.state (depot_by X.held X.counted X.all_faults disks.old) (depot_by X.held X.counted X.all_faults disks.new)) }
-        ensures may { IfOk result (λ c. MayServeSaved D.state c (X.held disks.new)) }
+        requires none_out { (disk_slot : AtSlot) → (X.depot disks.old).held disk_slot ≢ Out }
+        ensures opened { IfOk result (IsOpened D.state (X.depot disks.old) (X.depot disks.new)) }
+        ensures may { IfOk result (λ c. MayServeSaved D.state c (X.depot disks.new).held) }
 
         // It stands by the state that was found, before the first turn.
         ensures stands { IfOk result (λ c. EachMember c.cluster.members (ClusterStands (state_of c.cluster) [])) }
 
         // Where nothing was saved, the turns of the run are tracked from here on.
-        ensures tracks { IfOk result (λ c. BeginsTracked D.state (depot_by X.held X.counted X.all_faults disks.new) c.cluster) }
+        ensures tracks { IfOk result (λ c. BeginsTracked D.state (X.depot disks.new) c.cluster) }
 
-        ensures none_out { OnErr result ((disk_slot : AtSlot) → X.held disks.new disk_slot ≢ Out) }
-        ensures returned { OnErr result (IsGivenBack D.state (depot_by X.held X.counted X.all_faults disks.old) (depot_by X.held X.counted X.all_faults disks.new)) }
-        ensures cause { IfErr result (MayNotOpen D.state (depot_by X.held X.counted X.all_faults disks.old) (depot_by X.held X.counted X.all_faults disks.new)) }
+        ensures none_out { OnErr result ((disk_slot : AtSlot) → (X.depot disks.new).held disk_slot ≢ Out) }
+        ensures returned { OnErr result (IsGivenBack D.state (X.depot disks.old) (X.depot disks.new)) }
+        ensures cause { IfErr result (MayNotOpen D.state (X.depot disks.old) (X.depot disks.new)) }
     {
         let mut meta = match disks.take(DiskSlot::META) {
             Ok(meta) => meta,

@@ -23,7 +23,7 @@ ghost use Rattle.line_tracks.specs.tracks.Acts.{IsInitAnswer};
 ghost use Rattle.line_tracks.specs.tracks.Ends.{replica_at};
 ghost use Rattle.line_tracks.specs.tracks.Lines.{EachMember};
 ghost use Rattle.line_tracks.specs.replica_exchange.declared.slot.Slot.{Slot};
-ghost use Rattle.line_tracks.specs.first_cluster.Depots.{IsForReplicas, RisesBy, count_at, depot_by, disk_slot_of, meta_slot};
+ghost use Rattle.line_tracks.specs.first_cluster.Depots.{IsForReplicas, RisesBy, count_at, disk_slot_of, meta_slot};
 ghost use Rattle.served_cluster.specs.Owned.{TracksTurns, held_at, place_of};
 ghost use Rattle.line_tracks.specs.first_cluster.First.{IsLent, IsSomeLent};
 ghost use Rattle.line_tracks.specs.first_cluster.Lending.{AreAsTheyWere};
@@ -31,7 +31,7 @@ ghost use Rattle.served_cluster.specs.Acts.{is_init};
 ghost use Rattle.served_cluster.specs.Joins.{EndsSources, MayEndSources};
 ghost use Rattle.served_cluster.specs.Plans.{changes_state, state_of};
 ghost use Rattle.saved_cluster.specs.Saved.{AnswersSaved, ElapsesBy, IsReadyFor, IsSaved, IsUnbegun, MayClose, MayServeSaved, ServesRequestSome, TracksRequest};
-ghost use Rattle.saved_cluster.specs.States.{is_init_request, kept_of, saves, saves_by, unplanned, unready};
+ghost use Rattle.saved_cluster.specs.States.{is_init_request, saves, saves_by, unplanned, unready};
 ghost use Rattle.saved_cluster.specs.declared.lost.Lost.TheVariants as lost;
 
 use crate::lost::Lost;
@@ -130,8 +130,8 @@ impl<D: Disk> SavedCluster<D> {
     ) -> Result<Answer, Lost>
         requires limits { MeetsLimits act }
         requires changes { changes_state act ≡ true }
-        requires may { MayServeSaved D.state self.old (X.held disks.old) }
-        ensures answered { AnswersSaved D.state (depot_by X.held X.counted X.all_faults disks.old) self.old act result (depot_by X.held X.counted X.all_faults disks.new) self.new }
+        requires may { MayServeSaved D.state self.old (X.depot disks.old).held }
+        ensures answered { AnswersSaved D.state (X.depot disks.old) self.old act result (X.depot disks.new) self.new }
         ensures meta { IfErr result (λ e. e ≡ lost.Meta) }
     {
         let plan = match self.cluster.plan(alloc, act) {
@@ -202,14 +202,14 @@ impl<D: Disk> SavedCluster<D> {
     // Saves the state of a first cluster, which was readied, and has its replicas begin. Where that can't be done, its disks are given back.
     fn begin<X: Disks<D = D>>(&mut self, disks: &mut X, lent: Lent<D>) -> Result<Answer, Lost>
         requires none { self.old.cluster.members ≡ None }
-        requires lent { IsSomeLent D.state (depot_by X.held X.counted X.all_faults disks.old) lent }
+        requires lent { IsSomeLent D.state (X.depot disks.old) lent }
         requires ready { IsReadyToSave self.old.log lent.members.net.state (D.state self.old.meta) }
-        ensures served { (rf shards seed : ℕ) (nodes : List (List ℕ × List ℕ)) (first : Depot D) → IsLent D.state rf shards seed nodes first (depot_by X.held X.counted X.all_faults disks.old) lent
-            → (said : Reported) × IfOk result (λ b. b ≡ said) × IsInitAnswer D.state first None rf shards seed nodes said (depot_by X.held X.counted X.all_faults disks.new) self.new.cluster.members }
+        ensures served { (rf shards seed : ℕ) (nodes : List (List ℕ × List ℕ)) (first : Depot D) → IsLent D.state rf shards seed nodes first (X.depot disks.old) lent
+            → (said : Reported) × IfOk result (λ b. b ≡ said) × IsInitAnswer D.state first None rf shards seed nodes said (X.depot disks.new) self.new.cluster.members }
         ensures ready { EachMember self.new.cluster.members (λ m. IsReady m.net.state m.net.replicas m.net.bag) }
         ensures state { OnOk result (state_of self.new.cluster ≡ Some lent.members.net.state) }
         ensures calls { self.new.cluster.calls ≡ self.old.cluster.calls }
-        ensures untouched { IsErrOf result lost.Meta → (rf shards seed : ℕ) (nodes : List (List ℕ × List ℕ)) (first : Depot D) → IsLent D.state rf shards seed nodes first (depot_by X.held X.counted X.all_faults disks.old) lent → AreAsTheyWere D.state first (depot_by X.held X.counted X.all_faults disks.new) }
+        ensures untouched { IsErrOf result lost.Meta → (rf shards seed : ℕ) (nodes : List (List ℕ × List ℕ)) (first : Depot D) → IsLent D.state rf shards seed nodes first (X.depot disks.old) lent → AreAsTheyWere D.state first (X.depot disks.new) }
         ensures saved { OnOk result ((last : Option State) → IsSaved last (D.state self.old.meta) → IsSaved (Some lent.members.net.state) (D.state self.new.meta)) }
         ensures unbegun { IsErrOf result lost.Memory → (self.new.cluster.members ≡ None) × ((last : Option State) → IsSaved last (D.state self.old.meta) → IsSaved (Some lent.members.net.state) (D.state self.new.meta)) }
         ensures any_moment { (D.state self.old.meta).tells ≡ true → Elapses (MaySave lent.members.net.state) (D.state self.old.meta) (D.state self.new.meta) }
@@ -245,9 +245,9 @@ impl<D: Disk> SavedCluster<D> {
     ) -> Result<Answer, Lost>
         requires limits { IsInit rf shards seed nodes }
         requires none { self.old.cluster.members ≡ None }
-        requires may { MayServeSaved D.state self.old (X.held disks.old) }
-        ensures answered { AnswersSaved D.state (depot_by X.held X.counted X.all_faults disks.old) self.old (act.Init rf shards seed nodes) result (depot_by X.held X.counted X.all_faults disks.new) self.new }
-        ensures untouched { IsErrOf result lost.Meta → AreAsTheyWere D.state (depot_by X.held X.counted X.all_faults disks.old) (depot_by X.held X.counted X.all_faults disks.new) }
+        requires may { MayServeSaved D.state self.old (X.depot disks.old).held }
+        ensures answered { AnswersSaved D.state (X.depot disks.old) self.old (act.Init rf shards seed nodes) result (X.depot disks.new) self.new }
+        ensures untouched { IsErrOf result lost.Meta → AreAsTheyWere D.state (X.depot disks.old) (X.depot disks.new) }
         ensures unbegun { IsErrOf result lost.Memory → IsUnbegun D.state self.old (request.One (act.Init rf shards seed nodes)) self.new }
     {
         let plan = match plan_first(alloc, rf, shards, seed, nodes) {
@@ -276,9 +276,9 @@ impl<D: Disk> SavedCluster<D> {
         nodes: Seq<(Text, Text)>,
     ) -> Result<Answer, Lost>
         requires limits { IsInit rf shards seed nodes }
-        requires may { MayServeSaved D.state self.old (X.held disks.old) }
-        ensures answered { AnswersSaved D.state (depot_by X.held X.counted X.all_faults disks.old) self.old (act.Init rf shards seed nodes) result (depot_by X.held X.counted X.all_faults disks.new) self.new }
-        ensures untouched { IsErrOf result lost.Meta → AreAsTheyWere D.state (depot_by X.held X.counted X.all_faults disks.old) (depot_by X.held X.counted X.all_faults disks.new) }
+        requires may { MayServeSaved D.state self.old (X.depot disks.old).held }
+        ensures answered { AnswersSaved D.state (X.depot disks.old) self.old (act.Init rf shards seed nodes) result (X.depot disks.new) self.new }
+        ensures untouched { IsErrOf result lost.Meta → AreAsTheyWere D.state (X.depot disks.old) (X.depot disks.new) }
         ensures unbegun { IsErrOf result lost.Memory → IsUnbegun D.state self.old (request.One (act.Init rf shards seed nodes)) self.new }
     {
         if self.cluster.state().is_some() {
@@ -296,10 +296,10 @@ impl<D: Disk> SavedCluster<D> {
     ) -> Result<Answer, Lost>
         requires limits { MeetsLimits act }
         requires served { IsServedAct act }
-        requires may { MayServeSaved D.state self.old (X.held disks.old) }
-        ensures answered { AnswersSaved D.state (depot_by X.held X.counted X.all_faults disks.old) self.old act result (depot_by X.held X.counted X.all_faults disks.new) self.new }
+        requires may { MayServeSaved D.state self.old (X.depot disks.old).held }
+        ensures answered { AnswersSaved D.state (X.depot disks.old) self.old act result (X.depot disks.new) self.new }
         ensures others { saves_by act ≡ false → (self.new.meta ≡ self.old.meta) × (self.new.log ≡ self.old.log) × IsOk result }
-        ensures untouched { IsErrOf result lost.Meta → is_init act ≡ true → AreAsTheyWere D.state (depot_by X.held X.counted X.all_faults disks.old) (depot_by X.held X.counted X.all_faults disks.new) }
+        ensures untouched { IsErrOf result lost.Meta → is_init act ≡ true → AreAsTheyWere D.state (X.depot disks.old) (X.depot disks.new) }
         ensures wanted { IsErrOf result lost.Memory → is_init act ≡ true }
         ensures unbegun { IsErrOf result lost.Memory → IsUnbegun D.state self.old (request.One act) self.new }
     {
@@ -349,28 +349,28 @@ impl<D: Disk> SavedCluster<D> {
     ) -> Result<Reply, Lost>
         requires limits { KeepsLimits request }
         requires served { IsServed request }
-        requires may { MayServeSaved D.state self.old (X.held disks.old) }
-        ensures may { OnOk result (MayServeSaved D.state self.new (X.held disks.new)) }
-        ensures close { MayClose self.new (X.held disks.new) }
+        requires may { MayServeSaved D.state self.old (X.depot disks.old).held }
+        ensures may { OnOk result (MayServeSaved D.state self.new (X.depot disks.new).held) }
+        ensures close { MayClose self.new (X.depot disks.new).held }
         ensures answered { IfOk result (IsAnsweredBy request) }
-        ensures served { ServesRequestSome D.state (depot_by X.held X.counted X.all_faults disks.old) self.old.cluster request result (depot_by X.held X.counted X.all_faults disks.new) self.new.cluster }
+        ensures served { ServesRequestSome D.state (X.depot disks.old) self.old.cluster request result (X.depot disks.new) self.new.cluster }
 
         // The placement stands then that stood before, or the one that the reply prints.
         ensures place { IfOk result (λ said. placement_after (place_of self.old.cluster) (inner_turns (record { request = request; reply = said } ∷ [])) ≡ place_of self.new.cluster) }
 
         // The turns so far that are tracked are so with this one.
         ensures tracks { (tells : Bool) (first : Depot D) (turns : List Turn)
-            → TracksTurns D.state tells first (depot_by X.held X.counted X.all_faults disks.old) turns self.old.cluster
-            → TracksRequest D.state tells first (depot_by X.held X.counted X.all_faults disks.new) turns request result self.new }
+            → TracksTurns D.state tells first (X.depot disks.old) turns self.old.cluster
+            → TracksRequest D.state tells first (X.depot disks.new) turns request result self.new }
 
         // At any moment within the call a stop left the state from before it or the one to which it leads.
-        ensures any_moment { (D.state self.old.meta).tells ≡ true → ElapsesBy (state_of self.old.cluster) (kept_of self.old.cluster) request (D.state self.old.meta) (D.state self.new.meta) }
+        ensures any_moment { (D.state self.old.meta).tells ≡ true → ElapsesBy self.old.cluster request (D.state self.old.meta) (D.state self.new.meta) }
 
         // A request that doesn't change the state leaves the meta disk as it is, and gets a reply.
         ensures others { saves request ≡ false → (self.new.meta ≡ self.old.meta) × (self.new.log ≡ self.old.log) × IsOk result }
 
         // Replicas of an `init` begin once its state is saved: where that fails, their disks are back as they were.
-        ensures untouched { IsErrOf result lost.Meta → is_init_request request ≡ true → AreAsTheyWere D.state (depot_by X.held X.counted X.all_faults disks.old) (depot_by X.held X.counted X.all_faults disks.new) }
+        ensures untouched { IsErrOf result lost.Meta → is_init_request request ≡ true → AreAsTheyWere D.state (X.depot disks.old) (X.depot disks.new) }
 
         // Memory is wanted so only as the replicas of an `init` begin, whose state is saved by then.
         ensures wanted { IsErrOf result lost.Memory → is_init_request request ≡ true }
@@ -395,14 +395,14 @@ impl<D: Disk> SavedCluster<D> {
 
     /// Gives all disks back. The count of all faults rises by as much as those of the disks rose since they were taken. Takes no memory.
     pub fn close<X: Disks<D = D>>(self, disks: &mut X)
-        requires close { MayClose self (X.held disks.old) }
-        ensures none_out { (disk_slot : AtSlot) → X.held disks.new disk_slot ≢ Out }
-        ensures meta { X.held disks.new meta_slot ≡ Here self.meta }
-        ensures held { (s : Slot) → IsForReplicas (disk_slot_of s) → X.held disks.new (disk_slot_of s) ≡ held_at (depot_by X.held X.counted X.all_faults disks.old) (replica_at self.cluster.members s) s }
-        ensures counted { (s : Slot) → IsForReplicas (disk_slot_of s) → X.counted disks.new (disk_slot_of s) ≡ count_at D.state (depot_by X.held X.counted X.all_faults disks.old) (replica_at self.cluster.members s) s }
-        ensures meta_counted { X.counted disks.new meta_slot ≡ (D.state self.meta).faults }
-        ensures rose { (between : ℕ) × RisesBy D.state (depot_by X.held X.counted X.all_faults disks.old) self.cluster.members between × RoseBy ((D.state self.meta).faults - X.counted disks.old meta_slot) between (X.all_faults disks.new) }
-        ensures later { X.all_faults disks.old ≤ X.all_faults disks.new }
+        requires close { MayClose self (X.depot disks.old).held }
+        ensures none_out { (disk_slot : AtSlot) → (X.depot disks.new).held disk_slot ≢ Out }
+        ensures meta { (X.depot disks.new).held meta_slot ≡ Here self.meta }
+        ensures held { (s : Slot) → IsForReplicas (disk_slot_of s) → (X.depot disks.new).held (disk_slot_of s) ≡ held_at (X.depot disks.old) (replica_at self.cluster.members s) s }
+        ensures counted { (s : Slot) → IsForReplicas (disk_slot_of s) → (X.depot disks.new).counted (disk_slot_of s) ≡ count_at D.state (X.depot disks.old) (replica_at self.cluster.members s) s }
+        ensures meta_counted { (X.depot disks.new).counted meta_slot ≡ (D.state self.meta).faults }
+        ensures rose { (between : ℕ) × RisesBy D.state (X.depot disks.old) self.cluster.members between × RoseBy ((D.state self.meta).faults - (X.depot disks.old).counted meta_slot) between (X.depot disks.new).faults }
+        ensures later { (X.depot disks.old).faults ≤ (X.depot disks.new).faults }
     {
         let SavedCluster { cluster, meta, .. } = self;
         cluster.close(disks);

@@ -16,7 +16,6 @@ use Rattle.m3_model.specs.declared.turn.Reply.TheVariants as replies
 use Rattle.m3_model.specs.declared.turn.Request.TheVariants as request
 use Rattle.m3_model.specs.declared.turn.Turn.{Turn}
 use Rattle.transcripts.specs.Calls.{Call, IsAskedOf}
-use Rattle.transcripts.specs.Joined.{IsBootstrapOf}
 use Rattle.transcripts.specs.Placements.{printed, seed_at}
 use Rattle.transcripts.specs.Record.{InnerTurn, TurnPosition, IsTurnPosition, inner_turns, line_of, lists_of}
 use Rattle.cluster_core.specs.Joins.{HasFenced, HasStreamed}
@@ -24,6 +23,7 @@ use Rattle.cluster_core.specs.Lists.{At}
 use Rattle.cluster_core.specs.declared.event.Asked.TheVariants as asked
 use Rattle.cluster_core.specs.declared.event.Event.{Event}
 use Rattle.cluster_core.specs.declared.event.Event.TheVariants as event
+use Rattle.told_by.specs.Placements.{IsBootstrapOf}
 use Rattle.told_by.specs.Broken.{MomentWithinRead, MovePrintedTwice, PlacedUnprinted, UnstreamedPeer, both_join, clocked, five, joined, joining, later_place, later_rules, moved, other_name, unprinted, unstreamed}
 use Rattle.told_by.specs.Clocks.{IsClockOf, sets_rules}
 use Rattle.told_by.specs.Reads.{IsAskedBy}

@@ -160,5 +160,8 @@ module _ (start : Option MetaState) (past : List Event) (Old New : ℕ → Event
   hears_on (act.Restart node pick) (answer.Disk name s) h = (h.0, refused_on AnySlot node s IsRestartCall reason.Disk h.1)
   hears_on (act.Bootstrap node only) (answer.Disk name s) h = (h.0, h.1, refused_on (IsMember s) node s IsJoinCall reason.Disk h.2)
   hears_on (act.Bootstrap node only) (answer.Corrupt name s damage) h = (h.0, h.1, h.2, refused_on (IsMember s) node s IsJoinCall (reason.Corrupt damage) h.3)
-  hears_on (act.Bootstrap node only) (answer.Available available place version) h = λ n s tenure slot given. let step = h n s tenure slot given in (step.0, step.1, step_on (IsBeginOf tenure) n s step.0 step.2)
+  hears_on (act.Bootstrap node only) (answer.Available available place version) h = (
+    λ n s tenure slot given. let step = h.0 n s tenure slot given in (step.0, step.1, step_on (IsBeginOf tenure) n s step.0 step.2),
+    λ x m q k. let fenced = h.1 x m q k in (fenced.0, happens_on (event.Step q x.0 (call.Fence fenced.0) reply.Done) fenced.1),
+  )
   hears_on _ _ h = h

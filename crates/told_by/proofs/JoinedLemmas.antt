@@ -8,27 +8,29 @@ use Rattle.m3_model.proofs.MemberLemmas.{IsIn-filter_map}
 use Rattle.m3_model.proofs.Lists.{IsIn-flat_map}
 use Rattle.m3_model.specs.Members.{IsIn}
 use Rattle.transcripts.specs.Placements.{placements, printed}
-use Rattle.transcripts.specs.Record.{InnerTurn, Life, TurnPosition, IsTurnPosition, inner_turns, joined, lists_of}
+use Rattle.transcripts.specs.Record.{InnerTurn, TurnPosition, IsTurnPosition, inner_turns, joined, lists_of}
 use Rattle.m3_model.specs.declared.placement.Assignment.{Assignment}
 use Rattle.m3_model.specs.declared.placement.Placement.{Placement}
 use Rattle.m3_model.specs.declared.placement.ShardState.TheVariants.{Initializing, Available}
 use Rattle.m3_model.specs.declared.rules.MetaState.{MetaState}
 use Rattle.m3_model.specs.declared.turn.Turn.{Turn}
 use Rattle.placement_core.specs.Lawful.{IsShard}
+use Rattle.placement_core.specs.Majorities.{IsMajority}
 use Rattle.placement_core.specs.Shards.{Shard, former, holds, is_holder}
 use Rattle.placement_core.specs.Steps.{IsShardStep, done_at}
 use Rattle.placement_core.proofs.ChangeLemmas.{step_holders}
-use Rattle.placement_core.proofs.HolderLemmas.{chosen_node, node_chosen, same_node}
+use Rattle.placement_core.proofs.HolderLemmas.{chosen_node, is_moving, node_chosen, same_node, the_joining}
 use Rattle.cluster_core.specs.Earlier.{last_place}
 use Rattle.cluster_core.specs.Legal.{Legal, IsNextPlace}
-use Rattle.cluster_core.specs.Lists.{At, IsMajority}
+use Rattle.cluster_core.specs.Lists.{At}
 use Rattle.cluster_core.specs.declared.event.Event.{Event}
 use Rattle.cluster_core.specs.declared.event.Event.TheVariants as event
 use Rattle.cluster_core.proofs.ListLemmas.{at_some, at_same, at_within}
 use Rattle.cluster_core.proofs.PlaceLemmas.{IsAt, at_fine, at_grows, at_place, at_sound, at_version}
 use Rattle.cluster_core.proofs.TraceLemmas.{lawful_place}
-use Rattle.transcripts.specs.Joined.{Joined, PrintsMajority, TurnsAvailable}
+use Rattle.transcripts.specs.Joined.{IsBootstrapInto, TurnsAvailable}
 use Rattle.told_by.specs.Openings.{opening_length}
+use Rattle.told_by.specs.Laws.{IsJoinedWhereTold, PrintsFormer}
 use Rattle.told_by.specs.Placements.{PrintsPeers}
 use Rattle.told_by.specs.Told.{ToldBy}
 use Rattle.told_by.proofs.OpeningLemmas.{first_event, place_fine}
@@ -60,6 +62,12 @@ no_turn rf version old next x z sound step hx joins hz node available =
     let same : was.0 ≡ x = same_node old was.0 x sound.distinct was.1 hx was.2 in
     let bad : false ≡ true = sym (ap holds joins) ∙ ap (λ (w : Assignment). holds w.state) (sym same) ∙ was.3 in
     cc
+
+-- one node joins a shard
+one_joins : (rf version : ℕ) (shard : Shard) → IsShard rf version shard → (x z : Assignment) → IsIn shard x → x.state ≡ Initializing → IsIn shard z → z.state ≡ Initializing → x ≡ z
+one_joins rf version shard sound x z hx joins_x hz joins_z =
+    let moving = (is_moving rf version shard sound x hx joins_x).0 in
+    the_joining shard sound.distinct moving x hx joins_x ∙ sym (the_joining shard sound.distinct moving z hz joins_z)
 
 -- the Place of a version that isn't the opening's comes past the opening
 past_opening : {tells : Bool} → (events : List Event) → Legal tells events → (i : ℕ) (p : Placement) (done : List (ℕ × ℕ)) → At events i (event.Place p done) → 1 ≤ i → 2 ≤ i
@@ -137,24 +145,36 @@ module _ (start : Option MetaState) (turns : List Turn) (events : List Event) (t
             | inr later ↦ by_turn later
           ]
 
-  -- what the turn that made the Place prints is a majority of the shard
-  names_enough : (first was : Placement) (s y : ℕ) (shard after : Shard) (i : ℕ) (done : List (ℕ × ℕ)) → StepFound events first was s shard after i done → (p : PrintsPeers (take i events) (told.makers i) s y) → IsMajority was.rf (former shard) p.names
-  names_enough first was s y shard after i done f p =
+  -- the placement and the shard that the turn which made the Place met
+  met : (first was next : Placement) (s y : ℕ) (shard after : Shard) (i : ℕ) (done : List (ℕ × ℕ)) → (f : StepFound events first was s shard after i done) → (p : PrintsPeers next (take i events) (told.makers i) s y) → (p.last ≡ f.last) × (p.shard ≡ shard)
+  met first was next s y shard after i done f p =
       let place : p.last ≡ f.last = same_Some p.last f.last (sym p.last_is ∙ f.last_is) in
-      let same : p.shard ≡ shard = at_same (f.last).shards s p.shard f.old (subst (λ (x : Placement). At x.shards s p.shard) place p.shard_is) f.old_at ∙ f.same in
-      let rf : (p.last).rf ≡ was.rf = ap (λ (x : Placement). x.rf) place ∙ f.rf in
-      subst (λ n. IsMajority n (former shard) p.names) rf (subst (λ (x : Shard). IsMajority (p.last).rf (former x) p.names) same p.enough)
+      (place, at_same (f.last).shards s p.shard f.old (subst (λ (x : Placement). At x.shards s p.shard) place p.shard_is) f.old_at ∙ f.same)
+
+  -- what it prints is a majority of the shard
+  names_enough : (first was next : Placement) (s y : ℕ) (shard after : Shard) (i : ℕ) (done : List (ℕ × ℕ)) → StepFound events first was s shard after i done → (p : PrintsPeers next (take i events) (told.makers i) s y) → IsMajority was.rf (former shard) p.names
+  names_enough first was next s y shard after i done f p =
+      let m = met first was next s y shard after i done f p in
+      let rf : (p.last).rf ≡ was.rf = ap (λ (x : Placement). x.rf) m.0 ∙ f.rf in
+      subst (λ n. IsMajority n (former shard) p.names) rf (subst (λ (x : Shard). IsMajority (p.last).rf (former x) p.names) m.1 p.enough)
+
+  -- the node that turned available is the one whose move it ended
+  same_joined : (first was next : Placement) (s y to : ℕ) (t : TurnsAvailable was next s y) (i : ℕ) (done : List (ℕ × ℕ)) → StepFound events first was s t.shard t.after i done → PrintsPeers next (take i events) (told.makers i) s to → to ≡ y
+  same_joined first was next s y to t i done f p =
+      let m = met first was next s to t.shard t.after i done f p in
+      let sound : IsShard first.rf was.version t.shard = subst (IsShard first.rf was.version) f.same f.sound in
+      sym p.to_node ∙ ap (λ (a : Assignment). a.node) (one_joins first.rf was.version t.shard sound p.joining t.joining (subst (λ (x : Shard). IsIn x p.joining) m.1 p.joins) p.is_joining t.joins t.is_joining) ∙ t.of_node
 
   -- the turn that made the Place prints whom the node merged
   by_step : (was next : Placement) (s y : ℕ) (t : TurnsAvailable was next s y) (i : ℕ) (done : List (ℕ × ℕ)) → At events i (event.Place next done) → (first : Placement) → StepFound events first was s t.shard t.after i done
-      → (p : TurnPosition) × IsTurnPosition turns p × PrintsMajority p was.rf s t.shard
+      → (p : TurnPosition) × IsTurnPosition turns p × PrintsFormer events p was next s y t.shard
   by_step was next s y t i done there first f = by_done (done_at s done) refl
     where
       low : (o : Option MetaState) (i : ℕ) → 2 ≤ i → opening_length o ≤ i
       low None i h = omega arith
       low (Some state) i h = h
 
-      by_done : (o : Option ℕ) → done_at s done ≡ o → (p : TurnPosition) × IsTurnPosition turns p × PrintsMajority p was.rf s t.shard
+      by_done : (o : Option ℕ) → done_at s done ≡ o → (p : TurnPosition) × IsTurnPosition turns p × PrintsFormer events p was next s y t.shard
       by_done (Some to) e =
           let above = low start i f.past in
           let p = (told.tells).placements.each_end i next done above f.past there (s, to) (named_in s to done e) in (
@@ -162,24 +182,26 @@ module _ (start : Option MetaState) (turns : List Turn) (events : List Event) (t
             ((told.tells).order.made i (event.Place next done) above f.past there tt).0,
             record {
               available = p.available;
-              bootstrap = p.bootstrap;
+              bootstrap = subst (λ n. IsBootstrapInto (told.makers i) next n p.available) (same_joined first was next s y to t i done f p) p.bootstrap;
               names = p.names;
               printed = p.printed;
-              distinct = (names_enough first was s to t.shard t.after i done f p).distinct;
-              within = (names_enough first was s to t.shard t.after i done f p).within;
-              enough = (names_enough first was s to t.shard t.after i done f p).enough;
+              upto = i;
+              last = p.last;
+              last_is = p.last_is;
+              by_name = p.by_name;
+              enough = names_enough first was next s to t.shard t.after i done f p;
             },
           )
       by_done None e =
           absurd (no_turn first.rf was.version f.old t.after t.joining t.joined f.sound (subst (IsShardStep (suc was.version) f.old t.after) e f.step) (subst (λ (x : Shard). IsIn x t.joining) (sym f.same) t.joins) t.is_joining t.stands (t.to_node ∙ sym t.of_node) t.is_available)
 
-  pub turned : {tells : Bool} → Legal tells events → (was next : Placement) → IsIn (placements start (inner_turns turns)) was → IsIn (placements start (inner_turns turns)) next → (s y : ℕ) → (t : TurnsAvailable was next s y) → (p : TurnPosition) × IsTurnPosition turns p × PrintsMajority p was.rf s t.shard
+  pub turned : {tells : Bool} → Legal tells events → (was next : Placement) → IsIn (placements start (inner_turns turns)) was → IsIn (placements start (inner_turns turns)) next → (s y : ℕ) → (t : TurnsAvailable was next s y) → (p : TurnPosition) × IsTurnPosition turns p × PrintsFormer events p was next s y t.shard
   turned legal was next among_was among_next s y t =
       let k = placed was among_was in
       let i = placed next among_next in
       let first = first_event events legal k.0 (event.Place was k.1) k.2 in
       by_step was next s y t i.0 i.1 i.2 first.place (step_found events legal first.place first.there was next k.0 i.0 k.1 i.1 k.2 i.2 t.follows s t.shard t.after t.shard_is t.after_is)
 
--- where a legal list tells of a run its life is joined
-pub told_joined : {tells : Bool} → (life : Life) (events : List Event) → Legal tells events → ToldBy life.present.start life.present.turns events → Joined life
+-- where a legal list tells of a run each node that turned available was joined so
+pub told_joined : {tells : Bool} → IsJoinedWhereTold tells
 told_joined life events legal told was next among_was among_next s y t = turned (life.present).start (life.present).turns events told legal was next among_was among_next s y t

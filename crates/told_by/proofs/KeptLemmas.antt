@@ -11,6 +11,7 @@ use Rattle.m3_model.specs.Members.{IsIn}
 use Rattle.m3_model.specs.Reads.{Found, read_of, found_of, points_in, space_picked, Matches, IsSought, Covers}
 use Rattle.m3_model.specs.Rules.{HasExpired, IsLive}
 use Rattle.transcripts.specs.Kept.{Kept, KeepsPoints}
+use Rattle.transcripts.specs.Left.{earlier_turns, IsLeft, OpeningStands}
 use Rattle.transcripts.specs.Points.{acked_at, acked_point, point_of, rf_at, sent_at, sent_point, was_sent}
 use Rattle.transcripts.specs.Record.{InnerTurn, Record, Life, TurnPosition, IsTurnPosition, acts_of, inner_turns, joined, lists_of, turns_before}
 use Rattle.transcripts.specs.Rules.{rules_at, start_rules}
@@ -33,7 +34,7 @@ use Rattle.cluster_core.proofs.PastLemmas.{clock_at}
 use Rattle.cluster_core.proofs.Theorem.{keeps_points}
 use Rattle.cluster_core.proofs.TraceLemmas.{lawful_start}
 use Rattle.told_by.specs.Clocks.{sets_rules}
-use Rattle.told_by.specs.Openings.{opening_length, earlier_turns, IsLeft, OpeningStands, sets_seed}
+use Rattle.told_by.specs.Openings.{opening_length, sets_seed}
 use Rattle.told_by.specs.Reads.{IsAskedBy, Fetched, IsTold}
 use Rattle.told_by.specs.Spans.{From, IsEarlier, IsWithin, IsOfTurn}
 use Rattle.told_by.specs.Told.{ToldBy}

@@ -144,7 +144,7 @@ module _ (start : Option MetaState) (turns : List Turn) (events : List Event) (a
         each_start = λ i version s rules chosen from to le there. elim (among i (event.FetchStart version s rules chosen from to) le there) as (λ _. IsStartOf start (events ++ more) (position_after turns a b) version s rules chosen from to) [ inl none ↦ absurd none | inr is ↦ cc ];
         each_done = λ i began nodes series le there. elim (among i (event.FetchDone began nodes series) le there) as (λ _. IsStartAt (From (length events)) (events ++ more) (makers start turns events a b more) (position_after turns a b) began) [ inl none ↦ absurd none | inr is ↦ cc ];
         prints = record { is_place = λ place is. absurd (let bad : None ≡ Some place = sym (ap printed done) ∙ is in cc); not_earlier = λ p k was is of_was of_is. absurd (let bad : None ≡ Some is = sym (ap printed done) ∙ of_is in cc) };
-        each_end = λ i place done le past there d m. elim (among i (event.Place place done) le there) as (λ _. PrintsPeers (take i (events ++ more)) (position_after turns a b) d.0 d.1) [ inl none ↦ absurd none | inr is ↦ cc ];
+        each_end = λ i place done le past there d m. elim (among i (event.Place place done) le there) as (λ _. PrintsPeers place (take i (events ++ more)) (position_after turns a b) d.0 d.1) [ inl none ↦ absurd none | inr is ↦ cc ];
         ends = not_boot turns a b (λ available place version is. let bad : answer.Done ≡ answer.Available available place version = sym done ∙ is in cc);
         set = λ sets. record { clock = length events + length h.asks; there = clock_there; mine = omega arith; past_opening = omega (arith, h.opened); own = refl };
         makes = (h.makes).makes;
@@ -283,9 +283,9 @@ module _ (start : Option MetaState) (turns : List Turn) (events : List Event) (a
           | inr rest ↦ elim rest as (λ _. IsStartAt (From (length events)) (events ++ more) (makers start turns events a b more) (position_after turns a b) began) [ inl none ↦ absurd none | inr last ↦ let k = in_ack (length events) b (event.FetchDone began nodes series) last in let bad = k.2 in cc ]
         ];
         prints = record { is_place = λ place is. absurd (let bad : None ≡ Some place = sym h.no_place ∙ is in cc); not_earlier = λ p k was is of_was of_is. absurd (let bad : None ≡ Some is = sym h.no_place ∙ of_is in cc) };
-        each_end = λ i place done le past there d m. elim (among i (event.Place place done) le there) as (λ _. PrintsPeers (take i (events ++ more)) (position_after turns a b) d.0 d.1) [
+        each_end = λ i place done le past there d m. elim (among i (event.Place place done) le there) as (λ _. PrintsPeers place (take i (events ++ more)) (position_after turns a b) d.0 d.1) [
           | inl is ↦ cc
-          | inr rest ↦ elim rest as (λ _. PrintsPeers (take i (events ++ more)) (position_after turns a b) d.0 d.1) [ inl none ↦ absurd none | inr last ↦ let k = in_ack (length events) b (event.Place place done) last in let bad = k.2 in cc ]
+          | inr rest ↦ elim rest as (λ _. PrintsPeers place (take i (events ++ more)) (position_after turns a b) d.0 d.1) [ inl none ↦ absurd none | inr last ↦ let k = in_ack (length events) b (event.Place place done) last in let bad = k.2 in cc ]
         ];
         ends = not_boot turns a b (λ available place version is. let bad : None ≡ Some place = sym h.no_place ∙ ap printed is in cc);
         set = λ sets. absurd (let bad : true ≡ false = sym sets ∙ h.no_rules in cc);

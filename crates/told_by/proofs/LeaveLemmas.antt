@@ -1,4 +1,5 @@
 -- What a told run leaves is what the next run is to find.
+use Rattle.transcripts.specs.Left.{IsCarried, IsLeft, OpeningStands, WasSentEarlier, earlier_turns, sent_earlier}
 use Rattle.transcripts.specs.Record.{line_of}
 use Rattle.std.proofs.Common.{◌≡◌, ℕ, suc, ◌<◌, ◌≤◌, List, [], ◌∷◌, ◌++◌, take, length, refl, sym, ap, ◌∙◌, subst, inl, inr, arith, append-nil, length-append, true}
 use Rattle.std.specs.Prelude.{◌⊎◌, Option, Some, None, fold}
@@ -26,11 +27,12 @@ use Rattle.m3_model.specs.declared.rules.Rules.{Rules}
 use Rattle.m3_model.specs.declared.rules.Space.{Space}
 use Rattle.m3_model.specs.declared.turn.Request.{Request}
 use Rattle.m3_model.specs.declared.turn.Turn.{Turn}
+use Rattle.placement_core.specs.Majorities.{IsMajority}
 use Rattle.placement_core.specs.Shards.{holders}
 use Rattle.cluster_core.specs.Core.{Opening, AgreesWith, KeptByOpening, IsAckedBefore, IsSecured, IsLiveUpTo, held}
 use Rattle.cluster_core.specs.Earlier.{clock_after, last_clock, last_place, place_after}
 use Rattle.cluster_core.specs.Legal.{Legal, LawfulAt}
-use Rattle.cluster_core.specs.Lists.{At, IsMajority}
+use Rattle.cluster_core.specs.Lists.{At}
 use Rattle.cluster_core.specs.Replicas.{replica}
 use Rattle.cluster_core.specs.declared.event.Event.{Event}
 use Rattle.cluster_core.specs.declared.event.Event.TheVariants as event
@@ -46,7 +48,6 @@ use Rattle.cluster_core.proofs.PlaceLemmas.{place_cases}
 use Rattle.cluster_core.proofs.Theorem.{keeps_points}
 use Rattle.told_by.specs.Leaves.{HoldsAgain, IsLeftState, MayBeOpen}
 use Rattle.told_by.specs.Lines.{PlainLine, position_after as after_lines}
-use Rattle.told_by.specs.Openings.{IsCarried, IsLeft, OpeningStands, WasSentEarlier, earlier_turns, sent_earlier}
 use Rattle.told_by.specs.Told.{ToldBy}
 use Rattle.told_by.proofs.AnswerLemmas.{sent_by}
 use Rattle.told_by.proofs.ClockLemmas.{NotAbove, clock_cases, clocks_below, expired_later}

@@ -401,12 +401,12 @@ module _ (start : Option MetaState) (turns : List Turn) (events : List Event) (l
         | inr nq ↦ (next.tells).placements.not_earlier p q np nq earlier was is of_was of_is
       ]
     ];
-    each_end = λ i place done above past there d m. elim (cases_lt i (length events)) as (λ _. PrintsPeers (take i all) (makers i) d.0 d.1) [
+    each_end = λ i place done above past there d m. elim (cases_lt i (length events)) as (λ _. PrintsPeers place (take i all) (makers i) d.0 d.1) [
       | inl lt ↦
-          subst (λ x. PrintsPeers (take i all) x d.0 d.1) (sym (by_left i (length events) (told.makers i) (next.makers i) lt))
-          (subst (λ es. PrintsPeers es (told.makers i) d.0 d.1) (sym (take-append-le i events more (omega arith)))
+          subst (λ x. PrintsPeers place (take i all) x d.0 d.1) (sym (by_left i (length events) (told.makers i) (next.makers i) lt))
+          (subst (λ es. PrintsPeers place es (told.makers i) d.0 d.1) (sym (take-append-le i events more (omega arith)))
           ((told.tells).placements.each_end i place done above past (at_front events more i (event.Place place done) there lt) d m))
-      | inr ge ↦ subst (λ x. PrintsPeers (take i all) x d.0 d.1) (sym (by_right i (length events) (told.makers i) (next.makers i) ge)) ((next.tells).placements.each_end i place done ge past there d m)
+      | inr ge ↦ subst (λ x. PrintsPeers place (take i all) x d.0 d.1) (sym (by_right i (length events) (told.makers i) (next.makers i) ge)) ((next.tells).placements.each_end i place done ge past there d m)
     ];
     ends_printed = λ p h. elim (which p h) as (λ _. EndsPrinted (From low) all makers p) [
       | inl k ↦ lift_ended olds p ((told.tells).placements.ends_printed p k)

@@ -78,7 +78,7 @@ module _ (start : Option MetaState) (turns : List Turn) (events : List Event) (a
     pub each_start : (i version s : ℕ) (rules : Rules) (pick : Pick) (from to : ℕ) → length events ≤ i → At all i (event.FetchStart version s rules pick from to) → IsStartOf start all own version s rules pick from to
     pub each_done : (i began : ℕ) (nodes : List ℕ) (series : List Series) → length events ≤ i → At all i (event.FetchDone began nodes series) → IsStartAt (From (length events)) all makers own began
     pub prints : PrintsPlace turns all b
-    pub each_end : (i : ℕ) (place : Placement) (done : List (ℕ × ℕ)) → length events ≤ i → 2 ≤ i → At all i (event.Place place done) → (d : ℕ × ℕ) → IsIn done d → PrintsPeers (take i all) own d.0 d.1
+    pub each_end : (i : ℕ) (place : Placement) (done : List (ℕ × ℕ)) → length events ≤ i → 2 ≤ i → At all i (event.Place place done) → (d : ℕ × ℕ) → IsIn done d → PrintsPeers place (take i all) own d.0 d.1
     pub ends : EndsPrinted (From (length events)) all makers own
     pub set : sets_rules a b ≡ true → HasClock start (From (length events)) all makers own
     pub each_clock : (i : ℕ) (rules : Rules) → length events ≤ i → 2 ≤ i → At all i (event.Clock rules) → IsClockOf start long own rules

@@ -121,7 +121,7 @@ init_line =
     init_told None [] [] begun placed of_init (record {
       makes = record {
         makes = makes_each None [] [] begun placed of_init
-            (λ past. record { stood = place; prints = refl; not_before = omega arith }, (λ past. tt, (λ past. (place, refl, refl, ((record { node = 0; tenure = 1; state = Available; source = None } ∷ []), refl, at_any (λ (a : Assignment). (a.node ≡ 0) × (a.tenure ≡ 1)) (record { node = 0; tenure = 1; state = Available; source = None } ∷ []) 0 (record { node = 0; tenure = 1; state = Available; source = None }) refl (refl, refl))), (λ past. record { opens = tt; place = place; last = refl; runs = record { instance_ = record { name = name; group = name; listed = true; drained = false }; stands = refl; holds = refl } }, tt))));
+            (λ past. record { stood = place; prints = refl; not_before = omega arith }, (λ past. tt, (λ past. (place, refl, refl, ((record { node = 0; tenure = 1; state = Available; source = None } ∷ []), refl, at_any (λ (a : Assignment). (a.node ≡ 0) × (a.tenure ≡ 1)) (record { node = 0; tenure = 1; state = Available; source = None } ∷ []) 0 (record { node = 0; tenure = 1; state = Available; source = None }) refl (refl, refl))), (λ past. (record { opens = tt; place = place; last = refl; runs = record { instance_ = record { name = name; group = name; listed = true; drained = false }; stands = refl; holds = refl } }, (place, refl, refl, ((record { node = 0; tenure = 1; state = Available; source = None } ∷ []), refl, at_any (λ (a : Assignment). (a.node ≡ 0) × (a.tenure ≡ 1)) (record { node = 0; tenure = 1; state = Available; source = None } ∷ []) 0 (record { node = 0; tenure = 1; state = Available; source = None }) refl (refl, refl)))), tt))));
         restarts = restarts_none [] begun placed [] of_init (none, (none, (none, (none, tt))));
         hears = opened_here;
       };

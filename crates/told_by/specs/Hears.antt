@@ -296,6 +296,10 @@ abbrev pub HearsBegun : List Event → (ℕ → Event → Type 0) → List ℕ �
 HearsBegun past Here name only =
     (node shard tenure : ℕ) → (slot : IsCoveredSlot past name only node shard) → IsAssigned slot.of_node.place node shard tenure → (a : StepReply) × IsBegun a × HasStep Here (IsBeginOf tenure) node shard a
 
+-- each node that is printed as a peer was fenced for the move of the shard
+abbrev pub HearsStreamed : (ℕ → Event → Type 0) → List (ℕ × List ℕ) → Type 0
+HearsStreamed Here available = (x : ℕ × List ℕ) → IsIn available x → (q : ℕ) → IsIn x.1 q → (version : ℕ) × Happens Here (event.Step q x.0 (call.Fence version) reply.Done)
+
 -- what a replica says of itself in a `status` is the report of a step
 abbrev pub HearsReport : (ℕ → Event → Type 0) → StatusLine → Type 0
 HearsReport Here line = (report : Report) × (report.standing ≡ line.standing) × (report.fence ≡ line.fence) × Happens Here (event.Step line.node line.shard call.Report (reply.Told report))
@@ -328,7 +332,7 @@ HearsBy start past Here p (act.Restart node pick) answer.Done = HearsEachSlot pa
 HearsBy start past Here p (act.Restart node pick) (answer.Disk name shard) = (name ≡ node) × HearsRefused past Here AnySlot node shard IsRestartCall reason.Disk
 HearsBy start past Here p (act.Bootstrap node only) (answer.Disk name shard) = (name ≡ node) × IsTrue (is_covering shard only) × HearsRefused past Here (IsMember shard) node shard IsJoinCall reason.Disk
 HearsBy start past Here p (act.Bootstrap node only) (answer.Corrupt name shard damage) = (name ≡ node) × IsTrue (is_covering shard only) × IsShown damage × HearsRefused past Here (IsMember shard) node shard IsJoinCall (reason.Corrupt damage)
-HearsBy start past Here p (act.Bootstrap node only) (answer.Available available place version) = HearsBegun past Here node only
+HearsBy start past Here p (act.Bootstrap node only) (answer.Available available place version) = HearsBegun past Here node only × HearsStreamed Here available
 HearsBy start past Here p _ _ = ⊤
 
 -- what each turn hears stands within its stretch

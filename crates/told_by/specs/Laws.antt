@@ -1,11 +1,15 @@
 -- What is so of all that is told.
 use Rattle.transcripts.specs.Record.{line_of}
 use Rattle.std.specs.Prelude.{List, [], ◌∷◌, ◌++◌, ◌≡◌, ◌⊎◌, ◌≤◌, ◌+◌, length, take, ℕ, Option, Some, None, true, Bool}
+use Rattle.m3_model.specs.Ascends.{Ascends}
 use Rattle.m3_model.specs.Members.{IsIn}
 use Rattle.transcripts.specs.Kept.{Kept}
-use Rattle.transcripts.specs.Placements.{placement_after, printed, start_placement}
+use Rattle.transcripts.specs.Placements.{placement_after, placements, printed, start_placement}
 use Rattle.transcripts.specs.Record.{Life, Record, TurnPosition, IsTurnPosition, inner_turns}
 use Rattle.m3_model.specs.declared.placement.Placement.{Placement}
+use Rattle.placement_core.specs.Majorities.{IsMajority}
+use Rattle.placement_core.specs.NodeNames.{IsNamedBelow}
+use Rattle.placement_core.specs.Shards.{Shard, former}
 use Rattle.cluster_core.specs.Earlier.{last_place}
 use Rattle.m3_model.specs.declared.act.Act.{Act}
 use Rattle.m3_model.specs.declared.answer.Answer.{Answer}
@@ -18,12 +22,12 @@ use Rattle.cluster_core.specs.Legal.{Legal}
 use Rattle.cluster_core.specs.declared.event.Event.{Event}
 use Rattle.cluster_core.specs.declared.event.Event.TheVariants as event
 use Rattle.told_by.specs.Acks.{AreAckersCounted}
-use Rattle.transcripts.specs.Joined.{Joined}
+use Rattle.transcripts.specs.Joined.{IsBootstrapInto, TurnsAvailable}
+use Rattle.transcripts.specs.Left.{OpeningStands}
 use Rattle.told_by.specs.Leaves.{HoldsAgain, IsLeftState, MayBeOpen}
 use Rattle.told_by.specs.Lines.{AreFetched, AreSteps, AreWhole, IsCutShort, IsShardFetched, PrintsPlace}
 use Rattle.told_by.specs.Reads.{Asking, Fetched}
 use Rattle.told_by.specs.Lists.{IsListPosition, MadeBy, TellsCalls, TellsLists, call_makers, call_spans}
-use Rattle.told_by.specs.Openings.{OpeningStands}
 use Rattle.told_by.specs.Told.{Tells, ToldBy, TellsLine}
 
 -- Where a legal list tells of the present run's turns, and its replicas began with what the earlier runs left, the life is kept.
@@ -54,9 +58,25 @@ EmptyDisksStand = OpeningStands [] None (λ n s. [])
 abbrev pub LinesTell : (Option MetaState → List Turn → List Event → Act → Answer → List Event → Type 0) → Type 0
 LinesTell Kind = (start : Option MetaState) (turns : List Turn) (events : List Event) (a : Act) (b : Answer) (more : List Event) → Kind start turns events a b more → TellsLine start turns events (line_of a b) more
 
--- Where a legal list tells of the present run's turns, the life is joined.
+-- The turn is the bootstrap that joined the node to the shard: it led to the next placement, and prints with the shard a majority of the former replicas, by name in the
+-- placement that was the last one among so many events. That they run isn't said.
+pub record PrintsFormer (events : List Event) (p : TurnPosition) (was next : Placement) (number node : ℕ) (shard : Shard) : Type 0 where
+  pub available : List (ℕ × List ℕ)
+  pub bootstrap : IsBootstrapInto p next node available
+  pub names : List ℕ
+  pub printed : IsIn available (number, names)
+  pub upto : ℕ
+  pub last : Placement
+  pub last_is : last_place (take upto events) ≡ Some last
+  pub by_name : Ascends (IsNamedBelow last) names
+  pub enough : IsMajority was.rf (former shard) names
+
+-- Where a legal list tells of the present run's turns, each node that turned available was joined by such a turn.
 abbrev pub IsJoinedWhereTold : Bool → Type 0
-IsJoinedWhereTold tells = (life : Life) (events : List Event) → Legal tells events → ToldBy life.present.start life.present.turns events → Joined life
+IsJoinedWhereTold tells =
+    (life : Life) (events : List Event) → Legal tells events → ToldBy life.present.start life.present.turns events
+    → (was next : Placement) → IsIn (placements life.present.start (inner_turns life.present.turns)) was → IsIn (placements life.present.start (inner_turns life.present.turns)) next
+    → (number node : ℕ) → (turned : TurnsAvailable was next number node) → (p : TurnPosition) × IsTurnPosition life.present.turns p × PrintsFormer events p was next number node turned.shard
 
 -- And each acknowledgement names nodes that count.
 abbrev pub AcksCountWhereTold : Bool → Type 0

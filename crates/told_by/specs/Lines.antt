@@ -66,7 +66,7 @@ pub record PrintsPlace (turns : List Turn) (events : List Event) (b : Answer) : 
 
 -- an Ask, a step, or a Place of which the turn prints whom each joining node merged
 abbrev pub MayChange : TurnPosition → List Event → Event → Type 0
-MayChange p past (event.Place placement done) = (d : ℕ × ℕ) → IsIn done d → PrintsPeers past p d.0 d.1
+MayChange p past (event.Place placement done) = (d : ℕ × ℕ) → IsIn done d → PrintsPeers placement past p d.0 d.1
 MayChange p past e = IsAskOrStep e
 
 pub record PlainLine (start : Option MetaState) (turns : List Turn) (events : List Event) (a : Act) (b : Answer) (more : List Event) : Type 0 where

@@ -211,11 +211,11 @@ pub record MayOpen (past : List Event) (p : TurnPosition) (node : ℕ) : Type 0 
   pub last : last_place past ≡ Some place
   pub runs : OfNode place node (λ name. is_stopped (inner_turns p.lines) name ≡ false)
 
--- a stop, a restart or a begin that is asked for is done in its turn
+-- a stop, a restart or a begin that is done is one that its own turn may ask for
 abbrev pub MayStep : Option MetaState → List Event → TurnPosition → ℕ → ℕ → StepCall → Type 0
 MayStep start past p n s call.Stop = MayAsk start past p p.turn.act (asked.Step n s call.Stop)
 MayStep start past p n s call.Restart = MayAsk start past p p.turn.act (asked.Step n s call.Restart)
-MayStep start past p n s (call.Begin tenure) = MayOpen past p n
+MayStep start past p n s (call.Begin tenure) = MayOpen past p n × MayAsk start past p p.turn.act (asked.Step n s (call.Begin tenure))
 MayStep start past p n s _ = ⊤
 
 -- the turn prints the placement, or a later one that stood when its step ended

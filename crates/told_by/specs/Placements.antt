@@ -1,18 +1,23 @@
 -- What a list tells of placements: each printed one is a Place; where a Place ends moves, its turn prints whom each joining node merged; and a turn that prints
 -- a shard as turned available ends its move.
-use Rattle.std.specs.Prelude.{◌≡◌, ◌≤◌, ◌<◌, ℕ, List, Some, take}
+use Rattle.std.specs.Prelude.{◌≡◌, ◌≤◌, ◌<◌, ℕ, List, Option, Some, take}
+use Rattle.m3_model.specs.Ascends.{Ascends}
 use Rattle.m3_model.specs.Members.{IsIn}
 use Rattle.transcripts.specs.Fates.{OfNode}
-use Rattle.transcripts.specs.Joined.{IsBootstrapOf}
+use Rattle.transcripts.specs.Joined.{IsBootstrapInto}
 use Rattle.transcripts.specs.Placements.{printed}
 use Rattle.transcripts.specs.Record.{TurnPosition}
+use Rattle.m3_model.specs.declared.act.Act.TheVariants as act
+use Rattle.m3_model.specs.declared.answer.Answer.TheVariants as answer
 use Rattle.m3_model.specs.declared.placement.Assignment.{Assignment}
 use Rattle.m3_model.specs.declared.placement.Placement.{Placement}
 use Rattle.m3_model.specs.declared.placement.ShardState.TheVariants.{Initializing}
+use Rattle.placement_core.specs.Majorities.{IsMajority}
+use Rattle.placement_core.specs.NodeNames.{IsNamedBelow}
 use Rattle.placement_core.specs.Shards.{Shard, former}
 use Rattle.cluster_core.specs.Earlier.{last_place}
 use Rattle.cluster_core.specs.Joins.{HasStreamed}
-use Rattle.cluster_core.specs.Lists.{At, IsMajority}
+use Rattle.cluster_core.specs.Lists.{At}
 use Rattle.cluster_core.specs.declared.event.Event.{Event}
 use Rattle.cluster_core.specs.declared.event.Event.TheVariants as event
 use Rattle.told_by.specs.Spans.{Spans, IsEarlier}
@@ -24,17 +29,27 @@ pub record HasPlace (events : List Event) (before : ℕ) (place : Placement) : T
   pub there : At events place_at (event.Place place done)
   pub in_time : place_at < before
 
--- where these events end with a move of the shard to the node still under way: the turn is a bootstrap, and prints with the shard a majority
--- of the former replicas, each of which the node has streamed
-pub record PrintsPeers (past : List Event) (p : TurnPosition) (s y : ℕ) : Type 0 where
+-- a bootstrap that was answered ok, with the shards that turned available and their peers
+pub record IsBootstrapOf (p : TurnPosition) (available : List (ℕ × List ℕ)) : Type 0 where
+  pub node : List ℕ
+  pub asked : Option ℕ
+  pub act_is : p.turn.act ≡ act.Bootstrap node asked
+  pub place : Placement
+  pub version : ℕ
+  pub answered : p.turn.answer ≡ answer.Available available place version
+
+-- where these events end with a move of the shard to the node still under way, which this placement ends: the turn is the node's bootstrap, prints the placement, and
+-- with the shard a majority of the former replicas, by name, each of which the node has streamed
+pub record PrintsPeers (next : Placement) (past : List Event) (p : TurnPosition) (s y : ℕ) : Type 0 where
   pub available : List (ℕ × List ℕ)
-  pub bootstrap : IsBootstrapOf p available
+  pub bootstrap : IsBootstrapInto p next y available
   pub names : List ℕ
   pub printed : IsIn available (s, names)
   pub last : Placement
   pub last_is : last_place past ≡ Some last
   pub shard : Shard
   pub shard_is : At last.shards s shard
+  pub by_name : Ascends (IsNamedBelow last) names
   pub enough : IsMajority last.rf (former shard) names
   pub joining : Assignment
   pub joins : IsIn shard joining
@@ -64,6 +79,6 @@ pub record TellsPlacements (Here : TurnPosition → Type 0) (Mine : ℕ → Type
   -- none is earlier than one that a turn before printed: the versions of Places ascend
   pub not_earlier : (p q : TurnPosition) → Here p → Here q → IsEarlier p q → (was is : Placement) → printed p.turn.answer ≡ Some was → printed q.turn.answer ≡ Some is → was.version ≤ is.version
   -- each move that a Place ends
-  pub each_end : (i : ℕ) (place : Placement) (done : List (ℕ × ℕ)) → Mine i → 2 ≤ i → At events i (event.Place place done) → (d : ℕ × ℕ) → IsIn done d → PrintsPeers (take i events) (makers i) d.0 d.1
+  pub each_end : (i : ℕ) (place : Placement) (done : List (ℕ × ℕ)) → Mine i → 2 ≤ i → At events i (event.Place place done) → (d : ℕ × ℕ) → IsIn done d → PrintsPeers place (take i events) (makers i) d.0 d.1
   -- and each shard that a turn prints as turned available, by a Place of its own
   pub ends_printed : (p : TurnPosition) → Here p → EndsPrinted Mine events makers p

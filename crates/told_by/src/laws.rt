@@ -8,8 +8,9 @@ pub fn told_is_kept()
     ensures { IsKeptWhereTold }
 {}
 
-/// In a run of which a list tells that is legal as far as the disks tell, each node that turned available was joined by a
-/// bootstrap that prints a majority of the former replicas, and each acknowledgement names nodes that count.
+/// In a run of which a list tells that is legal as far as the disks tell, each node that turned available was joined by its
+/// own bootstrap, which led to the placement and prints a majority of the former replicas, and each acknowledgement names
+/// nodes that count.
 pub fn told_is_joined()
     ensures joined { (tells : Bool) → IsJoinedWhereTold tells }
     ensures acks { (tells : Bool) → AcksCountWhereTold tells }

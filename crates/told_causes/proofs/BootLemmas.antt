@@ -132,8 +132,8 @@ covered_begun start turns events legal told q at n s name stood last_there membe
     let own = names there.0 there.1 at_list.0 in
     let slot : IsCoveredSlot (take from events) node asked n s = record { of_node = record { place = stood; last = last_there; named = record { instance_ = own.instance_; stands = own.stands; holds = own.holds ∙ same } }; covers = covers } in
     let hears : HearsBegun (take from events) (InStretch events from ((told.spans).to q)) node asked =
-    subst (λ b. HearsBy start (take from events) (InStretch events from ((told.spans).to q)) q (act.Bootstrap node asked) b) answers
-    (subst (λ a. HearsBy start (take from events) (InStretch events from ((told.spans).to q)) q a q.turn.answer) acts ((told.tells).hears q at)) in
+    (subst (λ b. HearsBy start (take from events) (InStretch events from ((told.spans).to q)) q (act.Bootstrap node asked) b) answers
+    (subst (λ a. HearsBy start (take from events) (InStretch events from ((told.spans).to q)) q a q.turn.answer) acts ((told.tells).hears q at))).0 in
     let g = member_given stood s n member in
     let tenure = g.0 in
     let given = g.1 in

@@ -57,7 +57,7 @@ use Rattle.told_causes.proofs.BootLemmas.{boot_cause, boot_said}
 use Rattle.told_causes.proofs.DownLemmas.{down_cause, down_said}
 use Rattle.told_causes.proofs.FaultLemmas.{steps_faults}
 use Rattle.told_causes.proofs.RefusalLemmas.{or_cases, refused_law}
-use Rattle.told_causes.proofs.RunLemmas.{who_served}
+use Rattle.told_causes.proofs.RunLemmas.{who_served, who_served_begun}
 
 -- ---- windows
 
@@ -245,6 +245,7 @@ acks_said start turns events legal told p in_run halts names ns id t v level ver
       counted = λ s asked node m. h.counted s (subst (λ (c : Call). AsksShard start p h.place c.id s) is asked) node m;
       by_name = h.by_name;
       reached = λ node m. let one = h.served shard asks node m in served_reached start events told.spans p h.place shard node one (who_served start turns events legal told halts p in_run names h.place (record { call = h.call; of_act = h.of_call; may_use = h.may_use }) shard node one);
+      begun = λ s asked node m. who_served_begun start turns events legal told halts p in_run (subst (λ a. is_call a ≡ true) (sym acts) refl) names h.place (record { call = h.call; of_act = h.of_call; may_use = h.may_use }) s node (h.served s (subst (λ (c : Call). AsksShard start p h.place c.id s) is asked) node m);
       enough = subst (λ (c : Call). c.needed (h.place).rf ≤ length nodes) (sym is) h.enough;
       takes =
           let first = some_node nodes h.some in

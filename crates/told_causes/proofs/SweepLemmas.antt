@@ -25,8 +25,8 @@ use Rattle.cluster_core.specs.declared.event.StepReply.TheVariants as reply
 use Rattle.cluster_core.specs.declared.replica_state.ReplicaState.{ReplicaState}
 use Rattle.cluster_core.proofs.TraceLemmas.{lawful_step}
 use Rattle.transcripts.specs.Faults.{Fault, Failing, Damaged}
-use Rattle.transcripts.specs.Reasons.{MayFail}
 use Rattle.transcripts.specs.Record.{TurnPosition}
+use Rattle.transcripts.specs.Sweeps.{MayNotKeepUp}
 use Rattle.told_by.specs.Hears.{HearsReason, IsSweepCall}
 use Rattle.told_by.specs.Told.{ToldBy}
 use Rattle.told_causes.specs.Calls.{Within}
@@ -83,7 +83,7 @@ module _ {tells : Bool} (start : Option MetaState) (turns : List Turn) (events :
   refused : (node shard i : ℕ) (c : StepCall) (why : Reason) → At events i (event.Step node shard c (reply.Refused why)) → ReplicaMayRefuse tells (take i events) shard (replica node shard (take i events)) c why
   refused node shard i c why there = refused_law tells (take i events) node shard (replica node shard (take i events)) c why (lawful_step events known.legal i node shard c (reply.Refused why) there)
 
-  said : (shard node : ℕ) → IsIn (nodes_of (shard_at place shard)) node → (why : Reason) → HearsReason (Within events told.spans p) (IsSweepCall p.turn.act) node shard why → MayFail tells faults start p place shard node why
+  said : (shard node : ℕ) → IsIn (nodes_of (shard_at place shard)) node → (why : Reason) → HearsReason (Within events told.spans p) (IsSweepCall p.turn.act) node shard why → MayNotKeepUp tells faults start p place shard node why
   said shard node among reason.Memory h = tt
   said shard node among reason.Down h =
       let steady = (known.explained shard node among).0 in

@@ -17,10 +17,15 @@ use Rattle.told_by.specs.Told.{ToldBy}
 use Rattle.told_causes.specs.Calls.{IsUsedBy, ServedAreNamed, Within}
 use Rattle.told_causes.specs.Standing.{HaltsAlone}
 
--- the replica took a point, or answered a read
+-- the replica took a point, answered a read, was fenced, gave a page, or did its upkeep
 abbrev pub Serves : StepCall → StepReply → Type 0
 Serves (call.Put client number rules version point) reply.Done = ⊤
 Serves (call.Read client number rules version pick from to) (reply.Found series) = ⊤
+Serves (call.Fence version) reply.Done = ⊤
+Serves (call.Page from) (reply.Paged page) = ⊤
+Serves (call.Tick rules) (reply.Count n) = ⊤
+Serves (call.Flush rules) (reply.Count n) = ⊤
+Serves call.Snapshot (reply.Count n) = ⊤
 Serves _ _ = ⊥
 
 -- Where a replica serves within a turn's stretch, its node isn't stopped at that turn.

@@ -10,8 +10,8 @@ use Rattle.m3_model.specs.declared.turn.Turn.{Turn}
 use Rattle.placement_core.specs.Shards.{nodes_of, shard_at}
 use Rattle.cluster_core.specs.Legal.{Legal}
 use Rattle.cluster_core.specs.declared.event.Event.{Event}
-use Rattle.transcripts.specs.Reasons.{MayFail}
 use Rattle.transcripts.specs.Record.{TurnPosition, IsTurnPosition}
+use Rattle.transcripts.specs.Sweeps.{MayNotKeepUp}
 use Rattle.told_by.specs.Hears.{HearsReason, IsSweepCall}
 use Rattle.told_by.specs.Told.{ToldBy}
 use Rattle.told_causes.specs.Boot.{IsKnownMember}
@@ -38,4 +38,4 @@ abbrev pub SweepsAreSaid : Bool → Type 0
 SweepsAreSaid tells =
     (start : Option MetaState) (turns : List Turn) (events : List Event) (told : ToldBy start turns events) (p : TurnPosition) (place : Placement) → IsKnownSweep tells start turns events told p place
     → (shard node : ℕ) → IsIn (nodes_of (shard_at place shard)) node → (why : Reason) → HearsReason (Within events told.spans p) (IsSweepCall p.turn.act) node shard why
-    → MayFail tells (faults_told told.ends events (length turns)) start p place shard node why
+    → MayNotKeepUp tells (faults_told told.ends events (length turns)) start p place shard node why

@@ -127,8 +127,10 @@ module _ (start : Option MetaState) (turns : List Turn) (place : Placement) (nam
   may_make past last (event.Ask (asked.Step n s (call.Page from))) h = (h.0, streams past last n s h.0 h.1)
   may_make past last (event.Ask (asked.Step n s (call.Merge page))) h = covered past last n s h.0 h.1
   may_make past last (event.Step n s (call.Begin tenure) a) h =
-      subst (λ k. MayMake start past own (event.Step k s (call.Begin tenure) a)) (sym h.0)
-      (record { opens = tt; place = place; last = last; runs = record { instance_ = (meets.named).instance_; stands = (meets.named).stands; holds = ap (is_stopped (inner_turns turns)) (meets.named).holds ∙ meets.runs } })
+      subst (λ k. MayMake start past own (event.Step k s (call.Begin tenure) a)) (sym h.0) (
+        record { opens = tt; place = place; last = last; runs = record { instance_ = (meets.named).instance_; stands = (meets.named).stands; holds = ap (is_stopped (inner_turns turns)) (meets.named).holds ∙ meets.runs } },
+        record { slot = record { of_node = named_over past place last meets.named; covers = h.1 }; assigned = subst (λ k. IsAssigned place k s tenure) h.0 h.2 },
+      )
   may_make past last (event.Step n s (call.Fence version) a) h = tt
   may_make past last (event.Step n s (call.Page from) a) h = tt
   may_make past last (event.Step n s (call.Merge page) a) h = tt

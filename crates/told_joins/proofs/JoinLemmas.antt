@@ -44,6 +44,7 @@ use Rattle.told_joins.specs.Lines.{AddsHeldUp, AnswersHeldUp, AreOpened, Leaves,
 use Rattle.peer_streams.specs.Streams.{IsRefusedCall, fenced_pages, replied}
 use Rattle.told_joins.proofs.AskLemmas.{MayHappen, all_happen, ends_covered, held_each, part_each}
 use Rattle.told_joins.proofs.FrontLemmas.{answered, front_legal, last_lawful, left_last}
+use Rattle.told_joins.proofs.MarkLemmas.{hears_streamed}
 use Rattle.told_joins.proofs.LineLemmas.{PrintsNone, front_serves, hears_begun, in_stretch}
 use Rattle.told_joins.proofs.MoveLemmas.{moved_serves}
 
@@ -88,7 +89,7 @@ module _ {tells : Bool} (past : List Record) (start : Option MetaState) (turns :
         front_serves past start turns unanswered later events taking was told place last name only y meets ok (added_by opened ++ []) may
         (λ e m. elim (IsIn-append_cases (added_by opened) [] e m) as (λ _. MayHappen place y only e) [ inl here ↦ all_happen place y only opened [] all e here | inr nothing ↦ absurd nothing ])
         (prints_none place (joined_of opened) next none same)
-        (hears_begun place (lawful_of ok (added_by opened ++ []) may) y events (added_by opened ++ []) name only opened [] last meets.named all refl) tt
+        (hears_begun place (lawful_of ok (added_by opened ++ []) may) y events (added_by opened ++ []) name only opened [] last meets.named all refl, hears_streamed place (lawful_of ok (added_by opened ++ []) may) y only opened [] all events (added_by opened ++ []) [] refl) tt
         (answered start turns place name only y meets ok (length (events ++ (added_by opened ++ []))) kind)
       where
         kind : IsOfKind [] start (position_after turns a ok) a ok

@@ -209,7 +209,7 @@ module _ {tells : Bool} (past : List Record) (start : Option MetaState) (turns :
     no_step : (i n s : ℕ) (c : StepCall) (r : StepReply) → Adds events more i (event.Step n s c r) → MayHappen place y only (event.Step n s c r)
     no_step i n s c r adds = each (event.Step n s c r) (among_back events more i (event.Step n s c r) adds.1 adds.0)
 
-    front_line : HearsBy start events (InStretch whole (length events) (length whole)) own a b → PlainLine start turns events a b more
+    pub front_line : HearsBy start events (InStretch whole (length events) (length whole)) own a b → PlainLine start turns events a b more
     front_line hears = record {
       makes = record {
         makes = λ i e le two at. may_make start turns place name only y meets b (take i whole) (last_at i e le at) e (each e (among_back events more i e at le));

@@ -13,9 +13,10 @@ use Rattle.m3_model.specs.declared.placement.Placement.{Placement}
 use Rattle.m3_model.specs.declared.placement.ShardState.TheVariants.{Available}
 use Rattle.m3_model.specs.declared.reason.Reason.{Reason}
 use Rattle.m3_model.proofs.Ascending.{Ascends-filter, Ascends-weaken}
-use Rattle.m3_model.proofs.Lists.{IsIn-filter, IsIn-filter_passes, IsIn-flat_map}
-use Rattle.m3_model.proofs.MemberLemmas.{IsIn-append_left, IsIn-filter_map, IsIn-map, filter_map-IsIn, map-IsIn}
+use Rattle.m3_model.proofs.Lists.{IsIn-filter, IsIn-filter_passes, IsIn-flat_map, flat_map-IsIn}
+use Rattle.m3_model.proofs.MemberLemmas.{IsIn-append_left, IsIn-append_right, IsIn-filter_map, IsIn-map, filter_map-IsIn, map-IsIn}
 use Rattle.placement_core.specs.Lawful.{IsLawful}
+use Rattle.placement_core.specs.Majorities.{IsMajority}
 use Rattle.placement_core.specs.NodeNames.{IsNamedBelow}
 use Rattle.placement_core.specs.Shards.{Shard, former}
 use Rattle.placement_core.specs.Steps.{Ends, done_at}
@@ -26,18 +27,20 @@ use Rattle.placement_core.proofs.ListLemmas.{IsIn-from_Any}
 use Rattle.placement_core.proofs.OrderLemmas.{ascends-map}
 use Rattle.placement_plan.specs.Plans.{AreJoining, EndsAsNamed, IsAvailable, IsJoiningPair}
 use Rattle.cluster_core.specs.Joins.{HasStreamed}
-use Rattle.cluster_core.specs.Lists.{IsMajority}
 use Rattle.cluster_core.specs.declared.event.Event.{Event}
+use Rattle.cluster_core.specs.declared.event.Event.TheVariants as event
 use Rattle.cluster_core.specs.declared.event.StepCall.TheVariants as call
 use Rattle.cluster_core.specs.declared.event.StepReply.TheVariants as reply
 use Rattle.cluster_core.proofs.ListLemmas.{at_in}
 use Rattle.transcripts.specs.Placements.{has_replica}
 use Rattle.transcripts.specs.Waiting.{is_covering}
+use Rattle.told_by.specs.Hears.{Happens, HearsStreamed, InStretch}
 use Rattle.told_by.specs.Steps.{EndsGone}
 use Rattle.told_causes.proofs.WaitLemmas.{member_given}
 use Rattle.peer_streams.specs.Joins.{AskedPeer, begun_with, HasJoinedBy, Join, Opened, StaysAsItWas, is_streamed}
 use Rattle.told_joins.specs.Lines.{AreOpened, added_by, done_by, ends_by, joined_of, source_ends}
 use Rattle.peer_streams.specs.Streams.{IsBroken, IsWhole, fenced_pages, replied}
+use Rattle.told_joins.proofs.LineLemmas.{in_stretch}
 use Rattle.told_joins.proofs.ListLemmas.{ascends_front, ascends_of, below_differs, part_of}
 use Rattle.peer_streams.proofs.StreamLemmas.{has_streamed}
 
@@ -153,6 +156,11 @@ module _ (place : Placement) (lawful : IsLawful place) (y : ℕ) (only : Option 
 
   -- ---- who streamed
 
+  -- they stand by name
+  pub are_by_name : (o : Opened) (j : Join) (h : HasJoinedBy place o.shard y j o.added) → Ascends (IsNamedBelow place) j.peers
+  are_by_name o j h = subst (Ascends (IsNamedBelow place)) (sym h.names) (ascends-map (IsNamedBelow place) node (filter is_streamed h.peers) (Ascends-filter (λ (a b : AskedPeer). IsNamedBelow place (node a) (node b)) is_streamed h.peers
+      (ascends_of (IsNamedBelow place) node h.peers (ascends_front (IsNamedBelow place) (map node h.peers) h.left (h.asked).by_name))))
+
   -- they are a majority of the former replicas
   pub are_enough : (o : Opened) (j : Join) (h : HasJoinedBy place o.shard y j o.added) → IsMajority place.rf (former (h.given).shard) j.peers
   are_enough o j h = record {
@@ -179,3 +187,27 @@ module _ (place : Placement) (lawful : IsLawful place) (y : ℕ) (only : Option 
           subst (HasStreamed o.shard y (h.joining).tenure p.node)
           (sym (parts_of events (added_by opened) a.0 o.added a.1 (begun_with y o.shard (h.joining).tenure h.fence h.points) (flat_map (λ (x : AskedPeer). x.added) h.peers) b.0 p.added b.1 (fenced_pages o.shard p.node y (h.joining).tenure whole.pages) rest a.2 h.are b.2 whole.are))
           (has_streamed o.shard p.node y (h.joining).tenure h.fence h.points (events ++ a.0) b.0 whole.pages (b.1 ++ (a.1 ++ rest)) whole.cover)
+
+  -- each was fenced in the line
+  pub fenced_each : (o : Opened) (j : Join) (h : HasJoinedBy place o.shard y j o.added) (q : ℕ) → IsIn j.peers q → IsIn o.added (event.Step q o.shard (call.Fence (h.joining).tenure) reply.Done)
+  fenced_each o j h q among =
+      let p = IsIn-map (λ (x : AskedPeer). x.node) (filter is_streamed h.peers) q (subst (λ xs. IsIn xs q) h.names among) in
+      let of_all = IsIn-filter is_streamed h.peers p.0 p.1 in
+      let fence : Event = event.Step q o.shard (call.Fence (h.joining).tenure) reply.Done in
+      let fenced : IsIn (p.0).added fence = subst (λ n. IsIn (p.0).added (event.Step n o.shard (call.Fence (h.joining).tenure) reply.Done)) p.2 (by p.0 (p.0).why (IsIn-filter_passes is_streamed h.peers p.0 p.1) ((h.asked).each p.0 of_all)) in
+      subst (λ xs. IsIn xs fence) (sym h.are) (IsIn-append_right (begun_with y o.shard (h.joining).tenure h.fence h.points) (flat_map (λ (x : AskedPeer). x.added) h.peers) fence (flat_map-IsIn (λ (x : AskedPeer). x.added) h.peers p.0 fence of_all fenced))
+    where
+      by : (p : AskedPeer) → (why : Option Reason) → is_none why ≡ true → MatchOption why (IsWhole o.shard p.node y (h.joining).tenure p.added) (λ w. IsBroken o.shard p.node y (h.joining).tenure w p.added)
+          → IsIn p.added (event.Step p.node o.shard (call.Fence (h.joining).tenure) reply.Done)
+      by p (Some why) none whole = cc
+      by p None none whole = subst (λ xs. IsIn xs (event.Step p.node o.shard (call.Fence (h.joining).tenure) reply.Done)) (sym whole.are) (inr (inl refl))
+
+  -- so the line's turn hears of each that it prints
+  pub hears_streamed : (events more rest : List Event) → more ≡ added_by opened ++ rest → HearsStreamed (InStretch (events ++ more) (length events) (length (events ++ more))) (joined_of opened)
+  hears_streamed events more rest adds x m q among =
+      let w = joined_in opened x m in
+      let h = how w.one w.join w.among w.joined in
+      let here = fenced_each w.one w.join h q (subst (λ (z : ℕ × List ℕ). IsIn z.1 q) (sym w.is) among) in
+      let fence : Event = event.Step q (w.one).shard (call.Fence (h.joining).tenure) reply.Done in
+      let in_more : IsIn more fence = subst (λ xs. IsIn xs fence) (sym adds) (IsIn-append_left (added_by opened) rest fence (flat_map-IsIn (λ (z : Opened). z.added) opened w.one fence w.among here)) in
+      ((h.joining).tenure, subst (λ (z : ℕ × List ℕ). Happens (InStretch (events ++ more) (length events) (length (events ++ more))) (event.Step q z.0 (call.Fence (h.joining).tenure) reply.Done)) w.is (in_stretch events more fence in_more))

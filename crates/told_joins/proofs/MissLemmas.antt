@@ -1,5 +1,5 @@
 -- The line of a bootstrap that ends no move: too few former replicas streamed whole, or no version is left.
-use Rattle.std.proofs.Common.{◌≡◌, ◌≢◌, ◌≤◌, ◌+◌, ℕ, suc, Bool, true, false, List, [], ◌∷◌, ◌++◌, length, map, filter, Option, Some, None, refl, sym, ap, subst, inl, inr, arith, length-append}
+use Rattle.std.proofs.Common.{◌≡◌, ◌≢◌, ◌≤◌, ◌+◌, ℕ, suc, Bool, true, false, List, [], ◌∷◌, ◌++◌, length, map, filter, Option, Some, None, refl, sym, ap, subst, inl, inr, arith, length-append, ◌∙◌}
 use Rattle.std.specs.Prelude.{slice_get, IsTrue, MatchOption, is_none, option_map, if◌then◌else◌}
 use Rattle.std.specs.List.{cons_option, flat_map}
 use Rattle.std.proofs.lemmas.List.{append-nil, length-map}
@@ -20,7 +20,7 @@ use Rattle.m3_model.specs.declared.turn.Request.{Request}
 use Rattle.m3_model.specs.declared.turn.Turn.{Turn}
 use Rattle.m3_model.proofs.Ascending.{Ascends-weaken}
 use Rattle.m3_model.proofs.Lists.{flat_map-IsIn}
-use Rattle.m3_model.proofs.MemberLemmas.{IsIn-append_left, IsIn-append_right, IsIn-filter_map, map-IsIn}
+use Rattle.m3_model.proofs.MemberLemmas.{IsIn-append_left, IsIn-append_right, IsIn-filter_map, IsIn-map, filter_map-IsIn, map-IsIn}
 use Rattle.placement_core.specs.Lawful.{IsLawful}
 use Rattle.placement_core.specs.NodeNames.{IsNamedBelow}
 use Rattle.placement_core.specs.Shards.{Shard, former, holders, is_steady, shard_at}
@@ -35,26 +35,32 @@ use Rattle.cluster_core.proofs.ListLemmas.{at_in}
 use Rattle.cluster_core.proofs.QuorumLemmas.{distinct_within}
 use Rattle.transcripts.specs.Caused.{kept_after}
 use Rattle.transcripts.specs.Deliveries.{LateMessage}
+use Rattle.transcripts.specs.Fates.{IsRunningAt}
 use Rattle.transcripts.specs.Faults.{Fault}
+use Rattle.transcripts.specs.Joined.{ArePeers}
 use Rattle.transcripts.specs.Peers.{IsJoinedBy}
+use Rattle.transcripts.specs.Placements.{placement_after, start_placement}
 use Rattle.transcripts.specs.Reasons.{IsShown}
-use Rattle.transcripts.specs.Record.{Record, TurnPosition, inner_turns, line_of}
+use Rattle.transcripts.specs.Record.{AreSomeOf, InnerTurn, Record, TurnPosition, inner_turns, line_of}
 use Rattle.transcripts.specs.Waiting.{is_covering}
-use Rattle.told_by.specs.Hears.{HearsPeers, HearsReason, InStretch, IsStreamCall}
-use Rattle.told_by.specs.Lines.{position_after}
+use Rattle.told_by.specs.Hears.{Happens, HearsPeers, HearsReason, InStretch, IsStreamCall}
+use Rattle.told_by.specs.Lines.{PlainLine, position_after}
+use Rattle.told_by.proofs.LeaveLemmas.{place_there}
 use Rattle.told_causes.proofs.WaitLemmas.{shard_is}
-use Rattle.told_runs.specs.Answers.{IsOfKind}
+use Rattle.told_runs.specs.Answers.{HearsFenced, IsOfKind}
 use Rattle.told_runs.specs.Lines.{IsToldAndServed, delivered_on}
-use Rattle.peer_streams.specs.Joins.{AreAsked, AskedPeer, begun_with, is_streamed, reasons_of, streamed_of}
+use Rattle.told_runs.proofs.JoinedLemmas.{former_there}
+use Rattle.told_runs.proofs.RunningLemmas.{runs_there}
+use Rattle.peer_streams.specs.Joins.{AreAsked, AskedPeer, HasJoinedBy, Opened, begun_with, is_streamed, reasons_of, streamed_of}
 use Rattle.told_joins.specs.Laws.{MissedJoinsServe, UnmarkedJoinsServe}
 use Rattle.told_joins.specs.Lines.{AddsMissed, AddsUnmarked, MayAdd, MeetsBoot, added_by, missed_answer}
 use Rattle.peer_streams.specs.Streams.{IsBroken, IsRefusedCall, IsWhole, fenced_pages}
 use Rattle.told_joins.proofs.AskLemmas.{MayHappen, ends_covered, missed_each, unmarked_each}
 use Rattle.told_joins.proofs.FrontLemmas.{answered}
 use Rattle.told_joins.proofs.JoinLemmas.{last_of, lawful_of}
-use Rattle.told_joins.proofs.LineLemmas.{front_serves, in_stretch}
+use Rattle.told_joins.proofs.LineLemmas.{PrintsNone, front_line, front_serves, in_stretch}
 use Rattle.told_joins.proofs.ListLemmas.{ascends_of, below_differs}
-use Rattle.told_joins.proofs.MarkLemmas.{covers_one, how, joined_in}
+use Rattle.told_joins.proofs.MarkLemmas.{WasJoined, are_by_name, are_enough, covers_one, fenced_each, how, joined_in}
 
 -- ---- counts
 
@@ -126,6 +132,12 @@ all_asked place lawful s y shard tenure peers there asked =
 
 -- ---- what is heard
 
+-- a turn that is alone in its line sees the placement that stands before it
+stands_alone : (start : Option MetaState) (turns : List Turn) (place moving : Placement) → placement_after (start_placement start) (inner_turns turns) ≡ Some place → (seen others : List InnerTurn) → AreSomeOf others [] → seen ≡ inner_turns turns ++ others
+    → placement_after (start_placement start) seen ≡ Some moving → moving ≡ place
+stands_alone start turns place moving stood seen [] some are stands = same_Some moving place (sym stands ∙ ap (placement_after (start_placement start)) (are ∙ append-nil (inner_turns turns)) ∙ stood)
+stands_alone start turns place moving stood seen (x ∷ others) some are stands = absurd some
+
 module _ (s q y tenure : ℕ) where
   call_there : (c : StepCall) (why : Reason) (es : List Event) → IsRefusedCall q s c why es → (why ≡ reason.Memory → ⊥) → IsIn es (event.Step q s c (reply.Refused why))
   call_there c why es (inl is) not = subst (λ xs. IsIn xs (event.Step q s c (reply.Refused why))) (sym is) (inr (inl refl))
@@ -196,6 +208,26 @@ module _ {tells : Bool} (past : List Record) (start : Option MetaState) (turns :
             subst (λ (z : ℕ × Reason). HearsReason Here (IsStreamCall (h.joining).tenure) z.0 s z.1) w.is
             (heard_so s (w.one).node y (h.joining).tenure Here (w.one).added (here_of w.one w.among) w.why broken (λ damage e. adds.shown (w.one).node damage (subst (λ why. IsIn (reasons_of peers) ((w.one).node, why)) e among)))
 
+    -- one that streamed was fenced
+    fenced_by : (p : AskedPeer) → IsIn peers p → (IsIn (map (λ r. r.0) (reasons_of peers)) p.node → ⊥) → (why : Option Reason) → p.why ≡ why → (version : ℕ) × Happens Here (event.Step p.node s (call.Fence version) reply.Done)
+    fenced_by p among unnamed (Some why) is = absurd (unnamed (map-IsIn (λ (r : ℕ × Reason). r.0) (reasons_of peers) (p.node, why) (filter_map-IsIn with_reason peers p (p.node, why) among (ap (option_map (λ (w : Reason). (p.node, w))) is))))
+    fenced_by p among unnamed None is =
+        let tenure = ((adds.misses).joining).tenure in
+        let fence : Event = event.Step p.node s (call.Fence tenure) reply.Done in
+        let whole : IsWhole s p.node y tenure p.added =
+        subst (λ o. MatchOption o (IsWhole s p.node y tenure p.added) (λ why. IsBroken s p.node y tenure why p.added)) is (((adds.misses).asked).each p among) in
+        (tenure, here_of p among fence (subst (λ xs. IsIn xs fence) (sym whole.are) (inr (inl refl))))
+
+    -- so each former replica that has no reason was
+    fenced : HearsFenced start Here (position_after turns a missed) (reasons_of peers) s
+    fenced moving stands q among unnamed =
+        let h = adds.misses in
+        let same : moving ≡ place = stands_alone start turns place moving meets.stands stands.0 (stands.1).others (stands.1).some_of (stands.1).are stands.2 in
+        let is_former : IsIn (former (h.given).shard) q = subst (λ xs. IsIn (former xs) q) (ap (λ (x : Placement). shard_at x s) same ∙ shard_is place.shards s (h.given).shard (h.given).there) among in
+        let one = IsIn-map node peers q (subst (λ xs. IsIn xs q) (append-nil (map node peers)) (((h.asked).are_former q).1 is_former)) in
+        let done = fenced_by one.0 one.1 (λ m. unnamed (subst (IsIn (map (λ r. r.0) (reasons_of peers))) one.2 m)) (one.0).why refl in
+        (done.0, subst (λ n. Happens Here (event.Step n s (call.Fence done.0) reply.Done)) one.2 done.1)
+
     hears : HearsPeers events Here s (reasons_of peers)
     hears = let h = adds.misses in record {
       place = place;
@@ -241,17 +273,40 @@ module _ {tells : Bool} (past : List Record) (start : Option MetaState) (turns :
     missed_so : IsToldAndServed tells taking (delivered_on turns was (λ p. [])) past start (turns ++ line_of a missed ∷ []) later (events ++ more)
     missed_so =
         front_serves past start turns unanswered later events taking was told place last name only y meets missed more may each
-        (record { no_acks = λ nodes e. cc; no_found = refl; printed_is = λ p e. cc; no_moves = λ available p version e. cc }) hears tt (answered start turns place name only y meets missed (length (events ++ more)) kind)
+        (record { no_acks = λ nodes e. cc; no_found = refl; printed_is = λ p e. cc; no_moves = λ available p version e. cc }) hears fenced (answered start turns place name only y meets missed (length (events ++ more)) kind)
 
   module _ (kept : ℕ) (kept_is : kept ≡ kept_after start (inner_turns turns) place) (more : List Event) (adds : AddsUnmarked place y only kept more) (may : MayAdd tells past start turns events (line_of a (answer.Limit MOST_VERSIONS)) more) where
     abbrev limit : Answer
     limit = answer.Limit MOST_VERSIONS
 
+    last_is : last_place events ≡ Some place
+    last_is = last_of past start turns unanswered later events taking was told place name only y meets limit more may
+
+    low : IsLawful place
+    low = lawful_of past start turns unanswered later events taking was told place name only y meets limit more may
+
+    prints : PrintsNone place limit
+    prints = record { no_acks = λ nodes e. cc; no_found = refl; printed_is = λ p e. cc; no_moves = λ available p version e. cc }
+
+    line : PlainLine start turns events a limit more
+    line = front_line past start turns unanswered later events taking was told place last_is name only y meets limit more may (unmarked_each place y only kept more adds) prints tt
+
+    -- those that the node streamed from were fenced in the line, so they run
+    peers_run : (w : WasJoined adds.opened adds.joined) (h : HasJoinedBy place (w.one).shard y w.join (w.one).added) → (q : ℕ) → IsIn (w.join).peers q → IsRunningAt (position_after turns a limit) place q
+    peers_run w h q among =
+        let enough = are_enough place low y only adds.opened [] adds.all w.one w.join h in
+        let one = former_there place low (w.one).shard (h.given).shard (h.given).there q (enough.within q among) in
+        let placed = place_there events place last_is in
+        let fence : Event = event.Step q (w.one).shard (call.Fence (h.joining).tenure) reply.Done in
+        let added : IsIn more fence = subst (λ xs. IsIn xs fence) (sym adds.adds) (flat_map-IsIn (λ (z : Opened). z.added) adds.opened w.one fence w.among (fenced_each place low y only adds.opened [] adds.all w.one w.join h q among)) in
+        runs_there past start turns unanswered events taking was told a limit more line may.legal (λ halts. halts) placed.0 place placed.1 placed.2 q one.0 one.1 (w.one).shard (call.Fence (h.joining).tenure) reply.Done tt (in_stretch events more fence added)
+
     lacks : IsOfKind [] start (position_after turns a limit) a limit
     lacks =
-        let low = lawful_of past start turns unanswered later events taking was told place name only y meets limit more may in
         let w = joined_in adds.opened adds.joined adds.among in
         let h = how place low y only adds.opened [] adds.all w.one w.join w.among w.joined in
+        let enough = are_enough place low y only adds.opened [] adds.all w.one w.join h in
+        let same : shard_at place (w.one).shard ≡ (h.given).shard = shard_is place.shards (w.one).shard (h.given).shard (h.given).there in
         record {
           turns = inner_turns turns;
           after = record { others = []; some_of = tt; are = sym (append-nil (inner_turns turns)) };
@@ -263,19 +318,24 @@ module _ {tells : Bool} (past : List Record) (start : Option MetaState) (turns :
             named = meets.named;
             covers = covers_one place low y only adds.opened [] adds.all w.one w.among;
             joining = h.joining;
-            among = subst (λ xs. IsIn xs h.joining) (sym (shard_is place.shards (w.one).shard (h.given).shard (h.given).there)) (h.given).among;
+            among = subst (λ xs. IsIn xs h.joining) (sym same) (h.given).among;
             of_node = (h.given).to_node;
             is_joining = (h.joins).0;
           };
+          peers = (w.join).peers;
+          are_peers = subst (λ xs. ArePeers (position_after turns a limit) place xs (w.join).peers) (sym same) (record {
+            by_name = are_by_name place low y only adds.opened [] adds.all w.one w.join h;
+            within = enough.within;
+            running = peers_run w h;
+            enough = enough.enough;
+          });
           limit_is = refl;
           reached = subst (λ n. MOST_VERSIONS ≤ n) kept_is adds.reached;
         }
 
     unmarked_so : IsToldAndServed tells taking (delivered_on turns was (λ p. [])) past start (turns ++ line_of a limit ∷ []) later (events ++ more)
     unmarked_so =
-        front_serves past start turns unanswered later events taking was told place (last_of past start turns unanswered later events taking was told place name only y meets limit more may) name only y meets limit more may
-        (unmarked_each place y only kept more adds)
-        (record { no_acks = λ nodes e. cc; no_found = refl; printed_is = λ p e. cc; no_moves = λ available p version e. cc }) tt tt (answered start turns place name only y meets limit (length (events ++ more)) lacks)
+        front_serves past start turns unanswered later events taking was told place last_is name only y meets limit more may (unmarked_each place y only kept more adds) prints tt tt (answered start turns place name only y meets limit (length (events ++ more)) lacks)
 
 pub missed_joins_serve : {tells : Bool} → MissedJoinsServe tells
 missed_joins_serve {tells} past start turns unanswered later events taking was told place name only y b more meets may line =

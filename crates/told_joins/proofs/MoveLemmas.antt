@@ -51,7 +51,7 @@ use Rattle.told_joins.specs.Lines.{AreOpened, MayAdd, MeetsBoot, added_by, done_
 use Rattle.told_joins.proofs.AskLemmas.{MayHappen, all_happen}
 use Rattle.told_joins.proofs.FrontLemmas.{KeepsPlace, answered, covered, happens_changes, happens_keeps, may_make, place_kept, some_events, still_last}
 use Rattle.told_joins.proofs.LineLemmas.{boot_plain, by_plain, hears_begun}
-use Rattle.told_joins.proofs.MarkLemmas.{are_enough, are_joining, covers_done, covers_joined, ends_gone, how, joined_ascend, joined_in, streamed_each, up}
+use Rattle.told_joins.proofs.MarkLemmas.{are_by_name, are_enough, are_joining, covers_done, covers_joined, ends_gone, hears_streamed, how, joined_ascend, joined_in, streamed_each, up}
 
 module _ (place : Placement) (lawful : IsLawful place) (start : Option MetaState) (turns : List Turn) (events : List Event) (last : last_place events ≡ Some place) (name : List ℕ) (only : Option ℕ) (y : ℕ) (meets : MeetsBoot start turns place name only y)
     (opened : List Opened) (all : AreOpened place y only opened []) (next : Placement) (available : IsAvailable place (done_by y (joined_of opened)) next) where
@@ -150,21 +150,29 @@ module _ (place : Placement) (lawful : IsLawful place) (start : Option MetaState
   -- ---- what the turn may make
 
   -- whom it prints with each shard of which the move ends
-  prints_peers : (d : ℕ × ℕ) → IsIn done d → PrintsPeers ((events ++ front) ++ asking ∷ []) own d.0 d.1
+  prints_peers : (d : ℕ × ℕ) → IsIn done d → PrintsPeers next ((events ++ front) ++ asking ∷ []) own d.0 d.1
   prints_peers d m =
       let x = IsIn-map (λ (z : ℕ × List ℕ). (z.0, y)) (joined_of opened) d m in
       let w = joined_in opened x.0 x.1 in
       let h = how place lawful y only opened [] all w.one w.join w.among w.joined in
       let as_events : events ++ (front ++ asking ∷ []) ≡ (events ++ front) ++ asking ∷ [] = sym (append_assoc events front (asking ∷ [])) in
-      let one : PrintsPeers ((events ++ front) ++ asking ∷ []) own (w.one).shard y = record {
+      let one : PrintsPeers next ((events ++ front) ++ asking ∷ []) own (w.one).shard y = record {
         available = joined_of opened;
-        bootstrap = record { node = name; asked = only; act_is = refl; place = next; version = next.version; answered = refl };
+        bootstrap = record {
+          name = name;
+          asked = only;
+          act_is = refl;
+          named = record { instance_ = (meets.named).instance_; stands = ap (λ is. slice_get is y) available.instances ∙ (meets.named).stands; holds = (meets.named).holds };
+          version = next.version;
+          answered = refl;
+        };
         names = (w.join).peers;
         printed = subst (IsIn (joined_of opened)) (sym w.is) x.1;
         last = place;
         last_is = last_asked 1;
         shard = (h.given).shard;
         shard_is = (h.given).there;
+        by_name = are_by_name place lawful y only opened [] all w.one w.join h;
         enough = are_enough place lawful y only opened [] all w.one w.join h;
         joining = h.joining;
         joins = (h.given).among;
@@ -172,7 +180,7 @@ module _ (place : Placement) (lawful : IsLawful place) (start : Option MetaState
         is_joining = (h.joins).0;
         streamed = λ q among. subst (HasStreamed (w.one).shard y (h.joining).tenure q) as_events (streamed_each place lawful y only opened [] all w.one w.join w.among h events (asking ∷ []) q among);
       } in
-      subst (λ (e : ℕ × ℕ). PrintsPeers ((events ++ front) ++ asking ∷ []) own e.0 e.1) (ap (λ (z : ℕ × List ℕ). (z.0, y)) w.is ∙ x.2) one
+      subst (λ (e : ℕ × ℕ). PrintsPeers next ((events ++ front) ++ asking ∷ []) own e.0 e.1) (ap (λ (z : ℕ × List ℕ). (z.0, y)) w.is ∙ x.2) one
 
   makes_at : (j : ℕ) (e : Event) → At marked j e → MayMake start ((events ++ front) ++ take j marked) own e
   makes_at zero e at = subst (MayMake start ((events ++ front) ++ []) own) (same_Some _ e at)
@@ -281,7 +289,7 @@ module _ (place : Placement) (lawful : IsLawful place) (start : Option MetaState
           | inr h ↦ subst (λ es. MayMake start es own e) (sym h.before) (makes_at h.j e h.there)
         ];
         restarts = λ i n s r le two at. absurd (no_restart i n s r le at);
-        hears = hears_begun place lawful y events more name only opened marked last meets.named all refl;
+        hears = (hears_begun place lawful y events more name only opened marked last meets.named all refl, hears_streamed place lawful y only opened [] all events more marked refl);
       };
       plain = boot_plain name only b (λ nodes e. cc) refl;
       opened = inl (some_events events place last);

@@ -1,5 +1,5 @@
 -- Why each answer of a run is what it is, put together.
-use Rattle.std.proofs.Common.{◌≡◌, ◌≤◌, ◌<◌, ℕ, suc, Bool, List, [], ◌∷◌, ◌++◌, take, length, refl, sym, ap, ◌∙◌, subst, inl, inr, arith}
+use Rattle.std.proofs.Common.{◌≡◌, ◌≤◌, ◌<◌, ℕ, suc, Bool, List, [], ◌∷◌, ◌++◌, map, take, length, refl, sym, ap, ◌∙◌, subst, inl, inr, arith}
 use Rattle.std.specs.Prelude.{Some, None, Option, IsTrue, true, false, if◌then◌else◌}
 use Rattle.std.proofs.lemmas.Option.{same_Some}
 use Rattle.m3_model.proofs.MemberLemmas.{IsIn-append_left, IsIn-append_right, map-IsIn}
@@ -10,6 +10,7 @@ use Rattle.m3_model.specs.declared.act.Act.TheVariants as act
 use Rattle.m3_model.specs.declared.answer.Answer.{Answer}
 use Rattle.m3_model.specs.declared.answer.Answer.TheVariants as answer
 use Rattle.m3_model.specs.declared.placement.Assignment.{Assignment}
+use Rattle.m3_model.specs.declared.placement.Instance.{Instance}
 use Rattle.m3_model.specs.declared.placement.Placement.{Placement}
 use Rattle.m3_model.specs.declared.reason.Reason.{Reason}
 use Rattle.m3_model.specs.declared.reason.Reason.TheVariants as reason
@@ -24,17 +25,20 @@ use Rattle.cluster_core.specs.declared.event.Event.TheVariants as event
 use Rattle.cluster_core.specs.declared.event.StepCall.{StepCall}
 use Rattle.cluster_core.specs.declared.event.StepCall.TheVariants as call
 use Rattle.cluster_core.specs.declared.event.StepReply.TheVariants as reply
+use Rattle.cluster_core.proofs.QuorumLemmas.{dec_in}
 use Rattle.transcripts.specs.Caused.{Caused, CausedAt, HadBefore, IsDueBy, IsOwn, refusal_after}
 use Rattle.transcripts.specs.Deliveries.{LateMessage}
+use Rattle.transcripts.specs.Fates.{IsStoppedAt, is_stopped}
 use Rattle.transcripts.specs.Faults.{Damaged, Failing, Fault, Taking}
 use Rattle.transcripts.specs.Levels.{MissesLevel}
 use Rattle.transcripts.specs.Peers.{IsJoinedWith, IsUnjoined, MissesMajority}
 use Rattle.transcripts.specs.Placements.{MayStand, printed}
-use Rattle.transcripts.specs.Record.{Record, TurnPosition, IsTurnPosition}
+use Rattle.transcripts.specs.Record.{Record, TurnPosition, IsTurnPosition, inner_turns}
+use Rattle.transcripts.specs.Waiting.{idles_after}
 use Rattle.transcripts.specs.Sweeps.{IsSwept, IsSweptOver}
-use Rattle.transcripts.proofs.MoreFaults.{AreAmong, break_more, different_both, failed_more, own_more, step_more}
-use Rattle.transcripts.proofs.SweepLemmas.{entry_slot, failed_entry}
-use Rattle.told_by.specs.Hears.{HearsBy, HearsPeers, HearsSwept, InStretch, IsRestartCall, IsSweepCall}
+use Rattle.transcripts.proofs.MoreFaults.{AreAmong, break_more, different_both, kept_up_more, own_more, step_more}
+use Rattle.transcripts.proofs.SweepLemmas.{done_entry, entry_slot, failed_entry}
+use Rattle.told_by.specs.Hears.{Happens, HearsBy, HearsPeers, HearsSwept, InStretch, IsRestartCall, IsSweepCall}
 use Rattle.told_by.specs.Openings.{opening_length}
 use Rattle.told_by.specs.Told.{ToldBy}
 use Rattle.told_by.proofs.LineLemmas.{line_below}
@@ -53,11 +57,12 @@ use Rattle.told_causes.proofs.HaltLemmas.{take_cut}
 use Rattle.told_causes.proofs.LevelLemmas.{fetch_said, match_said, too_few_said}
 use Rattle.told_causes.proofs.NodeLemmas.{node_answers}
 use Rattle.told_causes.proofs.PeerLemmas.{peers_said}
+use Rattle.told_causes.proofs.RunLemmas.{sweep_begun, sweep_serves, who_serves}
 use Rattle.told_causes.proofs.StoodLemmas.{may_stand}
 use Rattle.told_causes.proofs.SweepLemmas.{sweeps_said}
 use Rattle.told_causes.proofs.WaitLemmas.{shard_is}
 use Rattle.told_moves.specs.Order.{IsInOrder}
-use Rattle.told_runs.specs.Answers.{AreAnswered, Delivers, HearsOf, IsAnswered, IsDecidedBy, IsOfKind}
+use Rattle.told_runs.specs.Answers.{AreAnswered, Delivers, HearsFenced, HearsOf, IsAnswered, IsDecidedBy, IsOfKind}
 use Rattle.told_runs.specs.Bounds.{IsBounded}
 use Rattle.told_runs.proofs.BoundLemmas.{full_by_many}
 use Rattle.told_runs.proofs.MemberLemmas.{had_before}
@@ -113,10 +118,28 @@ module _ {tells : Bool} (taking : List Fault) (start : Option MetaState) (turns 
       let k = known.sweeps p at (subst IsSweepAct (sym acts) sweeps) (ap printed answers) over.place over.stands in
       record {
         over = over;
+        running = λ x m.
+            let e = done_entry over.entries x (subst (λ xs. IsIn xs x) over.done_are m) in
+            let among = ((over.members).each x.0 x.1).0 (entry_slot over.entries e.entry x.0 x.1 e.among e.node_is e.shard_is) in
+            let steady = (k.explained x.1 x.0 among).0 in
+            let step = hears.counted x m in
+            let runs = who_serves start turns events legal told halts p at x.0 x.1 steady.name steady.everywhere step.0 (reply.Count x.2) (sweep_serves p.turn.act step.0 step.1 x.2) step.2 in
+            record { instance_ = (steady.named).instance_; stands = (steady.named).stands; holds = ap (is_stopped (inner_turns p.lines)) (steady.named).holds ∙ runs };
+        begun = λ x m.
+            let e = done_entry over.entries x (subst (λ xs. IsIn xs x) over.done_are m) in
+            let among = ((over.members).each x.0 x.1).0 (entry_slot over.entries e.entry x.0 x.1 e.among e.node_is e.shard_is) in
+            let steady = (k.explained x.1 x.0 among).0 in
+            let step = hears.counted x m in
+            let woken = sweep_begun start turns events legal told halts p at x.0 x.1 steady.name steady.everywhere step.0 step.1 x.2 step.2 in
+            record {
+              instance_ = (steady.named).instance_;
+              stands = (steady.named).stands;
+              holds = ap (λ own. idles_after (record { shard = x.1; node = x.0; name = own }) start (inner_turns p.lines ++ (p.earlier ++ p.beside))) (steady.named).holds ∙ woken;
+            };
         refused = λ x m.
             let e = failed_entry over.entries x (subst (λ xs. IsIn xs x) over.failed_are m) in
             let among = ((over.members).each x.0 x.1).0 (entry_slot over.entries e.entry x.0 x.1 e.among e.node_is e.shard_is) in
-            failed_more tells told_faults all_faults told_among start p over.place x.1 x.0 x.2 (sweeps_said start turns events told p over.place k x.1 x.0 among x.2 (hears.refused x m));
+            kept_up_more tells told_faults all_faults told_among start p over.place x.1 x.0 x.2 (sweeps_said start turns events told p over.place k x.1 x.0 among x.2 (hears.refused x m));
       }
 
   -- a bootstrap that missed a majority
@@ -127,9 +150,25 @@ module _ {tells : Bool} (taking : List Fault) (start : Option MetaState) (turns 
       by true none = absurd none
       by false among = let x = chosen_node is_holder shard n among in subst (IsIn (nodes_of shard)) (x.2) (map-IsIn (λ (a : Assignment). a.node) shard x.0 x.1)
 
-  of_peers : (p : TurnPosition) → IsTurnPosition turns p → (node : List ℕ) (asked : Option ℕ) (got needed : ℕ) (reasons : List (ℕ × Reason)) (shard : ℕ) → p.turn.act ≡ act.Bootstrap node asked → p.turn.answer ≡ answer.Peers got needed reasons shard → MissesMajority start p node asked got needed reasons shard
-      → IsUnjoined tells all_faults start p node asked got needed reasons shard
-  of_peers p at node asked got needed reasons shard acts answers misses =
+  -- one that has no reason was fenced, so its node runs
+  stopped_named : (p : TurnPosition) → IsTurnPosition turns p → (place : Placement) (shard version : ℕ) → IsKnownStream tells start turns events told p place shard version → (reasons : List (ℕ × Reason))
+      → ((node : ℕ) → IsIn (former (shard_at place shard)) node → (IsIn (map (λ r. r.0) reasons) node → ⊥) → (v : ℕ) × Happens (Within events told.spans p) (event.Step node shard (call.Fence v) reply.Done))
+      → (node : ℕ) → IsIn (former (shard_at place shard)) node → IsStoppedAt p place node → IsIn (map (λ r. r.0) reasons) node
+  stopped_named p at place shard version k reasons fenced node among stops =
+      elim (dec_in node (map (λ (r : ℕ × Reason). r.0) reasons)) as (λ _. IsIn (map (λ (r : ℕ × Reason). r.0) reasons) node) [
+        | inl named ↦ named
+        | inr unnamed ↦
+            let steady = (k.explained node (former_node (shard_at place shard) node among)).0 in
+            let step = fenced node among unnamed in
+            let runs = who_serves start turns events legal told halts p at node shard steady.name steady.everywhere (call.Fence step.0) reply.Done tt step.1 in
+            let same : (steady.named).instance_ ≡ stops.instance_ = same_Some _ _ (sym (steady.named).stands ∙ stops.stands) in
+            let bad : false ≡ true = sym runs ∙ ap (is_stopped (inner_turns p.lines)) (sym (steady.named).holds ∙ ap (λ (i : Instance). i.name) same) ∙ stops.holds in
+            cc
+      ]
+
+  of_peers : (p : TurnPosition) → IsTurnPosition turns p → (node : List ℕ) (asked : Option ℕ) (got needed : ℕ) (reasons : List (ℕ × Reason)) (shard : ℕ) → p.turn.act ≡ act.Bootstrap node asked → p.turn.answer ≡ answer.Peers got needed reasons shard
+      → HearsFenced start (Within events told.spans p) p reasons shard → MissesMajority start p node asked got needed reasons shard → IsUnjoined tells all_faults start p node asked got needed reasons shard
+  of_peers p at node asked got needed reasons shard acts answers fenced misses =
       let hears : HearsPeers (take ((told.spans).from p) events) (Within events told.spans p) shard reasons =
       subst (λ b. HearsBy start (take ((told.spans).from p) events) (Within events told.spans p) p p.turn.act b) answers ((told.tells).hears p at) in
       let prints : printed p.turn.answer ≡ None = ap printed answers in
@@ -139,6 +178,7 @@ module _ {tells : Bool} (taking : List Fault) (start : Option MetaState) (turns 
       let k = known.streams p at (subst IsBootAct (sym acts) tt) prints misses.place hears.place misses.stands moving shard (hears.joining).tenure joins in
       record {
         misses = misses;
+        stopped = stopped_named p at misses.place shard (hears.joining).tenure k reasons (fenced misses.place misses.stands);
         refused = λ r m. break_more tells told_faults all_faults told_among start p misses.place shard r.0 r.1
             (peers_said start turns events told p misses.place shard (hears.joining).tenure k r.0 (former_node (shard_at misses.place shard) r.0 (misses.of_former r m)) r.1 (hears.heard r m));
       }
@@ -159,7 +199,7 @@ module _ {tells : Bool} (taking : List Fault) (start : Option MetaState) (turns 
   own_by p at (act.Restart node pick) (answer.Disk name shard) acts answers messages h kind = of_node p at (act.Restart node pick) (answer.Disk name shard) acts answers refl shard refl messages
   own_by p at (act.Bootstrap node asked) (answer.Available available place version) acts answers messages h kind = kind
   own_by p at (act.Bootstrap node asked) (answer.Disk name shard) acts answers messages h kind = of_node p at (act.Bootstrap node asked) (answer.Disk name shard) acts answers refl shard refl messages
-  own_by p at (act.Bootstrap node asked) (answer.Peers got needed reasons shard) acts answers messages h kind = of_peers p at node asked got needed reasons shard acts answers kind
+  own_by p at (act.Bootstrap node asked) (answer.Peers got needed reasons shard) acts answers messages h kind = of_peers p at node asked got needed reasons shard acts answers h kind
   own_by p at (act.Bootstrap node asked) (answer.Limit limit) acts answers messages h kind = kind
   own_by p at (act.Bootstrap node asked) (answer.Corrupt name shard damage) acts answers messages h kind = of_node p at (act.Bootstrap node asked) (answer.Corrupt name shard damage) acts answers refl shard refl messages
   own_by p at (act.Add node group) b acts answers messages h kind = step_more taking all_faults taking_among start p (act.Add node group) b kind

@@ -10,13 +10,13 @@ use Rattle.m3_model.specs.declared.placement.Instance.{Instance}
 use Rattle.m3_model.specs.declared.placement.ShardState.TheVariants.{Available, Leaving}
 use Rattle.m3_model.proofs.Lists.{All-from_each}
 use Rattle.placement_core.specs.Lawful.{IsLawful, IsShard, IsSpread, IsServing as IsServingShard}
+use Rattle.placement_core.specs.Majorities.{IsMajority}
 use Rattle.placement_core.specs.Shards.{Shard, former}
 use Rattle.placement_core.specs.Steps.{IsShardStep, IsStep, done_at}
 use Rattle.cluster_core.specs.Answers.{PageAsked}
 use Rattle.cluster_core.specs.Earlier.{CountsNodes, GavePage, GivesTenure, HasPut, IsClock, IsSend, PlacesShard, TookPoint}
 use Rattle.cluster_core.specs.Joins.{HasJoined, HasStreamed, MergedPage}
 use Rattle.cluster_core.specs.Legal.{JoinedAt, JoinedThere, Lawful, LawfulAt, Legal}
-use Rattle.cluster_core.specs.Lists.{IsMajority}
 use Rattle.cluster_core.specs.declared.event.Asked.TheVariants as asked
 use Rattle.cluster_core.specs.declared.event.Event.TheVariants as event
 use Rattle.cluster_core.specs.declared.event.StepCall.TheVariants as call

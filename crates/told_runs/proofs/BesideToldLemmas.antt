@@ -30,17 +30,16 @@ use Rattle.cluster_core.specs.declared.event.StepReply.{StepReply}
 use Rattle.cluster_core.specs.declared.event.StepReply.TheVariants as reply
 use Rattle.cluster_core.proofs.ListLemmas.{at_any, at_same, at_within}
 use Rattle.transcripts.specs.Fates.{OfNode}
-use Rattle.transcripts.specs.Joined.{IsBootstrapOf}
 use Rattle.transcripts.specs.Placements.{IsCounted, MayStand, counted_nodes, printed}
 use Rattle.transcripts.specs.Record.{InnerTurn, TurnPosition, IsLastTurnPosition, IsTurnPosition, client_at, inner_turns, joined as in_lists, line_of, lists_of}
 use Rattle.transcripts.proofs.PositionLemmas.{at_push}
 use Rattle.told_by.specs.Broken.{found_moving, joined, joined_by, joining, moved, moving, other_name}
 use Rattle.told_by.specs.Clocks.{HasClock, IsClockOf, sets_rules}
-use Rattle.told_by.specs.Hears.{HasServed, HasStep, HearsAcks, HearsBegun, HearsBy, HearsTooFew, InStretch, IsBegun, IsBeginOf}
+use Rattle.told_by.specs.Hears.{Happens, HasServed, HasStep, HearsAcks, HearsBegun, HearsBy, HearsStreamed, HearsTooFew, InStretch, IsBegun, IsBeginOf}
 use Rattle.told_by.specs.Lines.{MayChange, PlainLine, position_after}
 use Rattle.told_by.specs.Makes.{CountsOwnPuts, IsAssigned, IsCoveredSlot, MayMake, MayStream}
 use Rattle.told_by.specs.Openings.{sets_seed}
-use Rattle.told_by.specs.Placements.{EndsOwn, EndsPrinted, HasPlace, PrintsPeers}
+use Rattle.told_by.specs.Placements.{EndsOwn, EndsPrinted, HasPlace, IsBootstrapOf, PrintsPeers}
 use Rattle.told_by.specs.Reads.{IsStartAt, IsStartOf, IsTold}
 use Rattle.told_by.specs.Sample.{fetched, name, point, rules, written}
 use Rattle.told_by.specs.Spans.{From, IsEarlier, Spans}
@@ -119,10 +118,19 @@ reopening_line = record {
         slot = record { of_node = record { place = moving; last = refl; named = record { instance_ = first_node; stands = refl; holds = refl } }; covers = refl };
         assigned = (under_way, refl, at_any (λ (a : Assignment). (a.node ≡ 0) × (a.tenure ≡ 1)) under_way 0 leaving refl (refl, refl));
       },
-      (λ late. record { opens = tt; place = moving; last = refl; runs = record { instance_ = first_node; stands = refl; holds = refl } }, tt),
+      (
+        λ late. (
+          record { opens = tt; place = moving; last = refl; runs = record { instance_ = first_node; stands = refl; holds = refl } },
+          record {
+            slot = record { of_node = record { place = moving; last = refl; named = record { instance_ = first_node; stands = refl; holds = refl } }; covers = refl };
+            assigned = (under_way, refl, at_any (λ (a : Assignment). (a.node ≡ 0) × (a.tenure ≡ 1)) under_way 0 leaving refl (refl, refl));
+          },
+        ),
+        tt,
+      ),
     );
     restarts = restarts_none opening reopening reopened [] of_reopening (none, (none, tt));
-    hears = begun_by opening (InStretch events_before 2 4) name 0 1 refl first_slot first_tenure (reply.Began 1 [], tt, (call.Begin 1, refl, (3, (omega arith, omega arith, refl))));
+    hears = (begun_by opening (InStretch events_before 2 4) name 0 1 refl first_slot first_tenure (reply.Began 1 [], tt, (call.Begin 1, refl, (3, (omega arith, omega arith, refl)))), λ x m. absurd m);
   };
   plain = record { no_acks = λ nodes e. cc; not_unmet = none; no_found = refl; no_rules = refl; no_seed = refl };
   opened = inl (omega arith);
@@ -293,16 +301,17 @@ acks_it send nodes e = let same : 14 ≡ send = cc in subst (IsSendAt Mine event
 pub boot_of : IsBootstrapOf moving_it ((0, 0 ∷ []) ∷ [])
 boot_of = record { node = other_name; asked = None; act_is = refl; place = moved; version = 3; answered = refl }
 
-peers : PrintsPeers (take 13 events) moving_it 0 1
+peers : PrintsPeers moved (take 13 events) moving_it 0 1
 peers = record {
   available = (0, 0 ∷ []) ∷ [];
-  bootstrap = boot_of;
+  bootstrap = record { name = other_name; asked = None; act_is = refl; named = record { instance_ = second_node; stands = refl; holds = refl }; version = 3; answered = refl };
   names = 0 ∷ [];
   printed = inl refl;
   last = moving;
   last_is = refl;
   shard = under_way;
   shard_is = refl;
+  by_name = ((λ other none. absurd none), tt);
   enough = peers_enough;
   joining = joined_by;
   joins = inr (inl refl);
@@ -311,8 +320,11 @@ peers = record {
   streamed = one (λ q. HasStreamed 0 1 2 q (take 13 events)) 0 streamed;
 }
 
-ends_it : (place : Placement) (done : List (ℕ × ℕ)) → event.Place moved ((0, 1) ∷ []) ≡ event.Place place done → (d : ℕ × ℕ) → IsIn done d → PrintsPeers (take 13 events) moving_it d.0 d.1
-ends_it place done e d m = let same : (0, 1) ∷ [] ≡ done = cc in one (λ (x : ℕ × ℕ). PrintsPeers (take 13 events) moving_it x.0 x.1) (0, 1) peers d (subst (λ ds. IsIn ds d) (sym same) m)
+ends_it : (place : Placement) (done : List (ℕ × ℕ)) → event.Place moved ((0, 1) ∷ []) ≡ event.Place place done → (d : ℕ × ℕ) → IsIn done d → PrintsPeers place (take 13 events) moving_it d.0 d.1
+ends_it place done e d m =
+    let same : (0, 1) ∷ [] ≡ done = cc in
+    let to : moved ≡ place = cc in
+    subst (λ q. PrintsPeers q (take 13 events) moving_it d.0 d.1) to (one (λ (x : ℕ × ℕ). PrintsPeers moved (take 13 events) moving_it x.0 x.1) (0, 1) peers d (subst (λ ds. IsIn ds d) (sym same) m))
 
 ended : EndsPrinted Mine events makers moving_it
 ended available boot x m =
@@ -365,6 +377,12 @@ hears_read = record {
   first = λ lower lt asked. absurd (omega (arith, lt));
 }
 
+-- the node that the bootstrap prints was fenced
+first_fenced : HearsStreamed Here ((0, 0 ∷ []) ∷ [])
+first_fenced x m q k =
+    one (λ (y : ℕ × List ℕ). (n : ℕ) → IsIn y.1 n → (version : ℕ) × Happens Here (event.Step n y.0 (call.Fence version) reply.Done)) (0, 0 ∷ [])
+    (one (λ (n : ℕ). (version : ℕ) × Happens Here (event.Step n 0 (call.Fence version) reply.Done)) 0 (2, (7, (omega arith, omega arith, refl)))) x m q k
+
 -- ---- the line
 
 acked_by : (nodes : List ℕ) → took ≡ answer.Acks nodes → HasAck Mine events makers writing nodes
@@ -383,7 +401,10 @@ makes_it = (
         (
           λ mine. record { slot = covered (take 4 events) refl; assigned = (under_way, refl, at_any (λ (a : Assignment). (a.node ≡ 1) × (a.tenure ≡ 2)) under_way 1 joined_by refl (refl, refl)) },
           (
-            λ mine. record { opens = tt; place = moving; last = refl; runs = record { instance_ = second_node; stands = refl; holds = refl } },
+            λ mine. (
+              record { opens = tt; place = moving; last = refl; runs = record { instance_ = second_node; stands = refl; holds = refl } },
+              record { slot = covered (take 5 events) refl; assigned = (under_way, refl, at_any (λ (a : Assignment). (a.node ≡ 1) × (a.tenure ≡ 2)) under_way 1 joined_by refl (refl, refl)) },
+            ),
             (
               λ mine. streams (take 6 events) refl,
               (
@@ -464,7 +485,7 @@ second_line = record {
     placements = record {
       is_place = λ p h place prints. subst (HasPlace events 18) (sym (prints_one p h place prints)) (record { place_at = 13; done = (0, 1) ∷ []; there = refl; in_time = omega arith });
       not_earlier = λ p q hp hq earlier. absurd (none_earlier p q hp hq earlier);
-      each_end = λ i place done mine late there. at_each (λ k x. Mine k → x ≡ event.Place place done → (d : ℕ × ℕ) → IsIn done d → PrintsPeers (take k events) (makers k) d.0 d.1) (λ mine. absurd (omega (arith, mine)), (λ mine. absurd (omega (arith, mine)), (λ mine. absurd (omega (arith, mine)), (λ mine. absurd (omega (arith, mine)), (λ mine e. absurd (cc), (λ mine e. absurd (cc), (λ mine e. absurd (cc), (λ mine e. absurd (cc), (λ mine e. absurd (cc), (λ mine e. absurd (cc), (λ mine e. absurd (cc), (λ mine e. absurd (cc), (λ mine e. absurd (cc), (λ mine e. ends_it place done e, (λ mine e. absurd (cc), (λ mine e. absurd (cc), (λ mine e. absurd (cc), (λ mine e. absurd (cc), tt)))))))))))))))))) i (event.Place place done) there mine refl;
+      each_end = λ i place done mine late there. at_each (λ k x. Mine k → x ≡ event.Place place done → (d : ℕ × ℕ) → IsIn done d → PrintsPeers place (take k events) (makers k) d.0 d.1) (λ mine. absurd (omega (arith, mine)), (λ mine. absurd (omega (arith, mine)), (λ mine. absurd (omega (arith, mine)), (λ mine. absurd (omega (arith, mine)), (λ mine e. absurd (cc), (λ mine e. absurd (cc), (λ mine e. absurd (cc), (λ mine e. absurd (cc), (λ mine e. absurd (cc), (λ mine e. absurd (cc), (λ mine e. absurd (cc), (λ mine e. absurd (cc), (λ mine e. absurd (cc), (λ mine e. ends_it place done e, (λ mine e. absurd (cc), (λ mine e. absurd (cc), (λ mine e. absurd (cc), (λ mine e. absurd (cc), tt)))))))))))))))))) i (event.Place place done) there mine refl;
       ends_printed = each_turn (EndsPrinted Mine events makers) (λ available boot x m. absurd (let bad = boot.act_is in cc)) (λ available boot x m. absurd (let bad = boot.act_is in cc)) ended;
     };
     clocks = record {
@@ -474,7 +495,7 @@ second_line = record {
     makes = λ i e mine late there. at_each (λ k x. Mine k → MayMake start (take k events) (makers k) x) makes_it i e there mine;
     restarts = λ i n s r mine late there. absurd (at_each (λ k x. IsRestart x → ⊥) (none, (none, (none, (none, (none, (none, (none, (none, (none, (none, (none, (none, (none, (none, (none, (none, (none, (none, tt)))))))))))))))))) i (event.Step n s call.Restart r) there tt);
     hears = each_turn (λ p. HearsBy start (take 4 events) Here p p.turn.act p.turn.answer) hears_write hears_read
-        (begun_by (take 4 events) Here other_name 1 2 refl second_slot second_tenure (reply.Began 2 [], tt, (call.Begin 2, refl, (5, (omega arith, omega arith, refl)))));
+        (begun_by (take 4 events) Here other_name 1 2 refl second_slot second_tenure (reply.Began 2 [], tt, (call.Begin 2, refl, (5, (omega arith, omega arith, refl)))), first_fenced);
   };
   not_earlier = λ p q hp hq was is of_was of_is.
       let old : moving ≡ was = same_Some moving was (sym (printed_before p hp) ∙ of_was) in

@@ -7,6 +7,8 @@ pub mod SilentLemmas
 pub mod OrderLemmas
 pub mod OwnsLemmas
 pub mod CausedLemmas
+pub mod JoinedLemmas
+pub mod RunningLemmas
 pub mod SampleLemmas
 pub mod LineLemmas
 pub mod LateLemmas

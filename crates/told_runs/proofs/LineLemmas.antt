@@ -34,7 +34,7 @@ use Rattle.transcripts.specs.Faults.{Fault, Taking}
 use Rattle.transcripts.specs.Moves.{IsLeftFence}
 use Rattle.transcripts.specs.Placements.{has_replica}
 use Rattle.transcripts.specs.Record.{Record, TurnPosition, IsLastTurnPosition, IsTurnPosition, line_of, lists_of}
-use Rattle.transcripts.proofs.MoreFaults.{AreAmong, different_both, step_more}
+use Rattle.transcripts.proofs.MoreFaults.{AreAmong, different_both, step_more, unmade_more}
 use Rattle.transcripts.proofs.PositionLemmas.{at_push}
 use Rattle.told_by.specs.Hears.{InStretch}
 use Rattle.told_by.specs.Lines.{ClockLine, InitLine, PlainLine, ReadLine, WriteLine, position_after}
@@ -59,7 +59,7 @@ use Rattle.told_runs.specs.Lines.{Adds, IsServedAfresh, IsServedAtFirst, IsOneTu
 
 -- an answer is decided so also where more disks couldn't be taken
 kind_more : (taking more : List Fault) → AreAmong taking more → (start : Option MetaState) (p : TurnPosition) (a : Act) (b : Answer) → IsOfKind taking start p a b → IsOfKind more start p a b
-kind_more taking more among start p (act.Init rf shards seed nodes) (answer.Disk name shard) h = (h.0, h.1, h.2, among _ h.3)
+kind_more taking more among start p (act.Init rf shards seed nodes) (answer.Disk name shard) h = (h.0, h.1, unmade_more taking more among start p h.0 name shard h.2)
 kind_more taking more among start p (act.Add node group) b h = step_more taking more among start p (act.Add node group) b h
 kind_more taking more among start p (act.Drain node) b h = step_more taking more among start p (act.Drain node) b h
 kind_more taking more among start p (act.Cancel node) b h = step_more taking more among start p (act.Cancel node) b h
@@ -79,6 +79,7 @@ answered_more taking more among start end p (inr (inr decided)) = inr (inr (deci
 -- what is heard of late messages is heard where more happens
 heard_on : (start : Option MetaState) (Old New : ℕ → Event → Type 0) → ((i : ℕ) (e : Event) → Old i e → New i e) → (p : TurnPosition) (messages : List LateMessage) (b : Answer) → HearsOf start Old p messages b → HearsOf start New p messages b
 heard_on start Old New on p messages (answer.Outcomes outcomes) h = (h.0, outcomes_on start [] Old New on p messages outcomes h.1)
+heard_on start Old New on p messages (answer.Peers got needed reasons shard) h = λ place stands node among unnamed. let fenced = h place stands node among unnamed in (fenced.0, ((fenced.1).0, on (fenced.1).0 _ (fenced.1).1))
 heard_on start Old New on p messages _ h = h
 
 same_back : (a b : LateMessage) → IsSameMessage a b → IsSameMessage b a

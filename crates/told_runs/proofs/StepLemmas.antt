@@ -139,9 +139,10 @@ module _ (place : Placement) (kept : ℕ) where
       by (Some refusal) e is = subst IsUnmoved (sym is) (due_unmoved refusal a step e)
       by None e way = way_unmoved a b way
 
--- no outcome is heard in such an answer
+-- no outcome and no peer is heard in such an answer
 unmoved_hears_none : (start : Option MetaState) (Here : ℕ → Event → Type 0) (p : TurnPosition) (b : Answer) → IsUnmoved b → HearsOf start Here p [] b
 unmoved_hears_none start Here p (answer.Outcomes outcomes) h = absurd h
+unmoved_hears_none start Here p (answer.Peers got needed reasons shard) h = absurd h
 unmoved_hears_none start Here p _ h = tt
 
 -- ---- bounds

@@ -1,6 +1,6 @@
 -- What a cluster's own look-ups decide of its answers, beside what its events tell: refusals that are due, answers of the act's own kind, the first placement,
 -- and which disks couldn't be taken.
-use Rattle.std.specs.Prelude.{◌≡◌, ◌⊎◌, ◌+◌, ◌≤◌, ℕ, ⊤, List, ◌∷◌, ◌++◌, Option, Some, None, ◌<◌, length}
+use Rattle.std.specs.Prelude.{◌≡◌, ◌⊎◌, ◌+◌, ◌≤◌, ℕ, ⊤, List, ◌∷◌, ◌++◌, Option, Some, None, ◌<◌, length, map}
 use Rattle.m3_model.specs.Ascends.{Ascends}
 use Rattle.m3_model.specs.Members.{IsIn}
 use Rattle.m3_model.specs.declared.act.Act.{Act}
@@ -8,18 +8,25 @@ use Rattle.m3_model.specs.declared.act.Act.TheVariants as act
 use Rattle.m3_model.specs.declared.answer.Answer.{Answer}
 use Rattle.m3_model.specs.declared.answer.Answer.TheVariants as answer
 use Rattle.m3_model.specs.declared.limits.TheConstants.{MOST_EVENTS, MOST_REQUEST_EVENTS}
+use Rattle.m3_model.specs.declared.placement.Placement.{Placement}
+use Rattle.m3_model.specs.declared.reason.Reason.{Reason}
 use Rattle.m3_model.specs.declared.rules.MetaState.{MetaState}
 use Rattle.m3_model.specs.declared.turn.Turn.{Turn}
+use Rattle.placement_core.specs.Shards.{former, shard_at}
 use Rattle.placement_plan.specs.First.{IsInitial}
 use Rattle.placement_acts.specs.Acts.{IsInTheWay}
 use Rattle.cluster_core.specs.declared.event.Event.{Event}
+use Rattle.cluster_core.specs.declared.event.Event.TheVariants as event
+use Rattle.cluster_core.specs.declared.event.StepCall.TheVariants as call
+use Rattle.cluster_core.specs.declared.event.StepReply.TheVariants as reply
 use Rattle.transcripts.specs.Caused.{IsBootstrapped, IsRefusedWhole, IsStepOf, IsUnmade, refusal_after}
 use Rattle.transcripts.specs.Deliveries.{LateMessage, IsLateBefore, IsSameMessage, IsSamePosition}
 use Rattle.transcripts.specs.Faults.{AreDifferent, Fault, Taking}
 use Rattle.transcripts.specs.Peers.{LacksVersion, MissesMajority}
+use Rattle.transcripts.specs.Placements.{MayStand}
 use Rattle.transcripts.specs.Record.{InnerTurn, TurnPosition, IsAfter, IsTurnPosition}
 use Rattle.transcripts.specs.Sweeps.{IsStatus, IsSweptOver}
-use Rattle.told_by.specs.Hears.{HearsOutcomes, InStretch}
+use Rattle.told_by.specs.Hears.{Happens, HearsOutcomes, InStretch}
 use Rattle.told_by.specs.Spans.{Spans}
 use Rattle.told_by.specs.Told.{ToldBy}
 
@@ -27,7 +34,7 @@ use Rattle.told_by.specs.Told.{ToldBy}
 abbrev pub IsOfKind : List Fault → Option MetaState → TurnPosition → Act → Answer → Type 0
 IsOfKind taking start p (act.Init rf shards seed nodes) (answer.Placed place version) = IsInitial rf shards nodes place × (version ≡ place.version)
 IsOfKind taking start p (act.Init rf shards seed nodes) (answer.Group shard) = IsInTheWay None (act.Init rf shards seed nodes) (answer.Group shard)
-IsOfKind taking start p (act.Init rf shards seed nodes) (answer.Disk name shard) = IsUnmade taking p nodes shards name shard
+IsOfKind taking start p (act.Init rf shards seed nodes) (answer.Disk name shard) = IsUnmade taking start p rf shards nodes name shard
 IsOfKind taking start p (act.Namespace name block past future retention) answer.Done = ⊤
 IsOfKind taking start p (act.Now now) answer.Done = ⊤
 IsOfKind taking start p (act.Fates list) answer.Done = ⊤
@@ -74,9 +81,16 @@ MayLackRoom end = MOST_EVENTS + 2 ≤ end + MOST_REQUEST_EVENTS
 abbrev pub IsAnswered : List Fault → Option MetaState → ℕ → TurnPosition → Type 0
 IsAnswered taking start end p = (p.turn.answer ≡ answer.Memory) ⊎ (((p.turn.answer ≡ answer.Full) × MayLackRoom end) ⊎ IsDecided taking start p)
 
--- where the answer has outcomes, they are heard of these late messages, in the order in which they were made late
+-- each former replica of the shard that has no reason was fenced
+abbrev pub HearsFenced : Option MetaState → (ℕ → Event → Type 0) → TurnPosition → List (ℕ × Reason) → ℕ → Type 0
+HearsFenced start Here p reasons shard =
+    (place : Placement) → MayStand start p place → (node : ℕ) → IsIn (former (shard_at place shard)) node → ¬ IsIn (map (λ r. r.0) reasons) node
+    → (version : ℕ) × Happens Here (event.Step node shard (call.Fence version) reply.Done)
+
+-- where the answer has outcomes, they are heard of these late messages, in the order in which they were made late; where it has peers, those that streamed are
 abbrev pub HearsOf : Option MetaState → (ℕ → Event → Type 0) → TurnPosition → List LateMessage → Answer → Type 0
 HearsOf start Here p messages (answer.Outcomes outcomes) = Ascends IsLateBefore messages × HearsOutcomes start Here p messages outcomes
+HearsOf start Here p messages (answer.Peers got needed reasons shard) = HearsFenced start Here p reasons shard
 HearsOf start Here p messages _ = ⊤
 
 -- the turn heard so within its stretch

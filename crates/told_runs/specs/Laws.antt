@@ -18,6 +18,7 @@ use Rattle.transcripts.specs.Caused.{Caused}
 use Rattle.transcripts.specs.Faults.{Fault}
 use Rattle.transcripts.specs.Deliveries.{LateMessage}
 use Rattle.transcripts.specs.Placements.{has_replica}
+use Rattle.transcripts.specs.Joined.{Joined}
 use Rattle.transcripts.specs.Record.{Life, TurnPosition}
 use Rattle.told_by.specs.Told.{ToldBy}
 use Rattle.told_causes.specs.Faults.{faults_told}
@@ -67,3 +68,9 @@ IsGivenAlone tells =
     (life : Life) (events : List Event) → Legal tells events → (told : ToldBy life.present.start life.present.turns events) → (taking : List Fault) (delivered : TurnPosition → List LateMessage)
     → IsServedRun tells taking delivered life events told
     → (k i : ℕ) (place : Placement) (done : List (ℕ × ℕ)) → k < length life.present.turns → ¬ HasOneTurn life.present.turns k → told.ends k ≤ i → i < told.ends (suc k) → At events i (event.Place place done) → GivesNone (take i events) place
+
+-- And it is joined.
+abbrev pub IsJoinedWhereTold : Bool → Type 0
+IsJoinedWhereTold tells =
+    (life : Life) (events : List Event) → Legal tells events → (told : ToldBy life.present.start life.present.turns events) → (taking : List Fault) (delivered : TurnPosition → List LateMessage)
+    → IsServedRun tells taking delivered life events told → Joined life

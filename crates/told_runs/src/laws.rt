@@ -2,7 +2,7 @@
 ghost use Rattle.std.specs.Prelude.{Bool};
 ghost use Rattle.told_runs.specs.BesideSample.{BesideIsKept, BesideIsServed};
 ghost use Rattle.told_runs.specs.Counted.{AreFew, AreOfRun, OfServed};
-ghost use Rattle.told_runs.specs.Laws.{IsCausedWhereTold, IsGivenAlone};
+ghost use Rattle.told_runs.specs.Laws.{IsCausedWhereTold, IsGivenAlone, IsJoinedWhereTold};
 ghost use Rattle.told_runs.specs.LateSample.{DeliveryIsKnown, LateIsServed};
 ghost use Rattle.told_runs.specs.Sample.{ShortIsServed};
 
@@ -11,6 +11,12 @@ ghost use Rattle.told_runs.specs.Sample.{ShortIsServed};
 /// replicas tell. Where the disks tell what they hold, they are to hold no more than earlier runs left, and more is said.
 pub fn told_is_caused()
     ensures { (tells : Bool) → IsCausedWhereTold tells }
+{}
+
+/// In such a run each node that turned available was joined by its own bootstrap, which prints a majority of the former
+/// replicas, by name, and all of them run.
+pub fn told_is_joined()
+    ensures { (tells : Bool) → IsJoinedWhereTold tells }
 {}
 
 /// In such a run a placement gives a node a shard only in a line of one turn: what bootstraps make beside other turns ends

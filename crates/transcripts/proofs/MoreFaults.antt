@@ -12,7 +12,7 @@ use Rattle.m3_model.specs.declared.placement.Placement.{Placement}
 use Rattle.m3_model.specs.declared.reason.Reason.{Reason}
 use Rattle.m3_model.specs.declared.reason.Reason.TheVariants as reason
 use Rattle.m3_model.specs.declared.rules.MetaState.{MetaState}
-use Rattle.transcripts.specs.Caused.{CausedAt, IsDueBy, IsOwn, IsStepOf, refusal_after}
+use Rattle.transcripts.specs.Caused.{CausedAt, IsDueBy, IsOwn, IsStepOf, IsUnmadeIn, refusal_after}
 use Rattle.transcripts.specs.Deliveries.{AreOutcomes, LateMessage, MayComeOf}
 use Rattle.transcripts.specs.Fates.{IsStoppedAt}
 use Rattle.transcripts.specs.Faults.{AreDifferent, Fault, IsClosedByFault}
@@ -20,7 +20,7 @@ use Rattle.transcripts.specs.Levels.{AreSilent, IsFoundFor, MissesLevel}
 use Rattle.transcripts.specs.Peers.{MayBreak}
 use Rattle.transcripts.specs.Reasons.{MayFail, MayRefuse}
 use Rattle.transcripts.specs.Record.{Record, TurnPosition}
-use Rattle.transcripts.specs.Sweeps.{IsSwept}
+use Rattle.transcripts.specs.Sweeps.{IsSwept, MayNotKeepUp}
 
 -- all faults of one list are of the other
 abbrev pub AreAmong : List Fault → List Fault → Type 0
@@ -110,15 +110,21 @@ outcomes_more tells faults more among start p (m ∷ messages) (outcome ∷ outc
 outcomes_more tells faults more among start p [] (outcome ∷ outcomes) h = absurd h
 outcomes_more tells faults more among start p (m ∷ messages) [] h = absurd h
 
+pub unmade_more : (faults more : List Fault) → AreAmong faults more → (start : Option MetaState) (p : TurnPosition) (place : Placement) (name : List ℕ) (shard : ℕ) → IsUnmadeIn faults start p place name shard → IsUnmadeIn more start p place name shard
+unmade_more faults more among start p place name shard slot = record { node = slot.node; named = slot.named; member = slot.member; is_new = slot.is_new; untaken = among _ slot.untaken }
+
 -- a step's answer is one also where more disks couldn't be taken
 pub step_more : (faults more : List Fault) → AreAmong faults more → (start : Option MetaState) (p : TurnPosition) (a : Act) (b : Answer) → IsStepOf faults start p a b → IsStepOf more start p a b
-step_more faults more among start p a (answer.Disk name shard) h =
-    let slot = h.2 in
-    (h.0, h.1, record { node = slot.node; named = slot.named; member = slot.member; is_new = slot.is_new; untaken = among _ slot.untaken })
+step_more faults more among start p a (answer.Disk name shard) h = (h.0, h.1, unmade_more faults more among start p h.0 name shard h.2)
 step_more faults more among start p a _ h = h
 
+pub kept_up_more : (tells : Bool) (faults more : List Fault) → AreAmong faults more → (start : Option MetaState) (p : TurnPosition) (place : Placement) (shard node : ℕ) (why : Reason) → MayNotKeepUp tells faults start p place shard node why → MayNotKeepUp tells more start p place shard node why
+kept_up_more tells faults more among start p place shard node reason.NotOwned h = absurd h
+kept_up_more tells faults more among start p place shard node (reason.Stale fence) h = absurd h
+kept_up_more tells faults more among start p place shard node why h = failed_more tells faults more among start p place shard node why h
+
 swept_more : (tells : Bool) (faults more : List Fault) → AreAmong faults more → (start : Option MetaState) (p : TurnPosition) (done : List (ℕ × ℕ × ℕ)) (failed : List (ℕ × ℕ × Reason)) → IsSwept tells faults start p done failed → IsSwept tells more start p done failed
-swept_more tells faults more among start p done failed h = record { over = h.over; refused = λ x m. failed_more tells faults more among start p (h.over).place x.1 x.0 x.2 (h.refused x m) }
+swept_more tells faults more among start p done failed h = record { over = h.over; running = h.running; begun = h.begun; refused = λ x m. kept_up_more tells faults more among start p (h.over).place x.1 x.0 x.2 (h.refused x m) }
 
 pub break_more : (tells : Bool) (faults more : List Fault) → AreAmong faults more → (start : Option MetaState) (p : TurnPosition) (place : Placement) (shard node : ℕ) (why : Reason) → MayBreak tells faults start p place shard node why → MayBreak tells more start p place shard node why
 break_more tells faults more among start p place shard node reason.NotOwned h = h
@@ -128,7 +134,7 @@ break_more tells faults more among start p place shard node why h = failed_more 
 pub own_more : (tells : Bool) (faults more : List Fault) → AreAmong faults more → (start : Option MetaState) (messages : List LateMessage) (p : TurnPosition) (a : Act) (b : Answer) → IsOwn tells faults start messages p a b → IsOwn tells more start messages p a b
 own_more tells faults more among start messages p (act.Init rf shards seed nodes) (answer.Placed place version) h = h
 own_more tells faults more among start messages p (act.Init rf shards seed nodes) (answer.Group shard) h = h
-own_more tells faults more among start messages p (act.Init rf shards seed nodes) (answer.Disk name shard) h = (h.0, h.1, h.2, among _ h.3)
+own_more tells faults more among start messages p (act.Init rf shards seed nodes) (answer.Disk name shard) h = (h.0, h.1, unmade_more faults more among start p h.0 name shard h.2)
 own_more tells faults more among start messages p (act.Namespace name block past future retention) answer.Done h = tt
 own_more tells faults more among start messages p (act.Now now) answer.Done h = tt
 own_more tells faults more among start messages p (act.Fates list) answer.Done h = tt
@@ -138,7 +144,7 @@ own_more tells faults more among start messages p (act.Restart node pick) answer
 own_more tells faults more among start messages p (act.Restart node pick) (answer.Disk name shard) h = (h.0, (h.1.0, h.1.1, h.1.2, among _ h.1.3))
 own_more tells faults more among start messages p (act.Bootstrap node asked) (answer.Available available place version) h = h
 own_more tells faults more among start messages p (act.Bootstrap node asked) (answer.Disk name shard) h = (h.0, h.1, (h.2.0, h.2.1, h.2.2, among _ h.2.3))
-own_more tells faults more among start messages p (act.Bootstrap node asked) (answer.Peers got needed reasons shard) h = record { misses = h.misses; refused = λ r m. break_more tells faults more among start p (h.misses).place shard r.0 r.1 (h.refused r m) }
+own_more tells faults more among start messages p (act.Bootstrap node asked) (answer.Peers got needed reasons shard) h = record { misses = h.misses; stopped = h.stopped; refused = λ r m. break_more tells faults more among start p (h.misses).place shard r.0 r.1 (h.refused r m) }
 own_more tells faults more among start messages p (act.Bootstrap node asked) (answer.Limit limit) h = h
 own_more tells faults more among start messages p (act.Bootstrap node asked) (answer.Corrupt name shard damage) h = (h.0, h.1, (h.2.0, h.2.1, h.2.2, among _ h.2.3), h.3)
 own_more tells faults more among start messages p (act.Add node group) b h = step_more faults more among start p (act.Add node group) b h

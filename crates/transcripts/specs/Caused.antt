@@ -55,14 +55,6 @@ OnDisk faults start p Reached name shard = (node : ℕ) × IsCalled start p name
 abbrev pub InFiles : List Fault → Option MetaState → TurnPosition → (ℕ → Type 0) → List ℕ → ℕ → Type 0
 InFiles faults start p Reached name shard = (node : ℕ) × IsCalled start p name node × Reached node × IsDamaged faults p shard node
 
--- the name is that of this one of the nodes
-abbrev pub NamesNode : List (List ℕ × List ℕ) → List ℕ → ℕ → Type 0
-NamesNode nodes name node = (group : List ℕ) × (slice_get nodes node ≡ Some (name, group))
-
--- the disk of one of the shards that `init` asks for couldn't be taken, on the node of this name
-abbrev pub IsUnmade : List Fault → TurnPosition → List (List ℕ × List ℕ) → ℕ → List ℕ → ℕ → Type 0
-IsUnmade faults p nodes shards name shard = (node : ℕ) × NamesNode nodes name node × (shard < shards) × IsUntaken faults p shard node
-
 -- the disk of a slot that the placement gives a replica, and that had none before, couldn't be taken; the placement calls its node so
 pub record IsUnmadeIn (faults : List Fault) (start : Option MetaState) (p : TurnPosition) (place : Placement) (name : List ℕ) (shard : ℕ) : Type 0 where
   pub node : ℕ
@@ -70,6 +62,10 @@ pub record IsUnmadeIn (faults : List Fault) (start : Option MetaState) (p : Turn
   pub member : IsTrue (has_replica (Some place) shard node)
   pub is_new : ¬ HadReplica start (inner_turns p.lines) shard node
   pub untaken : IsUntaken faults p shard node
+
+-- so it is with a first placement for which `init` asks
+abbrev pub IsUnmade : List Fault → Option MetaState → TurnPosition → ℕ → ℕ → List (List ℕ × List ℕ) → List ℕ → ℕ → Type 0
+IsUnmade faults start p rf shards nodes name shard = (place : Placement) × IsInitial rf shards nodes place × IsUnmadeIn faults start p place name shard
 
 -- A step from the placement before the line of an act, which is the only one of its line: the next placement and its version are printed; or what is in the way of
 -- it is named; or a slot of it whose disk couldn't be taken.
@@ -116,7 +112,7 @@ pub record IsBootstrapped (start : Option MetaState) (p : TurnPosition) (name : 
 abbrev pub IsOwn : Bool → List Fault → Option MetaState → List LateMessage → TurnPosition → Act → Answer → Type 0
 IsOwn tells faults start messages p (act.Init rf shards seed nodes) (answer.Placed place version) = IsInitial rf shards nodes place × (version ≡ place.version)
 IsOwn tells faults start messages p (act.Init rf shards seed nodes) (answer.Group shard) = IsInTheWay None (act.Init rf shards seed nodes) (answer.Group shard)
-IsOwn tells faults start messages p (act.Init rf shards seed nodes) (answer.Disk name shard) = IsUnmade faults p nodes shards name shard
+IsOwn tells faults start messages p (act.Init rf shards seed nodes) (answer.Disk name shard) = IsUnmade faults start p rf shards nodes name shard
 IsOwn tells faults start messages p (act.Namespace name block past future retention) answer.Done = ⊤
 IsOwn tells faults start messages p (act.Now now) answer.Done = ⊤
 IsOwn tells faults start messages p (act.Fates list) answer.Done = ⊤

@@ -16,7 +16,7 @@ use Rattle.m3_model.specs.declared.rules.MetaState.{MetaState}
 use Rattle.m3_model.specs.declared.turn.Turn.{Turn}
 use Rattle.placement_core.specs.NodeNames.{IsNamedBelow}
 use Rattle.transcripts.specs.Calls.{Call, call_of}
-use Rattle.transcripts.specs.Fates.{OfNode, fate_at, is_stopped}
+use Rattle.transcripts.specs.Fates.{IsRunningAt, OfNode, fate_at}
 use Rattle.transcripts.specs.Faults.{Fault}
 use Rattle.transcripts.specs.Placements.{MayUse, has_replica, seed_at}
 use Rattle.transcripts.specs.Points.{point_of, was_sent}
@@ -84,7 +84,7 @@ IsSameMessage a b = IsSamePosition a.position b.position × (a.node ≡ b.node)
 
 -- what may come of a late message: a node that runs takes the point within its window, or it is refused for its time, or for what the node's replica refuses it for
 abbrev pub MayComeOf : Bool → List Fault → Option MetaState → TurnPosition → LateMessage → ℕ → Option Reason → Type 0
-MayComeOf tells faults start p m shard None = InWindow (rules_at start p) m.point × OfNode m.used m.node (λ name. is_stopped (inner_turns p.lines) name ≡ false)
+MayComeOf tells faults start p m shard None = InWindow (rules_at start p) m.point × IsRunningAt p m.used m.node
 MayComeOf tells faults start p m shard (Some reason.Past) = IsPast (rules_at start p) m.point
 MayComeOf tells faults start p m shard (Some reason.Future) = IsFuture (rules_at start p) m.point
 MayComeOf tells faults start p m shard (Some why) = MayFail tells faults start p m.used shard m.node why

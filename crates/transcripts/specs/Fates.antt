@@ -99,6 +99,10 @@ IsCutAt p place node = IsTrue (is_call p.turn.act) × OfNode place node (λ name
 abbrev pub IsStoppedAt : TurnPosition → Placement → ℕ → Type 0
 IsStoppedAt p place node = OfNode place node (λ name. is_stopped (inner_turns p.lines) name ≡ true)
 
+-- the node runs
+abbrev pub IsRunningAt : TurnPosition → Placement → ℕ → Type 0
+IsRunningAt p place node = OfNode place node (λ name. is_stopped (inner_turns p.lines) name ≡ false)
+
 -- messages of the call to the node are delivered, and it isn't stopped
 abbrev pub is_reached : TurnPosition → List ℕ → Bool
 is_reached p name = not (is_cut (fate_at p name)) && not (is_stopped (inner_turns p.lines) name)

@@ -1,5 +1,5 @@
 -- Joined: whoever turns Available has merged a majority of the former replicas, and the turn that did it prints them.
-use Rattle.std.specs.Prelude.{◌≡◌, ◌≢◌, ◌≤◌, ℕ, suc, List, length, Option, Some, slice_get}
+use Rattle.std.specs.Prelude.{◌≡◌, ◌≤◌, ℕ, suc, List, length, Option, Some, slice_get}
 use Rattle.m3_model.specs.Ascends.{Ascends}
 use Rattle.m3_model.specs.Levels.{majority}
 use Rattle.m3_model.specs.Members.{IsIn}
@@ -8,7 +8,9 @@ use Rattle.m3_model.specs.declared.answer.Answer.TheVariants as answer
 use Rattle.m3_model.specs.declared.placement.Assignment.{Assignment}
 use Rattle.m3_model.specs.declared.placement.Placement.{Placement}
 use Rattle.m3_model.specs.declared.placement.ShardState.TheVariants.{Initializing, Available}
+use Rattle.placement_core.specs.NodeNames.{IsNamedBelow}
 use Rattle.placement_core.specs.Shards.{Shard, former}
+use Rattle.transcripts.specs.Fates.{IsRunningAt, OfNode}
 use Rattle.transcripts.specs.Placements.{placements}
 use Rattle.transcripts.specs.Record.{Life, TurnPosition, IsTurnPosition, inner_turns}
 
@@ -28,27 +30,32 @@ pub record TurnsAvailable (was next : Placement) (number node : ℕ) : Type 0 wh
   pub to_node : joined.node ≡ node
   pub is_available : joined.state ≡ Available
 
--- a bootstrap that was answered ok, with the shards that turned available and their peers
-pub record IsBootstrapOf (p : TurnPosition) (available : List (ℕ × List ℕ)) : Type 0 where
-  pub node : List ℕ
+-- a bootstrap of this node that was answered ok, with the shards that turned available, their peers, and the placement to which that led
+pub record IsBootstrapInto (p : TurnPosition) (next : Placement) (node : ℕ) (available : List (ℕ × List ℕ)) : Type 0 where
+  pub name : List ℕ
   pub asked : Option ℕ
-  pub act_is : p.turn.act ≡ act.Bootstrap node asked
-  pub place : Placement
+  pub act_is : p.turn.act ≡ act.Bootstrap name asked
+  pub named : OfNode next node (λ own. own ≡ name)
   pub version : ℕ
-  pub answered : p.turn.answer ≡ answer.Available available place version
+  pub answered : p.turn.answer ≡ answer.Available available next version
 
--- the turn is a bootstrap that prints with the shard different former replicas, at least a majority
-pub record PrintsMajority (p : TurnPosition) (rf number : ℕ) (shard : Shard) : Type 0 where
+-- the nodes are former replicas of the shard, by name and each once, at least a majority, and all of them run
+pub record ArePeers (p : TurnPosition) (was : Placement) (shard : Shard) (names : List ℕ) : Type 0 where
+  pub by_name : Ascends (IsNamedBelow was) names
+  pub within : (node : ℕ) → IsIn names node → IsIn (former shard) node
+  pub running : (node : ℕ) → IsIn names node → IsRunningAt p was node
+  pub enough : majority was.rf ≤ length names
+
+-- the turn is the bootstrap that joined the node to the shard: it led from the one placement to the other, and prints the shard with such peers
+pub record IsJoiningTurn (p : TurnPosition) (was next : Placement) (number node : ℕ) (shard : Shard) : Type 0 where
   pub available : List (ℕ × List ℕ)
-  pub bootstrap : IsBootstrapOf p available
+  pub bootstrap : IsBootstrapInto p next node available
   pub names : List ℕ
   pub printed : IsIn available (number, names)
-  pub distinct : Ascends ◌≢◌ names
-  pub within : (node : ℕ) → IsIn names node → IsIn (former shard) node
-  pub enough : majority rf ≤ length names
+  pub peers : ArePeers p was shard names
 
--- of two placements of the present run, one the next of the other: each node that turned Available was joined by a turn that prints a majority
+-- of two placements of the present run, one the next of the other: each node that turned Available was joined by the turn that led from the one to the other
 abbrev pub Joined : Life → Type 0
 Joined life =
     (was next : Placement) → IsIn (placements life.present.start (inner_turns life.present.turns)) was → IsIn (placements life.present.start (inner_turns life.present.turns)) next
-    → (number node : ℕ) → (turns : TurnsAvailable was next number node) → (p : TurnPosition) × IsTurnPosition life.present.turns p × PrintsMajority p was.rf number turns.shard
+    → (number node : ℕ) → (turns : TurnsAvailable was next number node) → (p : TurnPosition) × IsTurnPosition life.present.turns p × IsJoiningTurn p was next number node turns.shard

@@ -17,6 +17,7 @@ use Rattle.transcripts.specs.Placements.{MayUse, counted_nodes, IsCounted}
 use Rattle.transcripts.specs.Reasons.{MayRefuse, MayServe, TakesPoint}
 use Rattle.transcripts.specs.Record.{TurnPosition}
 use Rattle.transcripts.specs.Rules.{rules_at}
+use Rattle.transcripts.specs.Waiting.{IsBegunFor}
 
 -- how many of the replicas that a level needs these counted nodes are: each is one
 abbrev pub units_of : List ℕ → ℕ
@@ -32,13 +33,14 @@ reached_of p place shard = count_by (reaches p place) (counted_nodes place shard
 
 -- ---- enough
 
--- the nodes that took a write: counted ones of the identifier's shard, each once, by name, and as many as the level needs
+-- the nodes that took a write: counted ones of the identifier's shard, each once, by name, and as many as the level needs; none whose replica lies idle
 pub record IsAcked (start : Option MetaState) (p : TurnPosition) (id : List ℕ) (level : WriteLevel) (version : Option ℕ) (acks : List ℕ) : Type 0 where
   pub place : Placement
   pub may_use : MayUse start p version place
   pub counted : (shard : ℕ) → AsksShard start p place (Some id) shard → (node : ℕ) → IsIn acks node → IsCounted place shard node
   pub by_name : Ascends (IsNamedBelow place) acks
   pub reached : (node : ℕ) → IsIn acks node → reaches p place node ≡ true
+  pub begun : (shard : ℕ) → AsksShard start p place (Some id) shard → (node : ℕ) → IsIn acks node → IsBegunFor start p place shard node
   pub enough : needed_write level place.rf ≤ units_of acks
   pub takes : TakesPoint (rules_at start p) p.turn.act
 

@@ -2,6 +2,7 @@ pub mod Record
 pub mod Rules
 pub mod Placements
 pub mod Points
+pub mod Left
 pub mod Calls
 pub mod Fates
 pub mod Faults
@@ -16,3 +17,5 @@ pub mod Joined
 pub mod Kept
 pub mod Peers
 pub mod Caused
+pub mod Blamed
+pub mod Repairs

@@ -12,8 +12,9 @@ use Rattle.m3_model.specs.declared.reason.Reason.TheVariants as reason
 use Rattle.m3_model.specs.declared.rules.MetaState.{MetaState}
 use Rattle.placement_core.specs.NodeNames.{IsNamedBelow}
 use Rattle.placement_core.specs.Shards.{former, shard_at}
-use Rattle.transcripts.specs.Fates.{OfNode}
+use Rattle.transcripts.specs.Fates.{IsStoppedAt, OfNode}
 use Rattle.transcripts.specs.Faults.{Fault}
+use Rattle.transcripts.specs.Joined.{ArePeers}
 use Rattle.transcripts.specs.Moves.{IsNew, OwnsNot}
 use Rattle.transcripts.specs.Placements.{MayStand, placement_after, placements, start_placement}
 use Rattle.transcripts.specs.Reasons.{MayFail}
@@ -65,14 +66,15 @@ pub record MissesMajority (start : Option MetaState) (p : TurnPosition) (name : 
   pub of_former : (r : ℕ × Reason) → IsIn reasons r → IsIn (former (shard_at place shard)) r.0
   pub by_name : Ascends (λ a b. IsNamedBelow place a.0 b.0) reasons
 
--- and each reason has its cause
+-- and each reason has its cause, and a stopped node one
 pub record IsUnjoined (tells : Bool) (faults : List Fault) (start : Option MetaState) (p : TurnPosition) (name : List ℕ) (asked : Option ℕ) (got needed : ℕ) (reasons : List (ℕ × Reason)) (shard : ℕ) : Type 0 where
   pub misses : MissesMajority start p name asked got needed reasons shard
+  pub stopped : (node : ℕ) → IsIn (former (shard_at misses.place shard)) node → IsStoppedAt p misses.place node → IsIn (map (λ r. r.0) reasons) node
   pub refused : (r : ℕ × Reason) → IsIn reasons r → MayBreak tells faults start p misses.place shard r.0 r.1
 
 -- ---- no version left
 
--- the node joins a shard that is asked for, and as many versions are kept as may be
+-- the node joins a shard that is asked for, as many versions are kept as may be, and so many former replicas run that its move could end
 pub record LacksVersion (start : Option MetaState) (p : TurnPosition) (name : List ℕ) (asked : Option ℕ) (limit : ℕ) : Type 0 where
   pub turns : List InnerTurn
   pub after : IsAfter p turns
@@ -80,6 +82,8 @@ pub record LacksVersion (start : Option MetaState) (p : TurnPosition) (name : Li
   pub stands : placement_after (start_placement start) turns ≡ Some place
   pub shard : ℕ
   pub joins : IsJoinedBy place name asked shard
+  pub peers : List ℕ
+  pub are_peers : ArePeers p place (shard_at place shard) peers
   pub limit_is : limit ≡ MOST_VERSIONS
   pub reached : MOST_VERSIONS ≤ kept_versions (Some place) (map (λ kept. kept.version) (placements start turns))
 

@@ -7,14 +7,17 @@ use Rattle.m3_model.specs.Members.{IsIn}
 use Rattle.m3_model.specs.declared.answer.StatusLine.{StatusLine}
 use Rattle.m3_model.specs.declared.placement.Placement.{Placement}
 use Rattle.m3_model.specs.declared.reason.Reason.{Reason}
+use Rattle.m3_model.specs.declared.reason.Reason.TheVariants as reason
 use Rattle.m3_model.specs.declared.rules.MetaState.{MetaState}
 use Rattle.placement_core.specs.NodeNames.{IsNamedBelow}
 use Rattle.placement_core.specs.Shards.{nodes_of, shard_at}
+use Rattle.transcripts.specs.Fates.{IsRunningAt}
 use Rattle.transcripts.specs.Faults.{Fault}
 use Rattle.transcripts.specs.Placements.{MayStand}
 use Rattle.transcripts.specs.Reasons.{MayFail}
 use Rattle.transcripts.specs.Record.{TurnPosition}
 use Rattle.transcripts.specs.Rules.{rules_at}
+use Rattle.transcripts.specs.Waiting.{IsBegunFor}
 
 -- ---- the members of a placement
 
@@ -56,10 +59,18 @@ pub record IsSweptOver (start : Option MetaState) (p : TurnPosition) (done : Lis
   pub done_are : done ≡ done_in entries
   pub failed_are : failed ≡ failed_in entries
 
--- and those that refused have their causes
+-- Why the replica of a node for a shard may refuse upkeep: it knows no version, so that neither its tenure nor its fence is a reason.
+abbrev pub MayNotKeepUp : Bool → List Fault → Option MetaState → TurnPosition → Placement → ℕ → ℕ → Reason → Type 0
+MayNotKeepUp tells faults start p place shard node reason.NotOwned = ⊥
+MayNotKeepUp tells faults start p place shard node (reason.Stale fence) = ⊥
+MayNotKeepUp tells faults start p place shard node why = MayFail tells faults start p place shard node why
+
+-- and the nodes of those that did it run, none of these lies idle, and those that refused have their causes
 pub record IsSwept (tells : Bool) (faults : List Fault) (start : Option MetaState) (p : TurnPosition) (done : List (ℕ × ℕ × ℕ)) (failed : List (ℕ × ℕ × Reason)) : Type 0 where
   pub over : IsSweptOver start p done failed
-  pub refused : (x : ℕ × ℕ × Reason) → IsIn failed x → MayFail tells faults start p over.place x.1 x.0 x.2
+  pub running : (x : ℕ × ℕ × ℕ) → IsIn done x → IsRunningAt p over.place x.0
+  pub begun : (x : ℕ × ℕ × ℕ) → IsIn done x → IsBegunFor start p over.place x.1 x.0
+  pub refused : (x : ℕ × ℕ × Reason) → IsIn failed x → MayNotKeepUp tells faults start p over.place x.1 x.0 x.2
 
 -- ---- status
 

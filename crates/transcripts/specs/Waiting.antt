@@ -1,5 +1,5 @@
 -- Replicas that wait for a bootstrap.
-use Rattle.std.specs.Prelude.{◌≡◌, ℕ, List, [], ◌∷◌, ◌++◌, Option, Bool, true, false, not, ◌&&◌, ◌||◌, is_some, nat_eq, fold}
+use Rattle.std.specs.Prelude.{◌≡◌, ℕ, List, [], ◌∷◌, ◌++◌, Option, Bool, true, false, not, ◌&&◌, ◌||◌, is_none, is_some, nat_eq, fold}
 use Rattle.std.specs.Option.{option_map_or}
 use Rattle.std.specs.Cmp.Lexicographic.{pointwise}
 use Rattle.m3_model.specs.declared.act.Act.{Act}
@@ -10,7 +10,7 @@ use Rattle.m3_model.specs.declared.placement.Placement.{Placement}
 use Rattle.m3_model.specs.declared.rules.MetaState.{MetaState}
 use Rattle.m3_model.specs.declared.turn.Turn.{Turn}
 use Rattle.transcripts.specs.Fates.{OfNode}
-use Rattle.transcripts.specs.Placements.{has_replica, placement_after, start_placement}
+use Rattle.transcripts.specs.Placements.{has_replica, placement_after, printed, start_placement}
 use Rattle.transcripts.specs.Record.{InnerTurn, TurnPosition, inner_turns}
 
 -- the bootstrap is of this shard: of all of its node's, or of this one
@@ -71,3 +71,21 @@ waits_at x start p =
 -- the same of a node by its number
 abbrev pub WaitsForBoot : Option MetaState → TurnPosition → Placement → ℕ → ℕ → Type 0
 WaitsForBoot start p place shard node = OfNode place node (λ name. waits_at (record { shard = shard; node = node; name = name }) start p ≡ true)
+
+-- ---- replicas for which no bootstrap was asked
+
+-- whether the replica lies idle after an act with its answer: after a restart of its node, until a bootstrap that covers it is asked, whatever that is answered; an
+-- `init` that prints a placement begins all replicas
+abbrev pub idles_by : Replica → Act → Answer → Bool → Bool
+idles_by x (act.Init rf shards seed nodes) b before = is_none (printed b) && before
+idles_by x (act.Restart node pick) answer.Done before = pointwise nat_eq x.name node || before
+idles_by x (act.Bootstrap node asked) b before = not (pointwise nat_eq x.name node && is_covering x.shard asked) && before
+idles_by x _ _ before = before
+
+-- the replica lies idle by the end of these turns; one that was a member when the run opened begins so
+abbrev pub idles_after : Replica → Option MetaState → List InnerTurn → Bool
+idles_after x start turns = fold (λ idles turn. idles_by x turn.act turn.answer idles) (is_member x (start_placement start)) turns
+
+-- a bootstrap of the replica was asked before the turn or beside it, where one is wanted
+abbrev pub IsBegunFor : Option MetaState → TurnPosition → Placement → ℕ → ℕ → Type 0
+IsBegunFor start p place shard node = OfNode place node (λ name. idles_after (record { shard = shard; node = node; name = name }) start (inner_turns p.lines ++ (p.earlier ++ p.beside)) ≡ false)

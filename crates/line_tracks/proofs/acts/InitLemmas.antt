@@ -168,7 +168,7 @@ module _ {D : Type 0} {G : Ghosts D} (state : D → DiskState) (m : Members D G)
 
   make_begin : (i : ℕ) (start : Start) → IsIn (starts_of place) start → 2 ≤ i → (e : Event) → (ask_for start ≡ e) ⊎ (step_of start (said start.slot) ≡ e) → MayMake None (take i all) p e
   make_begin i start among two e (inl is) = subst (MayMake None (take i all) p) is (place, refl, last_so i two, start_assigned place start among)
-  make_begin i start among two e (inr is) = subst (MayMake None (take i all) p) is (record { opens = tt; place = place; last = last_so i two; runs = node_runs start.slot.node start.slot.shard start.tenure (start_assigned place start among) })
+  make_begin i start among two e (inr is) = subst (MayMake None (take i all) p) is (record { opens = tt; place = place; last = last_so i two; runs = node_runs start.slot.node start.slot.shard start.tenure (start_assigned place start among) }, (place, refl, last_so i two, start_assigned place start among))
 
   make_so : (i : ℕ) (e : Event) → 2 ≤ i → At all i e → MayMake None (take i all) p e
   make_so i e two at =

@@ -21,12 +21,12 @@ use Rattle.cluster_core.specs.declared.event.Event.{Event}
 use Rattle.cluster_core.specs.declared.event.Event.TheVariants as event
 use Rattle.cluster_core.specs.declared.event.StepCall.{StepCall}
 use Rattle.cluster_core.specs.declared.event.StepReply.TheVariants as reply
-use Rattle.told_runs.proofs.told_by_proofs.JoinedLemmas.{told_joined}
 use Rattle.told_runs.proofs.told_by_proofs.KeptLemmas.{told_kept}
 use Rattle.told_runs.specs.told_causes.Faults.{fault_of, faults_told, tells_of}
 use Rattle.told_runs.proofs.told_causes_proofs.FaultLemmas.{count_append, faults_steps}
 use Rattle.told_runs.specs.Lines.{life_of}
 use Rattle.told_runs.proofs.CausedLemmas.{told_caused}
+use Rattle.told_runs.proofs.JoinedLemmas.{run_joined}
 use Rattle.told_runs.proofs.CountedLemmas.{few, of_run}
 use Rattle.transcripts.specs.Caused.{Caused}
 use Rattle.transcripts.specs.Faults.{Fault, FaultKind, Taking, Failing, Damaged, is_failing, is_taking}
@@ -84,7 +84,7 @@ module _ {D : Type 0} {G : Ghosts D} (state : D → DiskState) where
   -- ---- joined
 
   pub joined_where_tracked : (members : Option (Members D G)) → JoinedWhereTracked state members
-  joined_where_tracked members tells first now turns calls unanswered t = told_joined {tells = tells} (life_of [] None turns unanswered) (events_of members) t.legal t.served.0
+  joined_where_tracked members tells first now turns calls unanswered t = run_joined {tells = tells} (life_of [] None turns None) (events_of members) t.legal t.served.0 t.taking t.delivered t.served.1
 
 -- ---- counts of faults
 

@@ -41,7 +41,7 @@ module _ (turns : List Turn) (events : List Event) (a : Act) (b : Answer) (more 
       by _ j h = tt
 
   no_begin : BeginsGiven events more
-  no_begin n s tenure r i = absurd (opens (may_make (event.Step n s (call.Begin tenure) r) i).opens)
+  no_begin n s tenure r i = absurd (opens ((may_make (event.Step n s (call.Begin tenure) r) i).0).opens)
 
 pub quiet_turns_make_none : QuietTurnsMakeNone
 quiet_turns_make_none turns events a b more opened makes prints opens = (no_place turns events a b more opened makes prints opens, no_begin turns events a b more opened makes prints opens)

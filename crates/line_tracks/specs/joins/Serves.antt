@@ -10,7 +10,7 @@ use Rattle.m3_outside.specs.declared.disk.Disk.{Ghosts}
 use Rattle.cluster_core.specs.Core.{AgreesWith, Opening}
 use Rattle.cluster_core.specs.Legal.{Legal}
 use Rattle.cluster_core.specs.declared.event.Event.{Event}
-use Rattle.told_runs.specs.told_by.Openings.{OpeningStands}
+use Rattle.transcripts.specs.Left.{OpeningStands}
 use Rattle.told_runs.specs.Lines.{IsToldAndServed, delivered_on}
 use Rattle.transcripts.specs.Deliveries.{LateMessage}
 use Rattle.transcripts.specs.Faults.{Fault}

@@ -5,4 +5,4 @@ pub returns-clause-order : goal.returns-clause-order
 returns-clause-order g c = orders_are_tracked g.D.Disk.state c.args.members.now
 
 pub returns-clause-init : goal.returns-clause-init
-returns-clause-init g c = it g.D.Disk.state (g.met.D.Disk g.world.𝓛 g.world.𝓜 g.world.𝓡 ((λ s x. x), (λ x. x), (λ x. x), (λ x. x))).lawful c.args.members.now
+returns-clause-init g c = it g.D.Disk.state g.met.D.Disk.lawful c.args.members.now

@@ -3,10 +3,10 @@ use Rattle.line_tracks.proofs.tracks.HaltLemmas.{restarts_are_tracked, stops_are
 use Rattle.line_tracks.proofs.lines.nodes_are_tracked.Goals as goal
 
 pub returns-clause-stop : goal.returns-clause-stop
-returns-clause-stop g c = stops_are_tracked g.D.Disk.state (g.met.D.Disk g.world.𝓛 g.world.𝓜 g.world.𝓡 ((λ s x. x), (λ x. x), (λ x. x), (λ x. x))).lawful c.args.members.now
+returns-clause-stop g c = stops_are_tracked g.D.Disk.state g.met.D.Disk.lawful c.args.members.now
 
 pub returns-clause-restart : goal.returns-clause-restart
-returns-clause-restart g c = restarts_are_tracked g.D.Disk.state (g.met.D.Disk g.world.𝓛 g.world.𝓜 g.world.𝓡 ((λ s x. x), (λ x. x), (λ x. x), (λ x. x))).lawful c.args.members.now
+returns-clause-restart g c = restarts_are_tracked g.D.Disk.state g.met.D.Disk.lawful c.args.members.now
 
 pub returns-clause-bootstrap : goal.returns-clause-bootstrap
-returns-clause-bootstrap g c = bootstraps_are_tracked g.D.Disk.state (g.met.D.Disk g.world.𝓛 g.world.𝓜 g.world.𝓡 ((λ s x. x), (λ x. x), (λ x. x), (λ x. x))).lawful c.args.members.now
+returns-clause-bootstrap g c = bootstraps_are_tracked g.D.Disk.state g.met.D.Disk.lawful c.args.members.now

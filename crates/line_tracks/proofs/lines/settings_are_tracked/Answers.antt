@@ -3,13 +3,13 @@ use Rattle.line_tracks.proofs.tracks.SettingLemmas.{fates_are_tracked, moments_a
 use Rattle.line_tracks.proofs.lines.settings_are_tracked.Goals as goal
 
 pub returns-clause-namespace : goal.returns-clause-namespace
-returns-clause-namespace g c = namespaces_are_tracked g.D.Disk.state (g.met.D.Disk g.world.𝓛 g.world.𝓜 g.world.𝓡 ((λ s x. x), (λ x. x), (λ x. x), (λ x. x))).lawful c.args.members.now
+returns-clause-namespace g c = namespaces_are_tracked g.D.Disk.state g.met.D.Disk.lawful c.args.members.now
 
 pub returns-clause-moment : goal.returns-clause-moment
-returns-clause-moment g c = moments_are_tracked g.D.Disk.state (g.met.D.Disk g.world.𝓛 g.world.𝓜 g.world.𝓡 ((λ s x. x), (λ x. x), (λ x. x), (λ x. x))).lawful c.args.members.now
+returns-clause-moment g c = moments_are_tracked g.D.Disk.state g.met.D.Disk.lawful c.args.members.now
 
 pub returns-clause-fates : goal.returns-clause-fates
-returns-clause-fates g c = fates_are_tracked g.D.Disk.state (g.met.D.Disk g.world.𝓛 g.world.𝓜 g.world.𝓡 ((λ s x. x), (λ x. x), (λ x. x), (λ x. x))).lawful c.args.members.now
+returns-clause-fates g c = fates_are_tracked g.D.Disk.state g.met.D.Disk.lawful c.args.members.now
 
 pub returns-clause-delivery : goal.returns-clause-delivery
-returns-clause-delivery g c = deliveries_are_tracked g.D.Disk.state (g.met.D.Disk g.world.𝓛 g.world.𝓜 g.world.𝓡 ((λ s x. x), (λ x. x), (λ x. x), (λ x. x))).lawful c.args.members.now
+returns-clause-delivery g c = deliveries_are_tracked g.D.Disk.state g.met.D.Disk.lawful c.args.members.now

@@ -5,4 +5,4 @@ pub returns-clause-none : goal.returns-clause-none
 returns-clause-none g c = quiet_turns_make_none
 
 pub returns-clause-on : goal.returns-clause-on
-returns-clause-on g c = quiet_lines_stand_on g.D.Disk.state (g.met.D.Disk g.world.𝓛 g.world.𝓜 g.world.𝓡 ((λ s x. x), (λ x. x), (λ x. x), (λ x. x))).lawful c.args.members.now
+returns-clause-on g c = quiet_lines_stand_on g.D.Disk.state g.met.D.Disk.lawful c.args.members.now

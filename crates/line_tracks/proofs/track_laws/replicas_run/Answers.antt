@@ -13,4 +13,4 @@ pub returns-clause-opens_empty : goal.returns-clause-opens_empty
 returns-clause-opens_empty g c = run_opens_empty g.D.Disk.state c.args.replicas.now
 
 pub returns-clause-no_damage : goal.returns-clause-no_damage
-returns-clause-no_damage g c = run_finds_no_damage g.D.Disk.state (g.met.D.Disk g.world.𝓛 g.world.𝓜 g.world.𝓡 ((λ s x. x), (λ x. x), (λ x. x), (λ x. x))).lawful c.args.replicas.now
+returns-clause-no_damage g c = run_finds_no_damage g.D.Disk.state g.met.D.Disk.lawful c.args.replicas.now

@@ -11,4 +11,4 @@ pub returns-clause-joined : goal.returns-clause-joined
 returns-clause-joined g c = joined_where_tracked g.D.Disk.state c.args.members.now
 
 pub returns-clause-shown : goal.returns-clause-shown
-returns-clause-shown g c = shown_where_tracked g.D.Disk.state (g.met.D.Disk g.world.𝓛 g.world.𝓜 g.world.𝓡 ((λ s x. x), (λ x. x), (λ x. x), (λ x. x))).lawful c.args.members.now
+returns-clause-shown g c = shown_where_tracked g.D.Disk.state g.met.D.Disk.lawful c.args.members.now

@@ -4,9 +4,10 @@ use Rattle.std.proofs.lemmas.Result.{on_ok_weaker}
 use Rattle.m3_model.specs.declared.answer.Answer.TheVariants as answer
 use Rattle.m3_model.specs.declared.turn.Reply.TheVariants as reply
 use Rattle.m3_json.specs.Requests.{LineMeans}
+use Rattle.saved_cluster.specs.declared.lost.Lost.TheVariants as lost
 use Rattle.m3_program.specs.Exchanges.{reply_line}
 use Rattle.m3_program.specs.Streams.{Stage, stage}
-use Rattle.m3_program.proofs.CauseLemmas.{counts_none, counts_wanted}
+use Rattle.m3_program.proofs.CauseLemmas.{counts_none, counts_wanted, wanted_no_meta}
 use Rattle.m3_program.proofs.WrittenLemmas.{on_err_just}
 use Rattle.m3_program.proofs.ExchangeLemmas.{passes, refuses, answers, drops_served, drops_unserved}
 use Rattle.m3_program.proofs.PromiseLemmas.{Serving, may_close, served_so}
@@ -14,17 +15,17 @@ use Rattle.m3_program.proofs.exchange.answer_line.Goals as goal
 
 pub returns-then-is_blank-clause-ok : goal.returns-then-is_blank-clause-ok
 returns-then-is_blank-clause-ok g c =
-    let now : Stage g.row.X-D.Denot g.X.D.Disk = stage c.args.cluster.now (g.X.Disks.held c.args.disks.now) (g.X.Disks.counted c.args.disks.now) (g.X.Disks.all_faults c.args.disks.now) in
+    let now : Stage g.row.X-D.Denot g.X.D.Disk = stage c.args.cluster.now (g.X.Disks.depot c.args.disks.now) in
     ([], sym (append-nil c.args.replies.now.items), passes g.X.D.Disk.state now c.args.line.now [] (sym c.is_blank.ensures ∙ c.if-is_blank.true) refl)
 
 pub returns-then-is_blank-clause-close : goal.returns-then-is_blank-clause-close
 returns-then-is_blank-clause-close g c =
-    may_close g.X.D.Disk.state c.args.cluster.now (g.X.Disks.held c.args.disks.now) c.requires.may
+    may_close g.X.D.Disk.state c.args.cluster.now (g.X.Disks.depot c.args.disks.now).held c.requires.may
 
 pub returns-in-Ok-serve-clause-ok : goal.returns-in-Ok-serve-clause-ok
 returns-in-Ok-serve-clause-ok g c =
-    let old : Stage g.row.X-D.Denot g.X.D.Disk = stage c.args.cluster.now (g.X.Disks.held c.args.disks.now) (g.X.Disks.counted c.args.disks.now) (g.X.Disks.all_faults c.args.disks.now) in
-    let new : Stage g.row.X-D.Denot g.X.D.Disk = stage c.serve.new.self (g.X.Disks.held c.serve.new.disks) (g.X.Disks.counted c.serve.new.disks) (g.X.Disks.all_faults c.serve.new.disks) in
+    let old : Stage g.row.X-D.Denot g.X.D.Disk = stage c.args.cluster.now (g.X.Disks.depot c.args.disks.now) in
+    let new : Stage g.row.X-D.Denot g.X.D.Disk = stage c.serve.new.self (g.X.Disks.depot c.serve.new.disks) in
     let s : Serving g.X.D.Disk.state old c.in-Ok.request (Ok c.in-Ok-serve.reply) new = record { out = c.requires.may.meta_out; served = c.in-Ok-serve.ensures.served; tracks = c.in-Ok-serve.ensures.tracks; any_moment = c.in-Ok-serve.ensures.any_moment; tells = c.in-Ok-serve.ensures.tells } in
     on_ok_weaker c.put_reply.result
     (λ e. (
@@ -36,10 +37,10 @@ returns-in-Ok-serve-clause-ok g c =
 
 pub returns-in-Ok-serve-clause-err : goal.returns-in-Ok-serve-clause-err
 returns-in-Ok-serve-clause-err g c =
-    let old : Stage g.row.X-D.Denot g.X.D.Disk = stage c.args.cluster.now (g.X.Disks.held c.args.disks.now) (g.X.Disks.counted c.args.disks.now) (g.X.Disks.all_faults c.args.disks.now) in
-    let new : Stage g.row.X-D.Denot g.X.D.Disk = stage c.serve.new.self (g.X.Disks.held c.serve.new.disks) (g.X.Disks.counted c.serve.new.disks) (g.X.Disks.all_faults c.serve.new.disks) in
+    let old : Stage g.row.X-D.Denot g.X.D.Disk = stage c.args.cluster.now (g.X.Disks.depot c.args.disks.now) in
+    let new : Stage g.row.X-D.Denot g.X.D.Disk = stage c.serve.new.self (g.X.Disks.depot c.serve.new.disks) in
     let s : Serving g.X.D.Disk.state old c.in-Ok.request (Ok c.in-Ok-serve.reply) new = record { out = c.requires.may.meta_out; served = c.in-Ok-serve.ensures.served; tracks = c.in-Ok-serve.ensures.tracks; any_moment = c.in-Ok-serve.ensures.any_moment; tells = c.in-Ok-serve.ensures.tells } in
-    on_err_just c.put_reply.result (drops_served g.X.D.Disk.state old new c.args.line.now c.in-Ok.request (Ok c.in-Ok-serve.reply) c.in-Ok.ensures.ok s)
+    on_err_just c.put_reply.result (drops_served g.X.D.Disk.state old new c.args.line.now c.in-Ok.request (Ok c.in-Ok-serve.reply) _ c.in-Ok.ensures.ok s)
 
 pub returns-in-Ok-serve-clause-may : goal.returns-in-Ok-serve-clause-may
 returns-in-Ok-serve-clause-may g c =
@@ -51,14 +52,14 @@ returns-in-Ok-serve-clause-meta g c =
 
 pub returns-in-Err-clause-err : goal.returns-in-Err-clause-err
 returns-in-Err-clause-err g c =
-    let old : Stage g.row.X-D.Denot g.X.D.Disk = stage c.args.cluster.now (g.X.Disks.held c.args.disks.now) (g.X.Disks.counted c.args.disks.now) (g.X.Disks.all_faults c.args.disks.now) in
-    let new : Stage g.row.X-D.Denot g.X.D.Disk = stage c.serve.new.self (g.X.Disks.held c.serve.new.disks) (g.X.Disks.counted c.serve.new.disks) (g.X.Disks.all_faults c.serve.new.disks) in
+    let old : Stage g.row.X-D.Denot g.X.D.Disk = stage c.args.cluster.now (g.X.Disks.depot c.args.disks.now) in
+    let new : Stage g.row.X-D.Denot g.X.D.Disk = stage c.serve.new.self (g.X.Disks.depot c.serve.new.disks) in
     let s : Serving g.X.D.Disk.state old c.in-Ok.request (Err c.in-Err.lost) new = record { out = c.requires.may.meta_out; served = c.in-Err.ensures.served; tracks = c.in-Err.ensures.tracks; any_moment = c.in-Err.ensures.any_moment; tells = c.in-Err.ensures.tells } in
-    drops_served g.X.D.Disk.state old new c.args.line.now c.in-Ok.request (Err c.in-Err.lost) c.in-Ok.ensures.ok s
+    drops_served g.X.D.Disk.state old new c.args.line.now c.in-Ok.request (Err c.in-Err.lost) _ c.in-Ok.ensures.ok s
 
 pub returns-in-Err-Form-clause-ok : goal.returns-in-Err-Form-clause-ok
 returns-in-Err-Form-clause-ok g c =
-    let now : Stage g.row.X-D.Denot g.X.D.Disk = stage c.args.cluster.now (g.X.Disks.held c.args.disks.now) (g.X.Disks.counted c.args.disks.now) (g.X.Disks.all_faults c.args.disks.now) in
+    let now : Stage g.row.X-D.Denot g.X.D.Disk = stage c.args.cluster.now (g.X.Disks.depot c.args.disks.now) in
     on_ok_weaker c.put_reply-in-Err-Form.result
     (λ e. (
       _,
@@ -69,8 +70,8 @@ returns-in-Err-Form-clause-ok g c =
 
 pub returns-in-Err-Form-clause-err : goal.returns-in-Err-Form-clause-err
 returns-in-Err-Form-clause-err g c =
-    let now : Stage g.row.X-D.Denot g.X.D.Disk = stage c.args.cluster.now (g.X.Disks.held c.args.disks.now) (g.X.Disks.counted c.args.disks.now) (g.X.Disks.all_faults c.args.disks.now) in
-    on_err_just c.put_reply-in-Err-Form.result (drops_unserved g.X.D.Disk.state now c.args.line.now)
+    let now : Stage g.row.X-D.Denot g.X.D.Disk = stage c.args.cluster.now (g.X.Disks.depot c.args.disks.now) in
+    on_err_just c.put_reply-in-Err-Form.result (drops_unserved g.X.D.Disk.state now c.args.line.now _ (wanted_no_meta c.put_reply-in-Err-Form.result c.put_reply-in-Err-Form.ensures.want))
 
 pub returns-in-Err-Form-clause-may : goal.returns-in-Err-Form-clause-may
 returns-in-Err-Form-clause-may g c =
@@ -78,7 +79,7 @@ returns-in-Err-Form-clause-may g c =
 
 pub returns-in-Err-Form-clause-close : goal.returns-in-Err-Form-clause-close
 returns-in-Err-Form-clause-close g c =
-    may_close g.X.D.Disk.state c.args.cluster.now (g.X.Disks.held c.args.disks.now) c.requires.may
+    may_close g.X.D.Disk.state c.args.cluster.now (g.X.Disks.depot c.args.disks.now).held c.requires.may
 
 pub returns-in-Err-Form-clause-meta : goal.returns-in-Err-Form-clause-meta
 returns-in-Err-Form-clause-meta g c =
@@ -86,7 +87,7 @@ returns-in-Err-Form-clause-meta g c =
 
 pub returns-in-Err-Later-clause-ok : goal.returns-in-Err-Later-clause-ok
 returns-in-Err-Later-clause-ok g c =
-    let now : Stage g.row.X-D.Denot g.X.D.Disk = stage c.args.cluster.now (g.X.Disks.held c.args.disks.now) (g.X.Disks.counted c.args.disks.now) (g.X.Disks.all_faults c.args.disks.now) in
+    let now : Stage g.row.X-D.Denot g.X.D.Disk = stage c.args.cluster.now (g.X.Disks.depot c.args.disks.now) in
     on_ok_weaker c.put_reply-in-Err-Later.result
     (λ e. (
       _,
@@ -97,8 +98,8 @@ returns-in-Err-Later-clause-ok g c =
 
 pub returns-in-Err-Later-clause-err : goal.returns-in-Err-Later-clause-err
 returns-in-Err-Later-clause-err g c =
-    let now : Stage g.row.X-D.Denot g.X.D.Disk = stage c.args.cluster.now (g.X.Disks.held c.args.disks.now) (g.X.Disks.counted c.args.disks.now) (g.X.Disks.all_faults c.args.disks.now) in
-    on_err_just c.put_reply-in-Err-Later.result (drops_unserved g.X.D.Disk.state now c.args.line.now)
+    let now : Stage g.row.X-D.Denot g.X.D.Disk = stage c.args.cluster.now (g.X.Disks.depot c.args.disks.now) in
+    on_err_just c.put_reply-in-Err-Later.result (drops_unserved g.X.D.Disk.state now c.args.line.now _ (wanted_no_meta c.put_reply-in-Err-Later.result c.put_reply-in-Err-Later.ensures.want))
 
 pub returns-in-Err-Later-clause-may : goal.returns-in-Err-Later-clause-may
 returns-in-Err-Later-clause-may g c =
@@ -106,7 +107,7 @@ returns-in-Err-Later-clause-may g c =
 
 pub returns-in-Err-Later-clause-close : goal.returns-in-Err-Later-clause-close
 returns-in-Err-Later-clause-close g c =
-    may_close g.X.D.Disk.state c.args.cluster.now (g.X.Disks.held c.args.disks.now) c.requires.may
+    may_close g.X.D.Disk.state c.args.cluster.now (g.X.Disks.depot c.args.disks.now).held c.requires.may
 
 pub returns-in-Err-Later-clause-meta : goal.returns-in-Err-Later-clause-meta
 returns-in-Err-Later-clause-meta g c =
@@ -114,12 +115,12 @@ returns-in-Err-Later-clause-meta g c =
 
 pub returns-in-Err-Memory-clause-err : goal.returns-in-Err-Memory-clause-err
 returns-in-Err-Memory-clause-err g c =
-    let now : Stage g.row.X-D.Denot g.X.D.Disk = stage c.args.cluster.now (g.X.Disks.held c.args.disks.now) (g.X.Disks.counted c.args.disks.now) (g.X.Disks.all_faults c.args.disks.now) in
-    drops_unserved g.X.D.Disk.state now c.args.line.now
+    let now : Stage g.row.X-D.Denot g.X.D.Disk = stage c.args.cluster.now (g.X.Disks.depot c.args.disks.now) in
+    drops_unserved g.X.D.Disk.state now c.args.line.now _ (wanted_no_meta (Err lost.Memory) refl)
 
 pub returns-in-Err-Memory-clause-close : goal.returns-in-Err-Memory-clause-close
 returns-in-Err-Memory-clause-close g c =
-    may_close g.X.D.Disk.state c.args.cluster.now (g.X.Disks.held c.args.disks.now) c.requires.may
+    may_close g.X.D.Disk.state c.args.cluster.now (g.X.Disks.depot c.args.disks.now).held c.requires.may
 
 pub returns-in-Err-Memory-clause-meta : goal.returns-in-Err-Memory-clause-meta
 returns-in-Err-Memory-clause-meta g c =

@@ -1,4 +1,4 @@
-use Rattle.saved_cluster.specs.first_cluster.Depots.{depot_by}
+use Rattle.m3_program.specs.Passing.{outflow}
 use Rattle.m3_program.proofs.CauseLemmas.{memory_ends}
 use Rattle.m3_program.proofs.CloseLemmas.{unopened_idly}
 use Rattle.m3_program.proofs.RunLemmas.{told_unopened}
@@ -7,13 +7,13 @@ use Rattle.m3_program.proofs.run.run.Goals as goal
 
 pub returns-in-Err-Memory-clause-told : goal.returns-in-Err-Memory-clause-told
 returns-in-Err-Memory-clause-told g c = λ asked.
-    let disks = (depot_by g.X.Disks.held g.X.Disks.counted g.X.Disks.all_faults c.args.disks.now) in
-    told_unopened g.X.D.Disk.state disks disks _ (g.S.Source.left c.args.source.now) (g.K.Sink.written c.args.out.now) (unopened_idly g.X.D.Disk.state disks)
+    let disks = (g.X.Disks.depot c.args.disks.now) in
+    told_unopened g.X.D.Disk.state disks disks _ (g.S.Source.left c.args.source.now) (g.S.Source.gave c.args.source.now) (outflow (g.K.Sink.written c.args.out.now) (g.K.Sink.took c.args.out.now)) (unopened_idly g.X.D.Disk.state disks)
 
 pub returns-in-Err-Memory-clause-generated : goal.returns-in-Err-Memory-clause-generated
-returns-in-Err-Memory-clause-generated g c = λ number asked before.
-    let disks = (depot_by g.X.Disks.held g.X.Disks.counted g.X.Disks.all_faults c.args.disks.now) in
-    generated_unopened g.X.D.Disk.state disks disks number _ (unopened_idly g.X.D.Disk.state disks) before (g.K.Sink.written c.args.out.now)
+returns-in-Err-Memory-clause-generated g c = λ number asked.
+    let disks = (g.X.Disks.depot c.args.disks.now) in
+    generated_unopened g.X.D.Disk.state disks disks number _ (unopened_idly g.X.D.Disk.state disks) (outflow (g.K.Sink.written c.args.out.now) (g.K.Sink.took c.args.out.now))
 
 pub returns-in-Err-Memory-clause-cause : goal.returns-in-Err-Memory-clause-cause
 returns-in-Err-Memory-clause-cause g c = memory_ends _ _ _ _ _ _ _ _ _ _

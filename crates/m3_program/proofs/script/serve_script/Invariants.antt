@@ -7,9 +7,9 @@ use Rattle.m3_program.proofs.script.serve_script.Given as goal
 
 abbrev pub invariant-loop-request : goal.invariant-loop-request
 invariant-loop-request g l = record {
-  goes : Goes g.X.D.Disk.state (opening_at (stage l.fn.cluster (g.X.Disks.held l.fn.disks) (g.X.Disks.counted l.fn.disks) (g.X.Disks.all_faults l.fn.disks))) l.fn.number (requests_left l.left) l.summary
-      (stage l.cluster (g.X.Disks.held l.disks) (g.X.Disks.counted l.disks) (g.X.Disks.all_faults l.disks));
-  may : MayServeSaved g.X.D.Disk.state l.cluster (g.X.Disks.held l.disks);
+  goes : Goes g.X.D.Disk.state (opening_at (stage l.fn.cluster (g.X.Disks.depot l.fn.disks))) l.fn.number (requests_left l.left) l.summary
+      (stage l.cluster (g.X.Disks.depot l.disks));
+  may : MayServeSaved g.X.D.Disk.state l.cluster (g.X.Disks.depot l.disks).held;
   later : (g.X.D.Disk.state l.fn.cluster.meta).faults ≤ (g.X.D.Disk.state l.cluster.meta).faults;
 }
 

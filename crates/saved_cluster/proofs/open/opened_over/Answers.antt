@@ -2,7 +2,6 @@ use Rattle.std.proofs.Common.{[], sym, ap, subst}
 use Rattle.std.specs.Prelude.{Err}
 use Rattle.placement_log.specs.States.{MayBeState}
 use Rattle.line_tracks.specs.acts.Stands.{ClusterStands}
-use Rattle.line_tracks.specs.first_cluster.Depots.{depot_by}
 use Rattle.line_tracks.specs.tracks.Lines.{EachMember}
 use Rattle.saved_cluster.specs.Openings.{OpensWith}
 use Rattle.saved_cluster.specs.Saved.{IsSaved}
@@ -12,19 +11,19 @@ use Rattle.saved_cluster.proofs.open.opened_over.Goals as goal
 
 -- the log couldn't be read
 pub returns-in-Err-clause-returned : goal.returns-in-Err-clause-returned
-returns-in-Err-clause-returned g c = none_left g.D.Disk.state (depot_by g.X.Disks.held g.X.Disks.counted g.X.Disks.all_faults c.args.disks.now)
+returns-in-Err-clause-returned g c = none_left g.D.Disk.state (g.X.Disks.depot c.args.disks.now)
 
 pub returns-in-Err-clause-cause : goal.returns-in-Err-clause-cause
 returns-in-Err-clause-cause g c =
-    not_opened g.D.Disk.state (depot_by g.X.Disks.held g.X.Disks.counted g.X.Disks.all_faults c.args.disks.now) c.args.meta.now c.open.new.disk c.in-Err.why (λ is. c.in-Err.ensures.faults.rose (ap Err is)) c.in-Err.ensures.err
+    not_opened g.D.Disk.state (g.X.Disks.depot c.args.disks.now) c.args.meta.now c.open.new.disk c.in-Err.why (λ is. c.in-Err.ensures.faults.rose (ap Err is)) c.in-Err.ensures.err
 
 -- the cluster goes on with what it holds
 pub opened-requires-clause-state : goal.opened-requires-clause-state
-opened-requires-clause-state g c κs lives = c.in-Ok.ensures.state
+opened-requires-clause-state g c = c.in-Ok.ensures.state
 
 pub returns-in-Err-opened-clause-cause : goal.returns-in-Err-opened-clause-cause
 returns-in-Err-opened-clause-cause g c =
-    not_gone_on g.D.Disk.state (depot_by g.X.Disks.held g.X.Disks.counted g.X.Disks.all_faults c.args.disks.now) (depot_by g.X.Disks.held g.X.Disks.counted g.X.Disks.all_faults c.opened.new.disks) c.args.meta.now c.open.new.disk c.in-Err-opened.why c.in-Err-opened.ensures.cause
+    not_gone_on g.D.Disk.state (g.X.Disks.depot c.args.disks.now) (g.X.Disks.depot c.opened.new.disks) c.args.meta.now c.open.new.disk c.in-Err-opened.why c.in-Err-opened.ensures.cause
 
 pub returns-in-Ok-opened-clause-saved : goal.returns-in-Ok-opened-clause-saved
 returns-in-Ok-opened-clause-saved g c =
@@ -35,8 +34,8 @@ returns-in-Ok-opened-clause-state g c = subst MayBeState (sym c.in-Ok-opened.ens
 
 pub returns-in-Ok-opened-clause-opened : goal.returns-in-Ok-opened-clause-opened
 returns-in-Ok-opened-clause-opened g c =
-    let before = depot_by g.X.Disks.held g.X.Disks.counted g.X.Disks.all_faults c.args.disks.now in
-    let after = depot_by g.X.Disks.held g.X.Disks.counted g.X.Disks.all_faults c.opened.new.disks in
+    let before = g.X.Disks.depot c.args.disks.now in
+    let after = g.X.Disks.depot c.opened.new.disks in
     subst (λ o. OpensWith g.D.Disk.state o before after c.in-Ok-opened.cluster.members) (sym c.in-Ok-opened.ensures.state) c.in-Ok-opened.ensures.opened
 
 pub returns-in-Ok-opened-clause-stands : goal.returns-in-Ok-opened-clause-stands

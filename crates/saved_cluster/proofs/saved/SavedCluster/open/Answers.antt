@@ -1,6 +1,5 @@
 use Rattle.std.proofs.Common.{refl, sym, ap, ◌∙◌, inl}
 use Rattle.std.specs.Prelude.{Err}
-use Rattle.line_tracks.specs.first_cluster.Depots.{depot_by}
 use Rattle.saved_cluster.specs.Openings.{HasMetaDisk, IsMetaDisk}
 use Rattle.saved_cluster.proofs.OpenLemmas.{back_none_out, given_back, not_opened_so, not_taken, opens_out}
 use Rattle.saved_cluster.proofs.OutLemmas.{left_out, meta_at}
@@ -9,29 +8,29 @@ use Rattle.saved_cluster.proofs.saved.SavedCluster.open.Goals as goal
 -- The meta disk couldn't be taken.
 pub returns-in-Err-Failed : goal.returns-in-Err-Failed
 returns-in-Err-Failed g c =
-    let before = depot_by g.X.Disks.held g.X.Disks.counted g.X.Disks.all_faults c.args.disks.now in
-    let after = depot_by g.X.Disks.held g.X.Disks.counted g.X.Disks.all_faults c.take.new.self in
+    let before = g.X.Disks.depot c.args.disks.now in
+    let after = g.X.Disks.depot c.take.new.self in
     let take = c.take.ensures in
     let back = not_taken g.D.Disk.state before after c.in-Err-Failed.ensures.refused take.others take.counted take.cause.later in
     record { opened = tt; may = tt; stands = tt; tracks = tt; none_out = back_none_out g.D.Disk.state before after back c.requires.none_out; returned = back; cause = inl (c.in-Err-Failed.ensures.cause.rose (ap Err c.in-Err-Failed.field-0-is)) }
 
 pub returns-in-Err-Memory : goal.returns-in-Err-Memory
 returns-in-Err-Memory g c =
-    let before = depot_by g.X.Disks.held g.X.Disks.counted g.X.Disks.all_faults c.args.disks.now in
-    let after = depot_by g.X.Disks.held g.X.Disks.counted g.X.Disks.all_faults c.take.new.self in
+    let before = g.X.Disks.depot c.args.disks.now in
+    let after = g.X.Disks.depot c.take.new.self in
     let take = c.take.ensures in
     let back = not_taken g.D.Disk.state before after c.in-Err-Memory.ensures.refused take.others take.counted take.cause.later in
     record { opened = tt; may = tt; stands = tt; tracks = tt; none_out = back_none_out g.D.Disk.state before after back c.requires.none_out; returned = back; cause = tt }
 
 -- Those of nodes are where they were.
-pub opened_over-requires-clause-free : goal.opened_over-requires-clause-free
-opened_over-requires-clause-free g c κs lives = λ disk_slot other out. c.requires.none_out disk_slot (sym (c.take.ensures.others disk_slot other) ∙ out)
+pub opened_over-requires : goal.opened_over-requires
+opened_over-requires g c = record { free = λ disk_slot other out. c.requires.none_out disk_slot (sym (c.take.ensures.others disk_slot other) ∙ out) }
 
 -- It is opened.
 pub returns-in-Ok-opened_over : goal.returns-in-Ok-opened_over
 returns-in-Ok-opened_over g c =
-    let mid = depot_by g.X.Disks.held g.X.Disks.counted g.X.Disks.all_faults c.take.new.self in
-    let new = depot_by g.X.Disks.held g.X.Disks.counted g.X.Disks.all_faults c.opened_over.new.disks in
+    let mid = g.X.Disks.depot c.take.new.self in
+    let new = g.X.Disks.depot c.opened_over.new.disks in
     let take = c.take.ensures in
     let over = c.in-Ok-opened_over.ensures in
     record {
@@ -56,14 +55,14 @@ returns-in-Ok-opened_over g c =
 -- It couldn't be: the meta disk is given back behind those of nodes.
 pub give-requires : goal.give-requires
 give-requires g c =
-    left_out g.D.Disk.state (depot_by g.X.Disks.held g.X.Disks.counted g.X.Disks.all_faults c.take.new.self) (depot_by g.X.Disks.held g.X.Disks.counted g.X.Disks.all_faults c.opened_over.new.disks) (c.in-Err.ensures.returned.each meta_at) c.in-Ok.ensures.out
+    left_out g.D.Disk.state (g.X.Disks.depot c.take.new.self) (g.X.Disks.depot c.opened_over.new.disks) (c.in-Err.ensures.returned.each meta_at) c.in-Ok.ensures.out
 
 pub returns-in-Err : goal.returns-in-Err
 returns-in-Err g c =
-    let before = depot_by g.X.Disks.held g.X.Disks.counted g.X.Disks.all_faults c.args.disks.now in
-    let mid = depot_by g.X.Disks.held g.X.Disks.counted g.X.Disks.all_faults c.take.new.self in
-    let after = depot_by g.X.Disks.held g.X.Disks.counted g.X.Disks.all_faults c.opened_over.new.disks in
-    let new = depot_by g.X.Disks.held g.X.Disks.counted g.X.Disks.all_faults c.give.new.self in
+    let before = g.X.Disks.depot c.args.disks.now in
+    let mid = g.X.Disks.depot c.take.new.self in
+    let after = g.X.Disks.depot c.opened_over.new.disks in
+    let new = g.X.Disks.depot c.give.new.self in
     let take = c.take.ensures in
     let give = c.give.ensures in
     let disk = c.in-Ok.meta in

@@ -6,8 +6,8 @@ use Rattle.saved_cluster.proofs.DiskLemmas.{counts_as, saved_now}
 use Rattle.served_cluster.specs.Plans.{state_of}
 use Rattle.saved_cluster.proofs.saved.SavedCluster.save.Goals as goal
 
-pub save-requires-after_bounds : goal.save-requires-after_bounds
-save-requires-after_bounds g c κs within = subst (λ o. IsReadyFor o c.args.self.now.log (g.D.Disk.state c.args.self.now.meta)) (sym c.state.ensures ∙ ap option_copied c.in-Some.is) c.requires
+pub save-requires : goal.save-requires
+save-requires g c = subst (λ o. IsReadyFor o c.args.self.now.log (g.D.Disk.state c.args.self.now.meta)) (sym c.state.ensures ∙ ap option_copied c.in-Some.is) c.requires
 
 pub returns-in-Ok-clause-saved : goal.returns-in-Ok-clause-saved
 returns-in-Ok-clause-saved g c = λ last h.

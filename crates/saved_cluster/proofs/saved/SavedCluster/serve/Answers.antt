@@ -4,7 +4,6 @@ use Rattle.m3_model.specs.declared.answer.Answer.{Answer}
 use Rattle.m3_model.specs.declared.turn.Reply.{Reply}
 use Rattle.m3_model.specs.declared.turn.Reply.TheVariants as reply
 use Rattle.served_acts.specs.NotYet.{IsServed}
-use Rattle.line_tracks.specs.first_cluster.Depots.{depot_by}
 use Rattle.line_tracks.specs.transcripts.Placements.{placement_after}
 use Rattle.line_tracks.specs.transcripts.Record.{inner_turns}
 use Rattle.served_cluster.specs.Acts.{Serves, ServesRequest}
@@ -13,7 +12,7 @@ use Rattle.served_cluster.specs.Plans.{state_of}
 use Rattle.served_cluster.proofs.PlaceLemmas.{serves_place}
 use Rattle.served_cluster.proofs.TrackLemmas.{tracks_on}
 use Rattle.saved_cluster.specs.Saved.{AnswersSaved, ElapsesBy, IsUnbegun, MayServeSaved}
-use Rattle.saved_cluster.specs.States.{is_init_request, kept_of, saves}
+use Rattle.saved_cluster.specs.States.{is_init_request, saves}
 use Rattle.saved_cluster.specs.declared.lost.Lost.TheVariants as lost
 use Rattle.saved_cluster.proofs.DiskLemmas.{counts_as}
 use Rattle.saved_cluster.proofs.ServeLemmas.{err_as, init_of}
@@ -24,8 +23,8 @@ use Rattle.saved_cluster.proofs.saved.SavedCluster.serve.Goals as goal
 pub returns-in-Ok-clause-served : goal.returns-in-Ok-clause-served
 returns-in-Ok-clause-served g c =
     let act = c.serve_act-answered in
-    let before = depot_by g.X.Disks.held g.X.Disks.counted g.X.Disks.all_faults c.args.disks.now in
-    let after = depot_by g.X.Disks.held g.X.Disks.counted g.X.Disks.all_faults act.new.disks in
+    let before = g.X.Disks.depot c.args.disks.now in
+    let after = g.X.Disks.depot act.new.disks in
     let old = c.args.self.now.cluster in
     let answered = subst (λ r. AnswersSaved g.D.Disk.state before c.args.self.now c.in-One.act r after act.new.self) c.in-Ok.is act.ensures.answered in
     let serves = subst (λ b. Serves g.D.Disk.state before old c.in-One.act b after act.new.self.cluster) (sym answered.served.1) answered.served.2 in
@@ -34,8 +33,8 @@ returns-in-Ok-clause-served g c =
 pub returns-in-Ok-clause-place : goal.returns-in-Ok-clause-place
 returns-in-Ok-clause-place g c =
     let act = c.serve_act-answered in
-    let before = depot_by g.X.Disks.held g.X.Disks.counted g.X.Disks.all_faults c.args.disks.now in
-    let after = depot_by g.X.Disks.held g.X.Disks.counted g.X.Disks.all_faults act.new.disks in
+    let before = g.X.Disks.depot c.args.disks.now in
+    let after = g.X.Disks.depot act.new.disks in
     let old = c.args.self.now.cluster in
     let answered = subst (λ r. AnswersSaved g.D.Disk.state before c.args.self.now c.in-One.act r after act.new.self) c.in-Ok.is act.ensures.answered in
     let serves = subst (λ b. Serves g.D.Disk.state before old c.in-One.act b after act.new.self.cluster) (sym answered.served.1) answered.served.2 in
@@ -44,47 +43,47 @@ returns-in-Ok-clause-place g c =
 pub returns-in-Ok-clause-tracks : goal.returns-in-Ok-clause-tracks
 returns-in-Ok-clause-tracks g c = λ tells first turns t.
     let act = c.serve_act-answered in
-    let before = depot_by g.X.Disks.held g.X.Disks.counted g.X.Disks.all_faults c.args.disks.now in
-    let after = depot_by g.X.Disks.held g.X.Disks.counted g.X.Disks.all_faults act.new.disks in
+    let before = g.X.Disks.depot c.args.disks.now in
+    let after = g.X.Disks.depot act.new.disks in
     let old = c.args.self.now.cluster in
     let answered = subst (λ r. AnswersSaved g.D.Disk.state before c.args.self.now c.in-One.act r after act.new.self) c.in-Ok.is act.ensures.answered in
     let serves = subst (λ b. Serves g.D.Disk.state before old c.in-One.act b after act.new.self.cluster) (sym answered.served.1) answered.served.2 in (
       _,
       refl,
-      tracks_on g.D.Disk.state (g.met.D.Disk g.world.𝓛 g.world.𝓜 g.world.𝓡 ((λ s x. x), (λ x. x), (λ x. x), (λ x. x))).lawful old act.new.self.cluster before after c.args.request c.in-One.act c.in-Ok.answer c.in-One.is (subst IsServed c.in-One.is c.requires.served)
+      tracks_on g.D.Disk.state g.met.D.Disk.lawful old act.new.self.cluster before after c.args.request c.in-One.act c.in-Ok.answer c.in-One.is (subst IsServed c.in-One.is c.requires.served)
           c.know.ensures.members serves c.know-in-One.ensures.legal answered.close.cluster tells first turns t,
     )
 
 pub returns-in-Err-clause-tracks : goal.returns-in-Err-clause-tracks
 returns-in-Err-clause-tracks g c = λ tells first turns t.
     let act = c.serve_act-answered in
-    let before = depot_by g.X.Disks.held g.X.Disks.counted g.X.Disks.all_faults c.args.disks.now in
-    let after = depot_by g.X.Disks.held g.X.Disks.counted g.X.Disks.all_faults act.new.disks in
+    let before = g.X.Disks.depot c.args.disks.now in
+    let after = g.X.Disks.depot act.new.disks in
     let old = c.args.self.now.cluster in
     let said = act.ensures.answered.served in (
       reply.One said.0,
       tt,
-      tracks_on g.D.Disk.state (g.met.D.Disk g.world.𝓛 g.world.𝓜 g.world.𝓡 ((λ s x. x), (λ x. x), (λ x. x), (λ x. x))).lawful old act.new.self.cluster before after c.args.request c.in-One.act said.0 c.in-One.is (subst IsServed c.in-One.is c.requires.served)
+      tracks_on g.D.Disk.state g.met.D.Disk.lawful old act.new.self.cluster before after c.args.request c.in-One.act said.0 c.in-One.is (subst IsServed c.in-One.is c.requires.served)
           c.know.ensures.members said.2 c.know-in-One.ensures.legal act.ensures.answered.close.cluster tells first turns t,
     )
 
 pub returns-in-Err-clause-served : goal.returns-in-Err-clause-served
 returns-in-Err-clause-served g c =
     let act = c.serve_act-answered in
-    let before = depot_by g.X.Disks.held g.X.Disks.counted g.X.Disks.all_faults c.args.disks.now in
-    let after = depot_by g.X.Disks.held g.X.Disks.counted g.X.Disks.all_faults act.new.disks in
+    let before = g.X.Disks.depot c.args.disks.now in
+    let after = g.X.Disks.depot act.new.disks in
     let said = act.ensures.answered.served in
     (reply.One said.0, tt, subst (λ r. ServesRequest g.D.Disk.state before c.args.self.now.cluster r (reply.One said.0) after act.new.self.cluster) (sym c.in-One.is) said.2)
 
 pub returns-in-Ok-clause-any_moment : goal.returns-in-Ok-clause-any_moment
 returns-in-Ok-clause-any_moment g c = λ tells.
     let old = c.args.self.now in
-    subst (λ r. ElapsesBy (state_of old.cluster) (kept_of old.cluster) r (g.D.Disk.state old.meta) (g.D.Disk.state c.serve_act-answered.new.self.meta)) (sym c.in-One.is) (c.serve_act-answered.ensures.answered.any_moment tells)
+    subst (λ r. ElapsesBy old.cluster r (g.D.Disk.state old.meta) (g.D.Disk.state c.serve_act-answered.new.self.meta)) (sym c.in-One.is) (c.serve_act-answered.ensures.answered.any_moment tells)
 
 pub returns-in-Err-clause-any_moment : goal.returns-in-Err-clause-any_moment
 returns-in-Err-clause-any_moment g c = λ tells.
     let old = c.args.self.now in
-    subst (λ r. ElapsesBy (state_of old.cluster) (kept_of old.cluster) r (g.D.Disk.state old.meta) (g.D.Disk.state c.serve_act-answered.new.self.meta)) (sym c.in-One.is) (c.serve_act-answered.ensures.answered.any_moment tells)
+    subst (λ r. ElapsesBy old.cluster r (g.D.Disk.state old.meta) (g.D.Disk.state c.serve_act-answered.new.self.meta)) (sym c.in-One.is) (c.serve_act-answered.ensures.answered.any_moment tells)
 
 -- Why it got no reply is why the act got no answer.
 
@@ -110,4 +109,4 @@ pub returns-in-Ok-clause-others : goal.returns-in-Ok-clause-others
 returns-in-Ok-clause-others g c = λ stays. let others = c.serve_act-answered.ensures.others (sym (ap saves c.in-One.is) ∙ stays) in (others.0, others.1, refl)
 
 pub returns-in-Ok-clause-may : goal.returns-in-Ok-clause-may
-returns-in-Ok-clause-may g c = subst (λ r. OnOk r (MayServeSaved g.D.Disk.state c.serve_act-answered.new.self (g.X.Disks.held c.serve_act-answered.new.disks))) c.in-Ok.is c.serve_act-answered.ensures.answered.may
+returns-in-Ok-clause-may g c = subst (λ r. OnOk r (MayServeSaved g.D.Disk.state c.serve_act-answered.new.self (g.X.Disks.depot c.serve_act-answered.new.disks).held)) c.in-Ok.is c.serve_act-answered.ensures.answered.may

@@ -22,13 +22,13 @@ returns-in-Answered-clause-answered g c = λ depot may.
     (subst (λ b. OpensNode g.D.Disk.state c.args.self.now.cluster c.args.node c.args.shard b c.open_node.new.self) c.in-Answered.is opened.opens)
 
 -- The save is readied.
-pub state_with-requires-after_bounds : goal.state_with-requires-after_bounds
-state_with-requires-after_bounds g c κs within =
+pub state_with-requires : goal.state_with-requires
+state_with-requires g c =
     let to = subst (λ b. OpensNode g.D.Disk.state c.args.self.now.cluster c.args.node c.args.shard b c.open_node.new.self) c.in-Joined.is c.open_node.ensures.opens in
     may_mark g.D.Disk.state c.args.self.now.cluster c.open_node.new.self c.open_node.new.self c.args.node c.args.shard c.in-Joined.marking to.0 refl
 
 pub ready-requires-clause-state : goal.ready-requires-clause-state
-ready-requires-clause-state g c κs within =
+ready-requires-clause-state g c =
     let to = subst (λ b. OpensNode g.D.Disk.state c.args.self.now.cluster c.args.node c.args.shard b c.open_node.new.self) c.in-Joined.is c.open_node.ensures.opens in
     subst (λ o. IfSome o IsMetaState) (sym c.ok-next.ensures.value)
     (made_lawful c.state_with.result _ c.state_with.ensures (λ next leads. joined_lawful g.D.Disk.state c.args.self.now.cluster c.open_node.new.self c.args.node c.args.shard c.in-Joined.marking to.0 next leads c.requires.may.1.state))
@@ -43,14 +43,14 @@ returns-in-Err-clause-answered g c = λ depot may.
     (boot_unready g.D.Disk.state depot c.args.self.now c.open_node.new.self c.args.node c.args.shard may opened.state opened.still c.ready.new.self readied.cluster readied.log readied.any_moment readied.tells to.1 c.in-Err.why c.in-Err.ensures.faults)
 
 -- What was joined is marked.
-pub mark-marked-requires-after_bounds : goal.mark-marked-requires-after_bounds
-mark-marked-requires-after_bounds g c κs within =
+pub mark-marked-requires : goal.mark-marked-requires
+mark-marked-requires g c =
     let to = subst (λ b. OpensNode g.D.Disk.state c.args.self.now.cluster c.args.node c.args.shard b c.open_node.new.self) c.in-Joined.is c.open_node.ensures.opens in
     may_mark g.D.Disk.state c.args.self.now.cluster c.open_node.new.self c.ready.new.self.cluster c.args.node c.args.shard c.in-Joined.marking to.0 c.ready.ensures.cluster
 
 -- The state is saved.
-pub save-requires-after_bounds : goal.save-requires-after_bounds
-save-requires-after_bounds g c κs within =
+pub save-requires : goal.save-requires
+save-requires g c =
     let mid = c.ready.new.self in
     let same = c.mark-marked.ensures.state ∙ ap (λ x. option_map (by_marking c.in-Joined.marking) (state_of x)) c.ready.ensures.cluster in
     let next = subst (λ o. IsReadyFor o mid.log (g.D.Disk.state mid.meta)) c.ok-next.ensures.value c.in-Ok.ensures.ok in
@@ -58,17 +58,17 @@ save-requires-after_bounds g c κs within =
 
 -- The tenures end.
 pub end_saved-requires-clause-saved : goal.end_saved-requires-clause-saved
-end_saved-requires-clause-saved g c κs within =
+end_saved-requires-clause-saved g c =
     let opened = c.open_node.ensures in
     let readied = c.ready.ensures in
     c.in-Ok-save.ensures.saved (state_of c.ready.new.self.cluster) (saved_mid g.D.Disk.state c.args.self.now c.ready.new.self c.open_node.new.self opened.state readied.cluster readied.tells readied.any_moment c.requires.may.1.saved)
 
 pub end_saved-requires-clause-may : goal.end_saved-requires-clause-may
-end_saved-requires-clause-may g c κs within =
+end_saved-requires-clause-may g c =
     may_end g.D.Disk.state c.ready.new.self.cluster c.mark-marked.new.self c.save.new.self.cluster c.in-Joined.marking c.mark-marked.result c.mark-marked.ensures.marked c.save.ensures.cluster
 
-pub end_sources-requires-after_bounds : goal.end_sources-requires-after_bounds
-end_sources-requires-after_bounds g c κs within =
+pub end_sources-requires : goal.end_sources-requires
+end_sources-requires g c =
     may_end g.D.Disk.state c.ready.new.self.cluster c.mark-marked.new.self c.save.new.self.cluster c.in-Joined.marking c.mark-marked.result c.mark-marked.ensures.marked c.save.ensures.cluster
 
 pub returns-in-Ok-save-clause-answered : goal.returns-in-Ok-save-clause-answered

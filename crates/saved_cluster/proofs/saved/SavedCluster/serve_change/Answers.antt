@@ -4,7 +4,6 @@ use Rattle.m3_model.specs.declared.answer.Answer.TheVariants as answer
 use Rattle.m3_model.specs.declared.rules.MetaState.{MetaState}
 use Rattle.m3_outside.proofs.Moments.{counts_none}
 use Rattle.m3_outside.specs.declared.disk_err.DiskErr.TheVariants as disk_err
-use Rattle.line_tracks.specs.first_cluster.Depots.{depot_by}
 use Rattle.served_cluster.specs.Acts.{Serves}
 use Rattle.served_cluster.specs.Owned.{MayServeCluster}
 use Rattle.served_cluster.specs.Plans.{IsPlannedBy, by_plan, state_after, state_of}
@@ -20,21 +19,21 @@ use Rattle.saved_cluster.proofs.saved.SavedCluster.serve_change.Goals as goal
 -- Refused before anything was done.
 pub returns-in-Err-clause-answered : goal.returns-in-Err-clause-answered
 returns-in-Err-clause-answered g c =
-    let depot = depot_by g.X.Disks.held g.X.Disks.counted g.X.Disks.all_faults c.args.disks.now in
+    let depot = g.X.Disks.depot c.args.disks.now in
     answered_same g.D.Disk.state depot c.args.self.now c.args.act c.in-Err.refused c.requires.may (c.in-Err.ensures.refused depot)
 
 -- The save is readied.
-pub state_by-requires-clause-planned : goal.state_by-requires-clause-planned
-state_by-requires-clause-planned g c κs lives = (c.args.act, c.in-Ok.ensures.planned)
+pub state_by-requires : goal.state_by-requires
+state_by-requires g c = record { planned = (c.args.act, c.in-Ok.ensures.planned) }
 
 pub ready-requires-clause-state : goal.ready-requires-clause-state
-ready-requires-clause-state g c κs lives =
+ready-requires-clause-state g c =
     subst (λ o. IfSome o IsMetaState) (sym c.ok-next.ensures.value)
     (made_lawful c.state_by.result _ c.state_by.ensures (λ next leads. plan_lawful c.args.self.now.cluster c.args.act c.in-Ok.plan c.in-Ok.ensures.planned next leads c.requires.limits c.requires.may.state))
 
 pub returns-in-Err-Memory-clause-answered : goal.returns-in-Err-Memory-clause-answered
 returns-in-Err-Memory-clause-answered g c =
-    let depot = depot_by g.X.Disks.held g.X.Disks.counted g.X.Disks.all_faults c.args.disks.now in
+    let depot = g.X.Disks.depot c.args.disks.now in
     let old = c.args.self.now in
     let readied = c.ready.ensures in
     answered_unsaved g.D.Disk.state depot depot old c.ready.new.self c.args.act answer.Memory (may_readied g.D.Disk.state depot.held old c.ready.new.self readied.cluster readied.log readied.tells readied.any_moment c.requires.may)
@@ -43,7 +42,7 @@ returns-in-Err-Memory-clause-answered g c =
 
 pub returns-in-Err-Failed-clause-answered : goal.returns-in-Err-Failed-clause-answered
 returns-in-Err-Failed-clause-answered g c =
-    let depot = depot_by g.X.Disks.held g.X.Disks.counted g.X.Disks.all_faults c.args.disks.now in
+    let depot = g.X.Disks.depot c.args.disks.now in
     let old = c.args.self.now in
     let readied = c.ready.ensures in
     lost_unsaved g.D.Disk.state depot depot old c.ready.new.self c.args.act answer.Memory (may_close g.D.Disk.state c.ready.new.self depot.held (may_readied g.D.Disk.state depot.held old c.ready.new.self readied.cluster readied.log readied.tells readied.any_moment c.requires.may))
@@ -52,16 +51,16 @@ returns-in-Err-Failed-clause-answered g c =
 
 -- The step is made.
 pub make-answer-requires-clause-planned : goal.make-answer-requires-clause-planned
-make-answer-requires-clause-planned g c κs lives = (c.args.act, subst (λ x. IsPlannedBy x c.args.act c.in-Ok.plan) (sym c.ready.ensures.cluster) c.in-Ok.ensures.planned)
+make-answer-requires-clause-planned g c = (c.args.act, subst (λ x. IsPlannedBy x c.args.act c.in-Ok.plan) (sym c.ready.ensures.cluster) c.in-Ok.ensures.planned)
 
 pub make-answer-requires-clause-owned : goal.make-answer-requires-clause-owned
-make-answer-requires-clause-owned g c κs lives = subst (λ x. MayServeCluster x (g.X.Disks.held c.args.disks.now)) (sym c.ready.ensures.cluster) c.requires.may.cluster
+make-answer-requires-clause-owned g c = subst (λ x. MayServeCluster x (g.X.Disks.depot c.args.disks.now).held) (sym c.ready.ensures.cluster) c.requires.may.cluster
 
 -- It wasn't made.
 pub returns-then-not-made-clause-answered : goal.returns-then-not-made-clause-answered
 returns-then-not-made-clause-answered g c =
-    let before = depot_by g.X.Disks.held g.X.Disks.counted g.X.Disks.all_faults c.args.disks.now in
-    let after = depot_by g.X.Disks.held g.X.Disks.counted g.X.Disks.all_faults c.make-answer.new.disks in
+    let before = g.X.Disks.depot c.args.disks.now in
+    let after = g.X.Disks.depot c.make-answer.new.disks in
     let old = c.args.self.now in
     let readied = c.ready.ensures in
     let may = may_readied g.D.Disk.state before.held old c.ready.new.self readied.cluster readied.log readied.tells readied.any_moment c.requires.may in
@@ -79,8 +78,8 @@ returns-then-not-made-clause-answered g c =
     }) serves readied.any_moment readied.tells (counts_none _ _ _ (λ is. cc) c.in-Ok-ready.ensures.faults)
 
 -- It was made, and is saved.
-pub save-requires-after_bounds : goal.save-requires-after_bounds
-save-requires-after_bounds g c κs within =
+pub save-requires : goal.save-requires
+save-requires g c =
     let made = c.make-answer.ensures in
     let mid = c.ready.new.self in
     let same = made.state ∙ state_made c.make-answer.result.1 c.in-Ok.plan (state_of mid.cluster) c.if-not-made.false ∙ ap (λ x. option_map (by_plan c.in-Ok.plan) (state_of x)) c.ready.ensures.cluster in
@@ -89,8 +88,8 @@ save-requires-after_bounds g c κs within =
 
 pub returns-in-Ok-save-clause-answered : goal.returns-in-Ok-save-clause-answered
 returns-in-Ok-save-clause-answered g c =
-    let before = depot_by g.X.Disks.held g.X.Disks.counted g.X.Disks.all_faults c.args.disks.now in
-    let after = depot_by g.X.Disks.held g.X.Disks.counted g.X.Disks.all_faults c.make-answer.new.disks in
+    let before = g.X.Disks.depot c.args.disks.now in
+    let after = g.X.Disks.depot c.make-answer.new.disks in
     let old = c.args.self.now in
     let mid = c.ready.new.self in
     let final = c.save.new.self in
@@ -115,8 +114,8 @@ returns-in-Ok-save-clause-answered g c =
 
 pub returns-in-Err-save-clause-answered : goal.returns-in-Err-save-clause-answered
 returns-in-Err-save-clause-answered g c =
-    let before = depot_by g.X.Disks.held g.X.Disks.counted g.X.Disks.all_faults c.args.disks.now in
-    let after = depot_by g.X.Disks.held g.X.Disks.counted g.X.Disks.all_faults c.make-answer.new.disks in
+    let before = g.X.Disks.depot c.args.disks.now in
+    let after = g.X.Disks.depot c.make-answer.new.disks in
     let old = c.args.self.now in
     let mid = c.ready.new.self in
     let final = c.save.new.self in

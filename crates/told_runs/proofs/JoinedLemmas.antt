@@ -1,0 +1,106 @@
+-- A run that a legal list tells of is joined: who is printed as a peer runs, as it was fenced in the bootstrap's stretch.
+use Rattle.std.proofs.Common.{◌≡◌, ℕ, List, [], ◌∷◌, take, Some, refl, subst, inl, inr, Bool}
+use Rattle.std.specs.Prelude.{slice_get, true, false, if◌then◌else◌}
+use Rattle.m3_model.specs.Ascends.{Ascends}
+use Rattle.m3_model.specs.Members.{IsIn}
+use Rattle.m3_model.specs.declared.act.Act.TheVariants as act
+use Rattle.m3_model.specs.declared.placement.Instance.{Instance}
+use Rattle.m3_model.specs.declared.placement.Placement.{Placement}
+use Rattle.placement_core.specs.Lawful.{IsLawful}
+use Rattle.placement_core.specs.NodeNames.{IsNamedBelow}
+use Rattle.placement_core.specs.Shards.{Shard, former, holders, is_holder, is_steady}
+use Rattle.placement_core.proofs.HolderLemmas.{chosen_node}
+use Rattle.cluster_core.specs.Legal.{Legal}
+use Rattle.cluster_core.specs.Lists.{At}
+use Rattle.cluster_core.specs.declared.event.Event.{Event}
+use Rattle.cluster_core.specs.declared.event.Event.TheVariants as event
+use Rattle.cluster_core.specs.declared.event.StepCall.TheVariants as call
+use Rattle.cluster_core.specs.declared.event.StepReply.TheVariants as reply
+use Rattle.cluster_core.proofs.ListLemmas.{at_in, at_take}
+use Rattle.m3_model.specs.Tags.{IsBelow}
+use Rattle.transcripts.specs.Deliveries.{LateMessage}
+use Rattle.transcripts.specs.Fates.{IsRunningAt}
+use Rattle.transcripts.specs.Faults.{Fault}
+use Rattle.transcripts.specs.Joined.{IsJoiningTurn, TurnsAvailable}
+use Rattle.transcripts.specs.Record.{Life, TurnPosition, IsTurnPosition}
+use Rattle.told_by.specs.Hears.{HearsBy, HearsStreamed, InStretch, IsNamedBy}
+use Rattle.told_by.specs.Laws.{PrintsFormer}
+use Rattle.told_by.specs.Told.{ToldBy}
+use Rattle.told_by.proofs.JoinedLemmas.{placed, told_joined}
+use Rattle.told_by.proofs.LeaveLemmas.{place_there}
+use Rattle.told_causes.proofs.RunLemmas.{who_serves}
+use Rattle.told_moves.proofs.TenureLemmas.{name_everywhere}
+use Rattle.told_runs.specs.Laws.{IsJoinedWhereTold, IsServedRun}
+
+-- what holds of any two of a list where one stands before the other holds in its order
+ascends_within : (R S : ℕ → ℕ → Type 0) (xs : List ℕ) → ((a b : ℕ) → IsIn xs a → IsIn xs b → R a b → S a b) → Ascends R xs → Ascends S xs
+ascends_within R S [] to up = tt
+ascends_within R S (x ∷ xs) to up = ((λ y m. to x y (inl refl) (inr m) (up.0 y m)), ascends_within R S xs (λ a b of_a of_b. to a b (inr of_a) (inr of_b)) up.1)
+
+-- a former replica is one of the placement's nodes
+pub former_there : (place : Placement) → IsLawful place → (s : ℕ) (shard : Shard) → slice_get place.shards s ≡ Some shard → (node : ℕ) → IsIn (former shard) node → (i : Instance) × (slice_get place.instances node ≡ Some i)
+former_there place lawful s shard there node m = by (is_steady shard) m
+  where
+    by : (steady : Bool) → IsIn (if steady then [] else holders shard) node → (i : Instance) × (slice_get place.instances node ≡ Some i)
+    by true none = absurd none
+    by false among =
+        let x = chosen_node is_holder shard node among in
+        let listed = ((lawful.spread shard (at_in place.shards s shard there)).listed) x.0 x.1 in
+        (listed.0, subst (λ n. slice_get place.instances n ≡ Some listed.0) x.2 listed.1)
+
+module _ {tells : Bool} (life : Life) (events : List Event) (legal : Legal tells events) (told : ToldBy life.present.start life.present.turns events) (taking : List Fault) (delivered : TurnPosition → List LateMessage)
+    (served : IsServedRun tells taking delivered life events told) (was next : Placement) (i : ℕ) (done : List (ℕ × ℕ)) (there : At events i (event.Place was done)) (number node : ℕ) (t : TurnsAvailable was next number node)
+    (p : TurnPosition) (at : IsTurnPosition life.present.turns p) (f : PrintsFormer events p was next number node t.shard) where
+  -- each that is printed is one of the nodes
+  known : (q : ℕ) → IsIn f.names q → (one : Instance) × (slice_get was.instances q ≡ Some one)
+  known q m = former_there was ((served.order).lawful i was done there) number t.shard t.shard_is q ((f.enough).within q m)
+
+  -- and all placements call it so
+  everywhere : (q : ℕ) (m : IsIn f.names q) → IsNamedBy events q ((known q m).0).name
+  everywhere q m = name_everywhere events legal q was ((known q m).0).name (record { place_at = i; done = done; there = there }) (record { instance_ = (known q m).0; stands = (known q m).1; holds = refl })
+
+  -- by name in the one placement is by name in the other
+  by_name : Ascends (IsNamedBelow was) f.names
+  by_name =
+      let last = place_there (take f.upto events) f.last f.last_is in
+      let placed_last = (at_take events last.0 f.upto (event.Place f.last last.1) last.2).0 in
+      ascends_within (IsNamedBelow f.last) (IsNamedBelow was) f.names (λ a b of_a of_b below. record {
+        one = (known a of_a).0;
+        other = (known b of_b).0;
+        of_one = (known a of_a).1;
+        of_other = (known b of_b).1;
+        below = subst (λ (n : List ℕ). IsBelow n ((known b of_b).0).name) (everywhere a of_a last.0 f.last last.1 below.one placed_last below.of_one)
+            (subst (λ (n : List ℕ). IsBelow (below.one).name n) (everywhere b of_b last.0 f.last last.1 below.other placed_last below.of_other) below.below);
+      }) f.by_name
+
+  -- each was fenced in the turn's stretch
+  fenced : HearsStreamed (InStretch events ((told.spans).from p) ((told.spans).to p)) f.available
+  fenced =
+      let boot = f.bootstrap in
+      (subst (λ b. HearsBy life.present.start (take ((told.spans).from p) events) (InStretch events ((told.spans).from p) ((told.spans).to p)) p (act.Bootstrap boot.name boot.asked) b) boot.answered
+      (subst (λ a. HearsBy life.present.start (take ((told.spans).from p) events) (InStretch events ((told.spans).from p) ((told.spans).to p)) p a p.turn.answer) boot.act_is ((told.tells).hears p at))).1
+
+  -- so it runs
+  running : (q : ℕ) → IsIn f.names q → IsRunningAt p was q
+  running q m =
+      let fence = fenced (number, f.names) f.printed q m in
+      record {
+        instance_ = (known q m).0;
+        stands = (known q m).1;
+        holds = who_serves life.present.start life.present.turns events legal told served.halts p at q number ((known q m).0).name (everywhere q m) (call.Fence fence.0) reply.Done tt fence.1;
+      }
+
+  pub joins : IsJoiningTurn p was next number node t.shard
+  joins = record {
+    available = f.available;
+    bootstrap = f.bootstrap;
+    names = f.names;
+    printed = f.printed;
+    peers = record { by_name = by_name; within = (f.enough).within; running = running; enough = (f.enough).enough };
+  }
+
+pub run_joined : {tells : Bool} → IsJoinedWhereTold tells
+run_joined life events legal told taking delivered served was next among_was among_next number node t =
+    let found = told_joined life events legal told was next among_was among_next number node t in
+    let place = placed (life.present).start (life.present).turns events told was among_was in
+    (found.0, found.1, joins life events legal told taking delivered served was next place.0 place.1 place.2 number node t found.0 found.1 found.2)
