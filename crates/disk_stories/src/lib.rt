@@ -2,7 +2,6 @@
 #![tactic(auto)]
 
 pub mod files;
-pub mod meta;
 pub mod stops;
 pub mod stories;
 pub mod turns;
@@ -11,7 +10,6 @@ pub mod words;
 pub use files::{
     bytes_at, decoded, digest_of, drop_file, make, put, say, tell_bytes, tell_name, turn,
 };
-pub use meta::{DIGEST, STATE, disks_with_meta, restart_meta, turn_in_log};
 pub use stops::{At, first_other};
 pub use stories::{quietly, steps};
 pub use turns::{EACH_BIT, first_untold};

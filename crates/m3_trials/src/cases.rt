@@ -1,9 +1,9 @@
 //! The steps of a case, over disks of its own.
 ghost use Rattle.m3_trials.specs.Disks.{NoneIsOut};
 
+use crate::disks::TrialDisks;
 use crate::steps::{begin, step};
 use m3_outside::Disks;
-use mem_disk::MemDisks;
 use trial_lines::{Case, CaseErr, Player, Signs, Went, is_outcome};
 
 // The steps of a case, over new disks.
@@ -13,7 +13,7 @@ fn play(
     line: &mut usize,
     out: &mut String,
 ) -> Result<Went, CaseErr> {
-    let mut disks = MemDisks::new(case.alloc)?;
+    let mut disks = TrialDisks::new(case.alloc)?;
     let mut trial = begin(case.alloc)?;
     for part in case.steps {
         if is_outcome(part) {

@@ -8,6 +8,7 @@
 //! | `@case NAME` | New empty disks, which never fail |
 //! | `@case NAME each=0..40 picks=0,85` | The same once for each of these picks and each of these numbers, which stand in the heads below for each `?` and each `*`; `each=0..` ends with the first number with which no disk fails |
 //! | `@disk c0 fail=1,4 fuse=7` | A new disk for the third node and shard 0, or as `meta` the meta disk: these of its calls fail, and after so many all, until it starts again |
+//! | `@takes 0,3` | These takings of disks fail, counted from there on: the first one of a run is that of the meta disk, the others come by shard and then by name |
 //! | `@show c0 meta` | The faults of these disks are told with each run, as are those of laid disks |
 //! | `@words generate 7` | The words of the runs that follow; `''` is the empty one. Without this head: `run` |
 //! | `@at meta p85` | Between runs, a word of `disk_stories` on that disk, as `p85`, which starts it again; or `x0.0.0.1:5:1`, which turns bits of a byte |

@@ -1,11 +1,10 @@
 //! A run of the program over the disks of a case, as its head says, and what is told of it.
 ghost use Rattle.m3_trials.specs.Disks.{NoneIsOut};
 
-use crate::disks::faults_in;
-use m3_outside::{DiskSlot, Disks};
+use crate::disks::{TrialDisks, faults_in};
+use m3_outside::{DiskSlot, Disks, Passed};
 use m3_program::Status;
 use m3_program::run::run;
-use mem_disk::MemDisks;
 use std::alloc::Global;
 use std::cell::Cell;
 use trial_lines::{
@@ -77,7 +76,7 @@ pub fn run_script(
     words: &[String],
     plan: &RunPlan,
     script: &[u8],
-    disks: &mut MemDisks,
+    disks: &mut TrialDisks,
 ) -> Ended
     requires { NoneIsOut disks.old }
     ensures { NoneIsOut disks.new }
@@ -91,6 +90,8 @@ pub fn run_script(
         reads: 0,
         faults: 0,
         calls: &calls,
+        gave: Passed::new(),
+        ended: false,
     };
     let mut sink = TrialSink {
         bytes: Vec::new(alloc),
@@ -111,7 +112,7 @@ pub fn run_script(
 // The faults of the disks in these slots, as ` c0=1`.
 fn tell_faults(
     shown: &[(String, DiskSlot)],
-    disks: &mut MemDisks,
+    disks: &mut TrialDisks,
     out: &mut String,
 ) -> Result<(), CaseErr>
     requires { NoneIsOut disks.old }
@@ -166,7 +167,7 @@ pub fn tell(
     plan: &RunPlan,
     ended: &Ended,
     shown: &[(String, DiskSlot)],
-    disks: &mut MemDisks,
+    disks: &mut TrialDisks,
     out: &mut String,
 ) -> Result<(), CaseErr>
     requires { NoneIsOut disks.old }

@@ -1,10 +1,10 @@
 //! The steps of a case: what its heads ask for, one after the other, over the same disks.
 ghost use Rattle.m3_trials.specs.Disks.{NoneIsOut};
 
-use crate::disks::{change, lay};
+use crate::disks::{TrialDisks, change, lay};
 use crate::runs::{plan_of, run_script, tell};
 use m3_outside::DiskSlot;
-use mem_disk::{MemDisk, MemDisks};
+use mem_disk::MemDisk;
 use std::alloc::Global;
 use trial_lines::{Case, CaseErr, Part, check_words, number, numbers, script, slot, value_of};
 
@@ -63,7 +63,7 @@ fn lay_disk(
     alloc: Global,
     words: &str,
     trial: &mut Trial,
-    disks: &mut MemDisks,
+    disks: &mut TrialDisks,
 ) -> Result<(), CaseErr>
     requires { NoneIsOut disks.old }
     ensures { NoneIsOut disks.new }
@@ -88,7 +88,7 @@ fn lay_disk(
 fn change_disk(
     alloc: Global,
     words: &str,
-    disks: &mut MemDisks,
+    disks: &mut TrialDisks,
     out: &mut String,
 ) -> Result<(), CaseErr>
     requires { NoneIsOut disks.old }
@@ -110,7 +110,7 @@ fn run_step(
     part: &Part<'_>,
     words: &str,
     trial: &Trial,
-    disks: &mut MemDisks,
+    disks: &mut TrialDisks,
     out: &mut String,
 ) -> Result<(), CaseErr>
     requires { NoneIsOut disks.old }
@@ -139,7 +139,7 @@ pub fn step(
     part: &Part<'_>,
     head: &str,
     trial: &mut Trial,
-    disks: &mut MemDisks,
+    disks: &mut TrialDisks,
     out: &mut String,
 ) -> Result<(), CaseErr>
     requires { NoneIsOut disks.old }
@@ -156,6 +156,10 @@ pub fn step(
     match verb {
         "@disk" => lay_disk(alloc, words, trial, disks),
         "@at" => change_disk(alloc, words, disks, out),
+        "@takes" => {
+            disks.fail_takings(numbers(alloc, Some(words))?);
+            Ok(())
+        }
         "@show" => show_all(alloc, words, trial),
         "@words" => {
             trial.words = words_of(alloc, words)?;

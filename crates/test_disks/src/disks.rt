@@ -5,12 +5,12 @@ ghost use Rattle.m3_outside.specs.declared.slot.DiskSlot.{DiskSlot as AtSlot};
 ghost use Rattle.mem_disk.specs.Slots.{held_of};
 
 use m3_model::Memory;
-use m3_outside::{Disk, DiskSlot};
+use m3_outside::DiskSlot;
 use mem_disk::{MemDisk, MemDisks};
 use std::alloc::Global;
 
 /// Puts a disk into a slot.
-pub fn put(disks: &mut MemDisks, slot: DiskSlot, disk: MemDisk)
+pub(crate) fn put(disks: &mut MemDisks, slot: DiskSlot, disk: MemDisk)
     requires { (slot : AtSlot) → ¬ (held_of disks.old slot ≡ Out) }
     ensures { (slot : AtSlot) → ¬ (held_of disks.new slot ≡ Out) }
 {
@@ -32,36 +32,4 @@ pub fn disks_with(
     let mut disks = MemDisks::new(alloc)?;
     put(&mut disks, DiskSlot { node, shard }, disk);
     Ok(disks)
-}
-
-// The faults of the disk in the slot of a node for a shard, which is taken away; none where no disk lies there.
-fn faults_in(
-    alloc: Global,
-    disks: &mut MemDisks,
-    node: u8,
-    shard: u32,
-) -> Result<Option<u64>, Memory> {
-    let other = MemDisk::new(alloc, &[], None)?;
-    let slot = DiskSlot { node, shard };
-    Ok(disks.put(slot, other).map(|disk| disk.faults()))
-}
-
-/// This count of faults, and those of the disks that lie in the slots of four nodes for shard 0 and for shard 1; `-` where there is
-/// none.
-pub fn spell_disks(
-    alloc: Global,
-    count: u64,
-    disks: &mut MemDisks,
-    out: &mut String,
-) -> Result<(), Memory> {
-    write!(out, "{count}:")?;
-    for shard in 0..2u32 {
-        for node in 0..4u8 {
-            match faults_in(alloc, disks, node, shard)? {
-                Some(faults) => write!(out, "{faults}")?,
-                None => out.push('-')?,
-            }
-        }
-    }
-    Ok(())
 }

@@ -4,5 +4,5 @@
 pub mod disks;
 pub mod failing;
 
-pub use disks::{disks_with, put, spell_disks};
+pub use disks::disks_with;
 pub use failing::{failing_disk, failing_disks};
