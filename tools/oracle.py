@@ -40,7 +40,7 @@ import oracle_scripts  # noqa: E402
 TOP = Path(__file__).resolve().parent.parent
 PROGRAM = [str(TOP / "m3"), "run"]
 GENERATED = [0, 7, 8, 2**31, 2**32 - 1]
-USAGE = b"usage: m3 run or m3 generate N\n"
+USAGE = b"usage: m3 run [--disk FOLDER] or m3 generate N\n"
 MOST_SHOWN = 5
 MOST_SECONDS = 120
 
@@ -107,7 +107,8 @@ def wrong_ends() -> list[str]:
         ends = [("no word", ended([], line), (1, USAGE)),
                 ("another word", ended(["runs"], line), (1, USAGE)),
                 ("two words", ended(["run", "run"], line), (1, USAGE)),
-                ("an option", ended(["run", "--disk", "f"], line), (1, USAGE)),
+                ("no folder", ended(["run", "--disk"], line), (1, USAGE)),
+                ("a folder for a script", ended(["generate", "7", "--disk", "f"], line), (1, USAGE)),
                 ("no number", ended(["generate"], line), (1, USAGE)),
                 ("a word for a number", ended(["generate", "x7"], line), (1, USAGE)),
                 ("too great a number", ended(["generate", "4294967296"], line), (1, USAGE)),
