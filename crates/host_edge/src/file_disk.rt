@@ -1,7 +1,7 @@
-ghost use Rattle.std.specs.Prelude.{◌≡◌, ⊤, IfOk};
-ghost use Rattle.m3_outside.specs.Causes.{CountsFaults};
+ghost use Rattle.std.specs.Prelude.{◌≡◌, ⊤, true, false, IfOk, OnOk, OnErr, IsErr};
+ghost use Rattle.m3_outside.specs.Causes.{CountsFaults, count_after};
 ghost use Rattle.m3_outside.specs.DiskState.{IsEmpty};
-ghost use Rattle.host_edge.specs.Silent.{silent};
+ghost use Rattle.host_edge.specs.Silent.{silent, Refuses};
 
 use crate::folder::{make_file, make_folder, names_in, sync_folder, take_unfinished};
 use crate::paths::Paths;
@@ -12,7 +12,8 @@ use std::io::{self, ErrorKind};
 use std::marker::Model;
 use std::os::unix::fs::FileExt;
 
-/// A disk in a folder of the host, which is made with its first file. Contracts see it as its count of faults.
+/// A disk in a folder of the host, which is made with its first file. Contracts see it as its count of faults, and whether it is
+/// broken, since a sync failed.
 ///
 /// A file is made as zeros under a second name, synced and then named, so that later writes need no space and a sync commits
 /// data alone. Names are there for good once the folder was synced, which is done behind each creation and removal, and in a
@@ -32,18 +33,18 @@ pub struct FileDisk {
 }
 
 impl Model for FileDisk {
-    ghost use Rattle.std.specs.Prelude.{ℕ};
+    ghost use Rattle.host_edge.specs.Silent.{FileDiskState};
 
-    ghost Value = { ℕ };
+    ghost Value = { FileDiskState };
 
-    ghost view = { λ d. d.faults };
+    ghost view = { λ d. record { faults = d.faults; broken = d.broken } };
 }
 
 impl FileDisk {
     // A disk in this folder. What a stop left there of files that were being made is taken away.
     pub(crate) fn open(rt: HostRuntime, folder: String) -> io::Result<FileDisk>
         ensures empty { IfOk result (λ d. IsEmpty (silent d)) }
-        ensures faults { IfOk result (λ d. d ≡ 0) }
+        ensures begins { IfOk result (λ d. d ≡ record { faults = 0; broken = false }) }
     {
         take_unfinished(rt, folder.as_str())?;
         let paths = Paths::new(rt.alloc(), folder)?;
@@ -59,14 +60,18 @@ impl FileDisk {
 
     // Counts a fault.
     fn fault(&mut self) -> Failed
-        ensures { CountsFaults ⊤ self.old self.new }
+        ensures counts { CountsFaults ⊤ self.old.faults self.new.faults }
+        ensures one { self.new ≡ record self.old { faults = count_after self.old.faults } }
     {
         self.faults = self.faults.saturating_add(1);
         Failed
     }
 
     // Whether calls are tried still.
-    fn stands(&self) -> io::Result<()> {
+    fn stands(&self) -> io::Result<()>
+        ensures ok { OnOk result (self.now.broken ≡ false) }
+        ensures err { OnErr result (self.now.broken ≡ true) }
+    {
         if self.broken {
             return Err(ErrorKind::Other.into());
         }
@@ -75,7 +80,9 @@ impl FileDisk {
 
     // What a sync answered, behind which nothing more is tried where it failed.
     fn synced(&mut self, answer: io::Result<()>) -> io::Result<()>
-        ensures { self.new ≡ self.old }
+        ensures faults { self.new.faults ≡ self.old.faults }
+        ensures stays { self.old.broken ≡ true → self.new.broken ≡ true }
+        ensures breaks { OnErr result (self.new.broken ≡ true) }
     {
         if answer.is_err() {
             self.broken = true;
@@ -85,22 +92,31 @@ impl FileDisk {
     }
 
     fn sync_names(&mut self) -> io::Result<()>
-        ensures { self.new ≡ self.old }
+        ensures faults { self.new.faults ≡ self.old.faults }
+        ensures stays { self.old.broken ≡ true → self.new.broken ≡ true }
+        ensures breaks { OnErr result (self.new.broken ≡ true) }
     {
         let answer = sync_folder(self.rt, self.paths.folder());
         self.synced(answer)
     }
 
     fn sync_parent(&mut self) -> io::Result<()>
-        ensures { self.new ≡ self.old }
+        ensures faults { self.new.faults ≡ self.old.faults }
+        ensures stays { self.old.broken ≡ true → self.new.broken ≡ true }
+        ensures breaks { OnErr result (self.new.broken ≡ true) }
     {
-        let answer = sync_folder(self.rt, self.paths.parent()?);
+        let answer = match self.paths.parent() {
+            Ok(parent) => sync_folder(self.rt, parent),
+            Err(error) => Err(error.into()),
+        };
         self.synced(answer)
     }
 
     // An earlier process may have left names that aren't there for good.
     fn settle(&mut self) -> io::Result<()>
-        ensures { self.new ≡ self.old }
+        ensures faults { self.new.faults ≡ self.old.faults }
+        ensures stays { self.old.broken ≡ true → self.new.broken ≡ true }
+        ensures breaks { OnErr result (self.new.broken ≡ true) }
     {
         if self.settled {
             return Ok(());
@@ -131,7 +147,8 @@ impl FileDisk {
     }
 
     fn make(&mut self, name: FileName, size: u64) -> io::Result<()>
-        ensures { self.new ≡ self.old }
+        ensures faults { self.new.faults ≡ self.old.faults }
+        ensures refuses { Refuses result self.old self.new }
     {
         self.stands()?;
         make_folder(self.rt, self.paths.folder())?;
@@ -142,7 +159,8 @@ impl FileDisk {
     }
 
     fn put(&mut self, name: FileName, at: u64, bytes: &[u8]) -> io::Result<()>
-        ensures { self.new ≡ self.old }
+        ensures same { self.new ≡ self.old }
+        ensures refuses { Refuses result self.old self.new }
     {
         self.stands()?;
         self.open_file(name)?;
@@ -152,21 +170,31 @@ impl FileDisk {
         }
     }
 
-    fn flush(&mut self, name: FileName) -> io::Result<()>
+    // Commits the data of the file.
+    fn commit(&mut self, name: FileName) -> io::Result<()>
         ensures { self.new ≡ self.old }
+    {
+        self.open_file(name)?;
+        match &self.used {
+            Some((_, file)) => file.sync_data(),
+            None => Err(ErrorKind::NotFound.into()),
+        }
+    }
+
+    fn flush(&mut self, name: FileName) -> io::Result<()>
+        ensures faults { self.new.faults ≡ self.old.faults }
+        ensures refuses { Refuses result self.old self.new }
+        ensures breaks { OnErr result (self.new.broken ≡ true) }
     {
         self.stands()?;
         self.settle()?;
-        self.open_file(name)?;
-        let answer = match &self.used {
-            Some((_, file)) => file.sync_data(),
-            None => Err(ErrorKind::NotFound.into()),
-        };
+        let answer = self.commit(name);
         self.synced(answer)
     }
 
     fn fill(&mut self, name: FileName, at: u64, buf: &mut [u8]) -> io::Result<()>
-        ensures { self.new ≡ self.old }
+        ensures same { self.new ≡ self.old }
+        ensures refuses { Refuses result self.old self.new }
     {
         self.stands()?;
         self.open_file(name)?;
@@ -177,7 +205,8 @@ impl FileDisk {
     }
 
     fn measure(&mut self, name: FileName) -> io::Result<Option<u64>>
-        ensures { self.new ≡ self.old }
+        ensures same { self.new ≡ self.old }
+        ensures refuses { Refuses result self.old self.new }
     {
         self.stands()?;
         let path = self.paths.path(name)?;
@@ -189,7 +218,8 @@ impl FileDisk {
     }
 
     fn take_away(&mut self, name: FileName) -> io::Result<()>
-        ensures { self.new ≡ self.old }
+        ensures faults { self.new.faults ≡ self.old.faults }
+        ensures refuses { Refuses result self.old self.new }
     {
         self.stands()?;
         self.used = None;
@@ -198,16 +228,18 @@ impl FileDisk {
         self.sync_names()
     }
 
-    fn names(&self) -> io::Result<Vec<FileName>> {
+    fn names(&self) -> io::Result<Vec<FileName>>
+        ensures { OnOk result (self.now.broken ≡ false) }
+    {
         self.stands()?;
         names_in(self.rt, self.paths.folder())
     }
 }
 
 impl Disk for FileDisk {
-    ghost use Rattle.std.specs.Prelude.{◌≡◌, true};
+    ghost use Rattle.std.specs.Prelude.{◌≡◌, true, OnErr, IsErr, IsErrOf};
     ghost use Rattle.m3_outside.specs.DiskCalls.{Reserves, Creates, Writes, Syncs, Reads, Sizes, Removes, Lists, Restarts};
-    ghost use Rattle.host_edge.specs.Silent.{silent, lawful_silent};
+    ghost use Rattle.host_edge.specs.Silent.{silent, lawful_silent, CountsOne, Refuses};
 
     ghost state = { silent };
 
@@ -216,6 +248,7 @@ impl Disk for FileDisk {
     /// Names are spelled in room that is there from the beginning, so there is always enough.
     fn reserve(&mut self, calls: u64) -> Result<(), DiskErr>
         ensures disk { Reserves calls result (silent self.old) (silent self.new) }
+        ensures same { self.new ≡ self.old }
     {
         let _ = calls;
         Ok(())
@@ -223,6 +256,8 @@ impl Disk for FileDisk {
 
     fn create(&mut self, name: FileName, size: u64) -> Result<(), DiskErr>
         ensures disk { Creates name size result (silent self.old) (silent self.new) }
+        ensures counted { CountsOne (IsErr result) self.old.faults self.new.faults }
+        ensures refuses { Refuses result self.old self.new }
     {
         match self.make(name, size) {
             Ok(()) => Ok(()),
@@ -232,6 +267,8 @@ impl Disk for FileDisk {
 
     fn write_at(&mut self, name: FileName, at: u64, bytes: &[u8]) -> Result<(), Failed>
         ensures disk { Writes name at bytes.now result (silent self.old) (silent self.new) }
+        ensures counted { CountsOne (IsErr result) self.old.faults self.new.faults }
+        ensures refuses { Refuses result self.old self.new }
     {
         match self.put(name, at, bytes) {
             Ok(()) => Ok(()),
@@ -241,6 +278,9 @@ impl Disk for FileDisk {
 
     fn sync(&mut self, name: FileName) -> Result<(), Failed>
         ensures disk { Syncs name result (silent self.old) (silent self.new) }
+        ensures counted { CountsOne (IsErr result) self.old.faults self.new.faults }
+        ensures refuses { Refuses result self.old self.new }
+        ensures breaks { OnErr result (self.new.broken ≡ true) }
     {
         match self.flush(name) {
             Ok(()) => Ok(()),
@@ -250,6 +290,8 @@ impl Disk for FileDisk {
 
     fn read(&mut self, name: FileName, at: u64, buf: &mut [u8]) -> Result<(), Failed>
         ensures disk { Reads name at buf.new result (silent self.old) (silent self.new) }
+        ensures counted { CountsOne (IsErr result) self.old.faults self.new.faults }
+        ensures refuses { Refuses result self.old self.new }
     {
         match self.fill(name, at, buf) {
             Ok(()) => Ok(()),
@@ -259,6 +301,8 @@ impl Disk for FileDisk {
 
     fn size(&mut self, name: FileName) -> Result<Option<u64>, Failed>
         ensures disk { Sizes name result (silent self.old) (silent self.new) }
+        ensures counted { CountsOne (IsErr result) self.old.faults self.new.faults }
+        ensures refuses { Refuses result self.old self.new }
     {
         match self.measure(name) {
             Ok(size) => Ok(size),
@@ -268,6 +312,8 @@ impl Disk for FileDisk {
 
     fn remove(&mut self, name: FileName) -> Result<(), Failed>
         ensures disk { Removes name result (silent self.old) (silent self.new) }
+        ensures counted { CountsOne (IsErr result) self.old.faults self.new.faults }
+        ensures refuses { Refuses result self.old self.new }
     {
         match self.take_away(name) {
             Ok(()) => Ok(()),
@@ -277,6 +323,8 @@ impl Disk for FileDisk {
 
     fn list(&mut self) -> Result<NameList, DiskErr>
         ensures disk { Lists result (silent self.old) (silent self.new) }
+        ensures counted { CountsOne (IsErrOf result DiskErr.Failed) self.old.faults self.new.faults }
+        ensures refuses { Refuses result self.old self.new }
     {
         match self.names() {
             Ok(names) => Ok(NameList::from_vec(names)),
@@ -288,6 +336,7 @@ impl Disk for FileDisk {
     /// Changes nothing: what the host has, it has still.
     fn restart(&mut self, pick: u64) -> Result<(), DiskErr>
         ensures disk { Restarts result (silent self.old) (silent self.new) }
+        ensures same { self.new ≡ self.old }
     {
         let _ = pick;
         Ok(())

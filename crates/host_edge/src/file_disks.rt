@@ -55,7 +55,7 @@ fn folder_of(alloc: Global, folder: &str, slot: DiskSlot) -> Result<String, Allo
 // The disk of a slot of which no disk was taken yet.
 fn open_disk(rt: HostRuntime, folder: &str, slot: DiskSlot) -> Result<FileDisk, DiskErr>
     ensures empty { IfOk result (λ d. IsEmpty (silent d)) }
-    ensures faults { IfOk result (λ d. d ≡ 0) }
+    ensures faults { IfOk result (λ d. d.faults ≡ 0) }
 {
     let folder = folder_of(rt.alloc(), folder, slot)?;
     match FileDisk::open(rt, folder) {

@@ -1,5 +1,7 @@
+use Rattle.std.proofs.Common.{ap}
+use Rattle.host_edge.specs.Silent.{FileDiskState}
 use Rattle.host_edge.proofs.SilentLemmas.{counted, writes}
 use Rattle.host_edge.proofs.file_disk.FileDiskDisk.write_at.Goals as goal
 
-pub returns-in-Err : goal.returns-in-Err
-returns-in-Err c = record { disk = writes _ _ _ _ _ _ (counted _ _ _ _ c.put.ensures c.fault.ensures) }
+pub returns-in-Err-clause-disk : goal.returns-in-Err-clause-disk
+returns-in-Err-clause-disk c = writes _ _ _ _ c.args.self.now c.fault.new.self (counted _ _ _ _ (ap (λ (v : FileDiskState). v.faults) c.put.ensures.same) c.fault.ensures.counts)
