@@ -1,5 +1,5 @@
 -- Late messages that are delivered once, twice, or of nobody.
-use Rattle.std.proofs.Common.{◌≡◌, ◌≢◌, ◌∙◌, ℕ, suc, Bool, true, false, List, [], ◌∷◌, length, map, drop, refl, sym, subst, inl, inr, arith}
+use Rattle.std.proofs.Common.{◌≡◌, ◌≢◌, ◌∙◌, ℕ, suc, Bool, true, false, List, [], ◌∷◌, ◌++◌, length, map, drop, refl, sym, subst, inl, inr, arith}
 use Rattle.std.specs.Prelude.{Option, Some, None, pos, codes, IsTrue}
 use Rattle.std.proofs.lemmas.Option.{same_Some}
 use Rattle.transcripts.specs.Caused.{Caused, CausedAt, IsDueBy}
@@ -14,6 +14,7 @@ use Rattle.transcripts.specs.Record.{Life, InnerTurn, TurnPosition, IsTurnPositi
 use Rattle.transcripts.specs.Rules.{rules_at}
 use Rattle.transcripts.specs.Reasons.{MayRefuse}
 use Rattle.transcripts.specs.Refusals.{refusal_by}
+use Rattle.transcripts.specs.Waiting.{IsBegunFor, idles_after}
 use Rattle.m3_model.specs.Calls.{is_call}
 use Rattle.m3_model.specs.declared.rules.MetaState.{MetaState}
 use Rattle.m3_model.specs.Hash.{murmur3}
@@ -29,8 +30,8 @@ use Rattle.m3_model.specs.declared.placement.Placement.{Placement}
 use Rattle.m3_model.specs.declared.reason.Reason.{Reason}
 use Rattle.m3_model.specs.declared.reason.Reason.TheVariants as reason
 use Rattle.m3_model.specs.declared.turn.Turn.{Turn}
-use Rattle.model_laws.specs.Building.{begun, wrote, write, acks, unmet, place, space, life_of}
-use Rattle.model_laws.specs.Messages.{b_came, b_then_c_late, without_b, then_b_late, stopped, delivered, delivered_beside, delivered_again, delivered_of_nobody, delivered_in_two_lines, delivered_to_stopped, after_c_lost, c_lost, refused_as_unknown, tick_cut, unknown_came}
+use Rattle.model_laws.specs.Building.{begun, line, wrote, write, acks, unmet, place, space, life_of}
+use Rattle.model_laws.specs.Messages.{b_came, b_then_c_late, without_b, then_b_late, stopped, delivered, delivered_beside, delivered_again, delivered_of_nobody, delivered_in_two_lines, delivered_to_idle, delivered_to_stopped, after_c_lost, c_lost, refused_as_unknown, tick_cut, unknown_came}
 use Rattle.model_laws.proofs.EachLemmas.{ascends_by, ◌also◌}
 use Rattle.model_laws.proofs.PositionLemmas.{EachInRun, EachInLine, each_in_line, only_used, position_after, position_after-stands, position_in, each_position, only, due, due_beside, due_after}
 use Rattle.model_laws.proofs.SampleLemmas.{call_with}
@@ -60,11 +61,12 @@ b_late line client earlier beside turn = record {
 }
 
 -- b takes it there
-b_delivered : (line : Turn) (client : ℕ) (earlier beside : List InnerTurn) (turn : InnerTurn) → IsDelivered true [] None (record { lines = before; line = line; client = client; earlier = earlier; beside = beside; turn = turn }) (to_b ∷ []) b_came
+b_delivered : (line : Turn) (client : ℕ) (earlier beside : List InnerTurn) (turn : InnerTurn) → IsBegunFor None (record { lines = before; line = line; client = client; earlier = earlier; beside = beside; turn = turn }) place 0 1
+    → IsDelivered true [] None (record { lines = before; line = line; client = client; earlier = earlier; beside = beside; turn = turn }) (to_b ∷ []) b_came
 unfolding murmur3
-b_delivered line client earlier beside turn = record {
+b_delivered line client earlier beside turn wakes = record {
   in_order = ascends_by IsLateBefore (to_b ∷ []) (tt also tt);
-  each = (record { message = b_late line client earlier beside turn; node_is = refl; shard_is = refl; came = (in_window_near 100 (pos 5) (omega arith) (omega arith), of_node _ 1 _ refl refl) }, tt);
+  each = (record { message = b_late line client earlier beside turn; node_is = refl; shard_is = refl; came = (in_window_near 100 (pos 5) (omega arith) (omega arith), of_node _ 1 _ refl refl, wakes) }, tt);
 }
 
 none_delivered : (p : TurnPosition) → IsDelivered true [] None p [] []
@@ -80,7 +82,7 @@ beside-caused =
     only (due true [] [] _ _ _ tt)
     also only (due true [] [] _ _ _ without_b_taken)
     also (
-    (due_beside true [] (to_b ∷ []) _ (b_delivered _ _ _ _ _) also tt)
+    (due_beside true [] (to_b ∷ []) _ (b_delivered _ _ _ _ _ (of_node _ 1 _ refl refl)) also tt)
     also (due_beside true [] [] _ (none_delivered _) also tt)
     also tt)
     also tt)
@@ -91,7 +93,7 @@ again-caused =
     only (due true [] [] _ _ _ tt)
     also only (due true [] [] _ _ _ without_b_taken)
     also (
-    (due_beside true [] (to_b ∷ []) _ (b_delivered _ _ _ _ _) also due_beside true [] [] _ (none_delivered _) also tt)
+    (due_beside true [] (to_b ∷ []) _ (b_delivered _ _ _ _ _ (of_node _ 1 _ refl refl)) also due_beside true [] [] _ (none_delivered _) also tt)
     also tt)
     also tt)
 
@@ -100,7 +102,7 @@ once-caused =
     begun_delivering [] 100 _ 5 0 0 (to_b ∷ []) tt refl (
     only (due true [] [] _ _ _ tt)
     also only (due true [] [] _ _ _ without_b_taken)
-    also only (due true [] (to_b ∷ []) _ _ _ (b_delivered _ _ _ _ _))
+    also only (due true [] (to_b ∷ []) _ _ _ (b_delivered _ _ _ _ _ (of_node _ 1 _ refl refl)))
     also tt)
 
 -- the lines before the delivery, where b was stopped
@@ -291,16 +293,36 @@ used_by : (p : TurnPosition) (m : LateMessage) → (rules_at None p).spaces ≡ 
     → IsLateMessage None p m → place ≡ m.used
 used_by p m spaces writes nothing late = of_message (λ q. (call : Call) → call_of q.turn.act ≡ Some call → MayUse None q call.version m.used → place ≡ m.used) p m spaces writes nothing late late.call late.of_call late.may_use
 
+-- the write whose message to b is late used the placement that stands
+by_write : (used : Placement) (call : Call) → call_of (write 100 (pos 5)) ≡ Some call → MayUse None (position_after (begun 100 (b_then_c_late ∷ [])) (write 100 (pos 5)) (acks (0 ∷ 2 ∷ []))) call.version used → place ≡ used
+by_write used call is may =
+    only_used (begun 100 (b_then_c_late ∷ [])) (write 100 (pos 5)) (acks (0 ∷ 2 ∷ [])) place used refl
+    (subst (λ (c : Call). MayUse None (position_after (begun 100 (b_then_c_late ∷ [])) (write 100 (pos 5)) (acks (0 ∷ 2 ∷ []))) c.version used) (sym (same_Some (call_with (needed_write write_level.Majority)) call is)) may)
+
 pub stopped-refused : (faults : List Fault) → ¬ Caused true (life_of (delivered_to_stopped None)) faults
 stopped-refused faults caused =
     let p = position_after before_stopped act.Deliver (answer.Outcomes b_came) in
     let told : IsDelivered true faults None p (caused.delivered p) b_came = due_after before_stopped act.Deliver (answer.Outcomes b_came) [] (λ e. cc) (λ e. cc) caused in
     let m = one_message p (caused.delivered p) None told in
     let same = used_by p m.0 refl (only (λ point e. cc) also only (λ point e. cc) also only (λ point e. cc) also only (λ point e. cc)
-    also only (λ point e call is may. only_used (begun 100 (b_then_c_late ∷ [])) (write 100 (pos 5)) (acks (0 ∷ 2 ∷ [])) place m.0.used refl (subst (λ (c : Call). MayUse None (position_after (begun 100 (b_then_c_late ∷ [])) (write 100 (pos 5)) (acks (0 ∷ 2 ∷ []))) c.version m.0.used) (sym (same_Some (call_with (needed_write write_level.Majority)) call is)) may))
-    also only (λ point e. cc) also tt) (only (λ point e. cc)) m.2.message in
+    also only (λ point e call is may. by_write m.0.used call is may) also only (λ point e. cc) also tt) (only (λ point e. cc)) m.2.message in
     let runs : OfNode place 1 (λ name. is_stopped (inner_turns before_stopped) name ≡ false) = subst (λ n. OfNode place n (λ name. is_stopped (inner_turns before_stopped) name ≡ false)) (sym m.2.node_is) (subst (λ x. OfNode x m.0.node (λ name. is_stopped (inner_turns before_stopped) name ≡ false)) (sym same) m.2.came.1) in
     let bad : true ≡ false = holds_of (λ name. is_stopped (inner_turns before_stopped) name ≡ false) 1 _ refl runs in
+    cc
+
+-- the lines before the delivery, where b was restarted
+abbrev before_idle : List Turn
+before_idle = begun 100 (b_then_c_late ∷ without_b ∷ stopped (codes "b") ∷ line (act.Restart (codes "b") 0) answer.Done ∷ [])
+
+pub idle_late-refused : (faults : List Fault) → ¬ Caused true (life_of delivered_to_idle) faults
+idle_late-refused faults caused =
+    let p = position_after before_idle act.Deliver (answer.Outcomes b_came) in
+    let told : IsDelivered true faults None p (caused.delivered p) b_came = due_after before_idle act.Deliver (answer.Outcomes b_came) [] (λ e. cc) (λ e. cc) caused in
+    let m = one_message p (caused.delivered p) None told in
+    let same = used_by p m.0 refl (only (λ point e. cc) also only (λ point e. cc) also only (λ point e. cc) also only (λ point e. cc)
+    also only (λ point e call is may. by_write m.0.used call is may) also only (λ point e. cc) also only (λ point e. cc) also tt) (only (λ point e. cc)) m.2.message in
+    let wakes : IsBegunFor None p place 0 1 = subst (IsBegunFor None p place 0) (sym m.2.node_is) (subst (λ x. IsBegunFor None p x 0 m.0.node) (sym same) m.2.came.2) in
+    let bad : true ≡ false = holds_of (λ name. idles_after (record { shard = 0; node = 1; name = name }) None (inner_turns before_idle ++ []) ≡ false) 1 _ refl wakes in
     cc
 
 -- ---- messages of calls

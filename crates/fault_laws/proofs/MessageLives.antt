@@ -193,8 +193,8 @@ unfolding murmur3
 both_delivered = record {
   in_order = ascends_by IsLateBefore (to_b ∷ to_c ∷ []) ((inl (omega arith) also tt) also tt also tt);
   each = (
-    record { message = to_b-late; node_is = refl; shard_is = refl; came = (in_window_near 100 (pos 5) (omega arith) (omega arith), of_node _ 1 _ refl refl) },
-    (record { message = to_c-late; node_is = refl; shard_is = refl; came = (in_window_near 110 (pos 6) (omega arith) (omega arith), of_node _ 2 _ refl refl) }, tt),
+    record { message = to_b-late; node_is = refl; shard_is = refl; came = (in_window_near 100 (pos 5) (omega arith) (omega arith), of_node _ 1 _ refl refl, of_node _ 1 _ refl refl) },
+    (record { message = to_c-late; node_is = refl; shard_is = refl; came = (in_window_near 110 (pos 6) (omega arith) (omega arith), of_node _ 2 _ refl refl, of_node _ 2 _ refl refl) }, tt),
   );
 }
 

@@ -12,7 +12,7 @@ ghost use Rattle.transcripts.specs.Faults.{Fault};
 ghost use Rattle.transcripts.specs.Reasons.{MayRefuse};
 ghost use Rattle.transcripts.specs.Record.{TurnPosition};
 ghost use Rattle.model_laws.specs.Building.{life_of, place, write};
-ghost use Rattle.model_laws.specs.Messages.{b_came, then_b_late, delivered, delivered_beside, delivered_again, delivered_of_nobody, delivered_in_two_lines, delivered_to_stopped, after_c_lost, tick_cut, unknown_came};
+ghost use Rattle.model_laws.specs.Messages.{b_came, then_b_late, delivered, delivered_beside, delivered_again, delivered_of_nobody, delivered_in_two_lines, delivered_to_idle, delivered_to_stopped, after_c_lost, tick_cut, unknown_came};
 
 /// Of two workers that deliver side by side one alone delivers the late message.
 pub fn late_message_twice_beside()
@@ -46,6 +46,11 @@ pub fn message_of_unknown_write()
 pub fn stopped_node_took_late()
     ensures down { Caused true (life_of (delivered_to_stopped (Some reason.Down))) [] }
     ensures took { (faults : List Fault) → ¬ Caused true (life_of (delivered_to_stopped None)) faults }
+{}
+
+/// A replica that was restarted takes no late message before a bootstrap of it is asked.
+pub fn idle_replica_took_late()
+    ensures { (faults : List Fault) → ¬ Caused true (life_of delivered_to_idle) faults }
 {}
 
 /// Messages are cut of calls alone: a node isn't cut off from a tick, though a fate is listed for the next call.

@@ -153,6 +153,10 @@ delivered_in_two_lines = begun 100 (b_then_c_late ∷ without_b ∷ delivered b_
 abbrev pub delivered_to_stopped : Option Reason → List Turn
 delivered_to_stopped came = begun 100 (b_then_c_late ∷ without_b ∷ stopped (codes "b") ∷ delivered ((1, 0, came) ∷ []) ∷ [])
 
+-- b was stopped and restarted before its late message came, and takes it though no bootstrap of it was asked
+abbrev pub delivered_to_idle : List Turn
+delivered_to_idle = begun 100 (b_then_c_late ∷ without_b ∷ stopped (codes "b") ∷ line (act.Restart (codes "b") 0) answer.Done ∷ delivered b_came ∷ [])
+
 -- ---- calls
 
 -- the messages of the first call to c are lost

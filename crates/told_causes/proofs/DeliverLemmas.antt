@@ -6,7 +6,7 @@ use Rattle.m3_model.specs.Rules.{InWindow, IsPast, IsFuture}
 use Rattle.told_by.specs.Hears.{HearsLate, HearsOutcomes, IsLatePut}
 use Rattle.told_causes.specs.Deliveries.{IsKnownDelivery, OutcomesAreSaid}
 use Rattle.told_causes.proofs.CallLemmas.{fault_here, outside_future, outside_past, put_outside}
-use Rattle.std.proofs.Common.{◌≡◌, ℕ, List, [], ◌∷◌, take, length, refl, ap, ◌∙◌, subst, false, Bool}
+use Rattle.std.proofs.Common.{◌≡◌, ℕ, List, [], ◌∷◌, ◌++◌, take, length, refl, ap, ◌∙◌, subst, false, Bool}
 use Rattle.std.specs.Prelude.{Option, Some, None, slice_get}
 use Rattle.m3_model.specs.Rules.{InWindow, IsPast, IsFuture}
 use Rattle.m3_model.specs.declared.reason.Reason.{Reason}
@@ -35,9 +35,11 @@ use Rattle.told_causes.specs.Standing.{IsHaltAct}
 use Rattle.told_causes.proofs.BootLemmas.{boot_cause, boot_said}
 use Rattle.told_causes.proofs.DownLemmas.{down_cause, down_said}
 use Rattle.told_causes.proofs.RefusalLemmas.{refused_law}
-use Rattle.told_causes.proofs.RunLemmas.{who_serves}
+use Rattle.told_causes.proofs.RunLemmas.{serves_begun, who_serves}
 use Rattle.told_causes.specs.Running.{Serves}
+use Rattle.told_by.specs.Makes.{OpensReplicas}
 use Rattle.transcripts.specs.Fates.{OfNode, is_stopped}
+use Rattle.transcripts.specs.Waiting.{IsBegunFor, idles_after}
 
 module _ {tells : Bool} (start : Option MetaState) (turns : List Turn) (events : List Event) (told : ToldBy start turns events) (p : TurnPosition) (known : IsKnownDelivery tells start turns events told p) where
   abbrev faults : List Fault
@@ -78,8 +80,22 @@ module _ {tells : Bool} (start : Option MetaState) (turns : List Turn) (events :
       let runs = who_serves start turns events known.legal told known.halts p known.in_run m.node shard named.0 named.2 h.0 reply.Done (late_serves m shard (h.2).0 h.0 h.1) h.2 in
       record { instance_ = (named.1).instance_; stands = (named.1).stands; holds = ap (is_stopped (inner_turns p.lines)) (named.1).holds ∙ runs }
 
+  opens_nothing : OpensReplicas p.turn.act → ⊥
+  opens_nothing h = subst OpensReplicas known.delivers h
+
+  -- and its replica was begun
+  late_begun : (m : LateMessage) → IsLateMessage start p m → (shard : ℕ) → HearsLate start (Within events told.spans p) p m shard None → IsBegunFor start p m.used shard m.node
+  late_begun m late shard h =
+      let named = known.named m late shard h in
+      let begun = serves_begun start turns events known.legal told known.halts p known.in_run opens_nothing halts_nothing m.node shard named.0 named.2 h.0 reply.Done (late_serves m shard (h.2).0 h.0 h.1) h.2 in
+      record {
+        instance_ = (named.1).instance_;
+        stands = (named.1).stands;
+        holds = ap (λ own. idles_after (record { shard = shard; node = m.node; name = own }) start (inner_turns p.lines ++ (p.earlier ++ p.beside))) (named.1).holds ∙ begun;
+      }
+
   came : (m : LateMessage) → IsLateMessage start p m → (shard : ℕ) → shard ≡ shard_of_message start m → (o : Option Reason) → HearsLate start (Within events told.spans p) p m shard o → MayComeOf tells faults start p m shard o
-  came m late shard to None h = let s = (h.2).1 in (late_taken m shard (h.2).0 h.0 h.1 (lawful_step events known.legal (h.2).0 m.node shard h.0 reply.Done s.2), late_runs m late shard h)
+  came m late shard to None h = let s = (h.2).1 in (late_taken m shard (h.2).0 h.0 h.1 (lawful_step events known.legal (h.2).0 m.node shard h.0 reply.Done s.2), late_runs m late shard h, late_begun m late shard h)
   came m late shard to (Some reason.Memory) h = tt
   came m late shard to (Some reason.Past) h = let s = (h.2).1 in late_past m shard (h.2).0 h.0 h.1 (refused m shard (h.2).0 h.0 reason.Past s.2)
   came m late shard to (Some reason.Future) h = let s = (h.2).1 in late_future m shard (h.2).0 h.0 h.1 (refused m shard (h.2).0 h.0 reason.Future s.2)

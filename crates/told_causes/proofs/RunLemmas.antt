@@ -483,6 +483,14 @@ who_serves {tells} start turns events legal told halts p at n s name named c a s
     let i = h.1 in
     runs_there start turns events legal told halts n s name named p at h.0 i.0 i.1 (serves_open tells (take h.0 events) n s (replica n s (take h.0 events)) c a serves (lawful_step events legal h.0 n s c a i.2))
 
+-- and the replica was begun, where the turn neither begins replicas nor stops any
+pub serves_begun : {tells : Bool} → (start : Option MetaState) (turns : List Turn) (events : List Event) → Legal tells events → (told : ToldBy start turns events) → HaltsAlone turns → (p : TurnPosition) → IsTurnPosition turns p
+    → (OpensReplicas p.turn.act → ⊥) → (IsHaltAct p.turn.act → ⊥) → (n s : ℕ) (name : List ℕ) → IsNamedBy events n name → (c : StepCall) (a : StepReply) → Serves c a → Happens (InStretch events ((told.spans).from p) ((told.spans).to p)) (event.Step n s c a)
+    → idles_after (record { shard = s; node = n; name = name }) start (inner_turns p.lines ++ (p.earlier ++ p.beside)) ≡ false
+serves_begun {tells} start turns events legal told halts p at opens_none goes_on n s name named c a serves h =
+    let i = h.1 in
+    wakes_there start turns events legal told halts n s name named p at opens_none goes_on h.0 i.0 i.1 (serves_open tells (take h.0 events) n s (replica n s (take h.0 events)) c a serves (lawful_step events legal h.0 n s c a i.2))
+
 -- what upkeep asks of a replica is served where it answers with a count
 pub sweep_serves : (a : Act) (c : StepCall) → IsSweepCall a c → (n : ℕ) → Serves c (reply.Count n)
 sweep_serves act.Tick (call.Tick rules) kind n = tt
@@ -494,10 +502,8 @@ sweep_serves _ _ kind n = absurd kind
 pub sweep_begun : {tells : Bool} → (start : Option MetaState) (turns : List Turn) (events : List Event) → Legal tells events → (told : ToldBy start turns events) → HaltsAlone turns → (p : TurnPosition) → IsTurnPosition turns p → (n s : ℕ) (name : List ℕ) → IsNamedBy events n name
     → (c : StepCall) → IsSweepCall p.turn.act c → (count : ℕ) → Happens (InStretch events ((told.spans).from p) ((told.spans).to p)) (event.Step n s c (reply.Count count))
     → idles_after (record { shard = s; node = n; name = name }) start (inner_turns p.lines ++ (p.earlier ++ p.beside)) ≡ false
-sweep_begun {tells} start turns events legal told halts p at n s name named c kind count h =
-    let i = h.1 in
-    wakes_there start turns events legal told halts n s name named p at (opens_none p.turn.act c kind) (goes_on p.turn.act c kind) h.0 i.0 i.1
-    (serves_open tells (take h.0 events) n s (replica n s (take h.0 events)) c (reply.Count count) (sweep_serves p.turn.act c kind count) (lawful_step events legal h.0 n s c (reply.Count count) i.2))
+sweep_begun start turns events legal told halts p at n s name named c kind count h =
+    serves_begun start turns events legal told halts p at (opens_none p.turn.act c kind) (goes_on p.turn.act c kind) n s name named c (reply.Count count) (sweep_serves p.turn.act c kind count) h
   where
     opens_none : (a : Act) (c : StepCall) → IsSweepCall a c → OpensReplicas a → ⊥
     opens_none act.Tick (call.Tick rules) kind opens = opens

@@ -23,6 +23,7 @@ use Rattle.transcripts.specs.Points.{point_of, was_sent}
 use Rattle.transcripts.specs.Reasons.{MayFail}
 use Rattle.transcripts.specs.Record.{TurnPosition, IsTurnPosition, IsInLine, inner_turns}
 use Rattle.transcripts.specs.Rules.{rules_at}
+use Rattle.transcripts.specs.Waiting.{IsBegunFor}
 
 -- ---- messages
 
@@ -82,9 +83,10 @@ IsSameMessage a b = IsSamePosition a.position b.position × (a.node ≡ b.node)
 
 -- ---- outcomes
 
--- what may come of a late message: a node that runs takes the point within its window, or it is refused for its time, or for what the node's replica refuses it for
+-- what may come of a late message: a node that runs, and whose replica doesn't lie idle, takes the point within its window, or it is refused for its time, or for
+-- what the node's replica refuses it for
 abbrev pub MayComeOf : Bool → List Fault → Option MetaState → TurnPosition → LateMessage → ℕ → Option Reason → Type 0
-MayComeOf tells faults start p m shard None = InWindow (rules_at start p) m.point × IsRunningAt p m.used m.node
+MayComeOf tells faults start p m shard None = InWindow (rules_at start p) m.point × IsRunningAt p m.used m.node × IsBegunFor start p m.used shard m.node
 MayComeOf tells faults start p m shard (Some reason.Past) = IsPast (rules_at start p) m.point
 MayComeOf tells faults start p m shard (Some reason.Future) = IsFuture (rules_at start p) m.point
 MayComeOf tells faults start p m shard (Some why) = MayFail tells faults start p m.used shard m.node why
