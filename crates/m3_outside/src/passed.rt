@@ -4,11 +4,11 @@ use std::marker::Model;
 use std::snapshot::Snapshot;
 
 /// The bytes that passed between a program and a stream so far, which the stream keeps for proofs alone. Contracts see
-/// their list. A snapshot has no bytes, so however many passed, this is one byte.
+/// their list. A snapshot has no bytes, so however many passed, this takes no memory and adding costs no instruction.
 #[cycle(passed)]
 #[derive(Drop)]
 pub struct Passed {
-    last: Link,
+    last: Snapshot<Link>,
 }
 
 // The byte that passed last is outermost.
@@ -26,7 +26,7 @@ impl Model for Passed {
 
     ghost use Rattle.m3_outside.specs.Passed.{bytes_of};
 
-    ghost view = { λ p. bytes_of p.last };
+    ghost view = { λ p. bytes_of p.last.value };
 
     ghost size = { length };
 
@@ -40,14 +40,16 @@ impl Passed {
     pub fn new() -> Passed
         ensures { result ≡ [] }
     {
-        Passed { last: Link::Start }
+        Passed {
+            last: Snapshot::of(&Link::Start),
+        }
     }
 
     fn add_one(&mut self, byte: &u8)
         ensures { self.new ≡ self.old ++ byte.now ∷ [] }
     {
         let last = Link::Then(Snapshot::of(self), Snapshot::of(byte));
-        self.last = last;
+        self.last = Snapshot::of(&last);
     }
 
     /// These passed, too.
