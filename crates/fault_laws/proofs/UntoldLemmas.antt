@@ -161,7 +161,7 @@ own_less faults start messages p (act.Restart node pick) (answer.Disk name shard
 own_less faults start messages p (act.Bootstrap node asked) (answer.Available available used version) own = own
 own_less faults start messages p (act.Bootstrap node asked) (answer.Disk name shard) own = own
 own_less faults start messages p (act.Bootstrap node asked) (answer.Corrupt name shard damage) own = own
-own_less faults start messages p (act.Bootstrap node asked) (answer.Peers got needed reasons shard) own = record { misses = own.misses; stopped = own.stopped; refused = λ r m. break_less faults start p (own.misses).place shard r.0 r.1 (own.refused r m) }
+own_less faults start messages p (act.Bootstrap node asked) (answer.Peers got needed reasons shard) own = record { misses = own.misses; streamed = own.streamed; refused = λ r m. break_less faults start p (own.misses).place shard r.0 r.1 (own.refused r m) }
 own_less faults start messages p (act.Bootstrap node asked) (answer.Limit limit) own = own
 own_less faults start messages p (act.Add node group) b own = own
 own_less faults start messages p (act.Drain node) b own = own

@@ -1,6 +1,6 @@
 -- Whom a node joined with.
 use Rattle.std.proofs.Common.{◌≡◌, ◌≢◌, ◌∙◌, ◌<◌, ◌≤◌, ℕ, zero, suc, true, false, List, [], ◌∷◌, ◌++◌, length, Some, None, refl, ap, subst, sym, inl, inr, arith, slice_get}
-use Rattle.std.specs.Prelude.{◌⊎◌, codes}
+use Rattle.std.specs.Prelude.{◌⊎◌, Bool, Option, codes, if◌then◌else◌}
 use Rattle.std.specs.declared.cmp.Ordering.TheVariants.{Less, Equal, Greater}
 use Rattle.std.proofs.lemmas.Option.{same_Some}
 use Rattle.m3_model.specs.Ascends.{Ascends}
@@ -12,19 +12,23 @@ use Rattle.m3_model.specs.declared.answer.Answer.TheVariants as answer
 use Rattle.m3_model.specs.declared.placement.Assignment.{Assignment}
 use Rattle.m3_model.specs.declared.placement.Placement.{Placement}
 use Rattle.m3_model.specs.declared.placement.ShardState.TheVariants.{Initializing, Available, Leaving}
+use Rattle.m3_model.specs.declared.rules.MetaState.{MetaState}
 use Rattle.m3_model.specs.declared.turn.Turn.{Turn}
 use Rattle.placement_core.specs.NodeNames.{IsNamedBelow}
-use Rattle.placement_core.specs.Shards.{Shard, former, shard_at}
+use Rattle.placement_core.specs.Lawful.{IsLawful}
+use Rattle.placement_core.specs.Shards.{Shard, former, holders, holds, is_holder, is_steady, shard_at}
+use Rattle.placement_core.proofs.HolderLemmas.{chosen_node, same_node}
 use Rattle.transcripts.specs.Fates.{IsRunningAt, is_stopped}
 use Rattle.transcripts.specs.Joined.{ArePeers, Joined, IsJoiningTurn, TurnsAvailable}
 use Rattle.transcripts.specs.Placements.{placements}
 use Rattle.transcripts.specs.Record.{IsTurnPosition, TurnPosition, inner_turns}
+use Rattle.transcripts.specs.Waiting.{IsBegunFor, idles_after}
 use Rattle.model_laws.specs.Building.{life_of, line, made, place}
 use Rattle.model_laws.proofs.EachLemmas.{◌also◌, ascends_by, each_in, texts_differ}
 use Rattle.model_laws.proofs.PositionLemmas.{each_position, only, position_after, position_after-stands}
-use Rattle.move_laws.specs.Moving.{holding, joining}
+use Rattle.move_laws.specs.Moving.{both_to_a, first_on_a, held, holding, joining, reopened_with}
 use Rattle.move_laws.proofs.MovingLemmas.{of_name}
-use Rattle.join_laws.specs.Replaced.{a_to_d, before_e, boot, both_stopped, d_prints, d_to_e, e_prints, on_d, on_e, replaced_a, replaced_d, second_prints, stopped_print, then_last}
+use Rattle.join_laws.specs.Replaced.{a_to_d, b_idle, before_e, boot, boot_of, both_stopped, d_prints, d_to_e, e_prints, half_idle, idle_print, on_d, on_e, replaced_a, replaced_d, second_prints, stopped_print, then_last}
 use Rattle.join_laws.proofs.NameLemmas.{names_below}
 
 available_not : Available ≢ Initializing
@@ -46,7 +50,7 @@ of_one_shard P was x one claim next (suc k) node t = let bad : None ≡ Some t.s
 
 -- some turn of these lines joined the node so
 abbrev JoinsIn : List Turn → Placement → Placement → ℕ → ℕ → Shard → Type 0
-JoinsIn turns was next number node shard = (p : TurnPosition) × IsTurnPosition turns p × IsJoiningTurn p was next number node shard
+JoinsIn turns was next number node shard = (p : TurnPosition) × IsTurnPosition turns p × IsJoiningTurn None p was next number node shard
 
 abbrev both : List Turn
 both = second_prints (1 ∷ 2 ∷ [])
@@ -87,6 +91,7 @@ d_joins = (
       by_name = by_name a_to_d (record { one = _; other = _; of_one = refl; of_other = refl; below = refl });
       within = each_in (IsIn (former (shard_at a_to_d 0))) (1 ∷ 2 ∷ []) (inr (inl refl) also inr (inr (inl refl)) also tt);
       running = each_in (IsRunningAt (position_after (made ∷ replaced_a ∷ []) (act.Bootstrap (codes "d") None) (d_prints (1 ∷ 2 ∷ []))) a_to_d) (1 ∷ 2 ∷ []) (record { instance_ = _; stands = refl; holds = refl } also record { instance_ = _; stands = refl; holds = refl } also tt);
+      begun = each_in (IsBegunFor None (position_after (made ∷ replaced_a ∷ []) (act.Bootstrap (codes "d") None) (d_prints (1 ∷ 2 ∷ []))) a_to_d 0) (1 ∷ 2 ∷ []) (record { instance_ = _; stands = refl; holds = refl } also record { instance_ = _; stands = refl; holds = refl } also tt);
       enough = omega arith;
     };
   },
@@ -106,6 +111,7 @@ e_joins = (
       by_name = by_name d_to_e (record { one = _; other = _; of_one = refl; of_other = refl; below = refl });
       within = each_in (IsIn (former (shard_at d_to_e 0))) (1 ∷ 2 ∷ []) (inl refl also inr (inl refl) also tt);
       running = each_in (IsRunningAt (position_after before_e (act.Bootstrap (codes "e") None) (e_prints (1 ∷ 2 ∷ []))) d_to_e) (1 ∷ 2 ∷ []) (record { instance_ = _; stands = refl; holds = refl } also record { instance_ = _; stands = refl; holds = refl } also tt);
+      begun = each_in (IsBegunFor None (position_after before_e (act.Bootstrap (codes "e") None) (e_prints (1 ∷ 2 ∷ []))) d_to_e 0) (1 ∷ 2 ∷ []) (record { instance_ = _; stands = refl; holds = refl } also record { instance_ = _; stands = refl; holds = refl } also tt);
       enough = omega arith;
     };
   },
@@ -170,7 +176,7 @@ turned = record {
 
 -- the turn isn't the one that joined it
 abbrev JoinsNot : TurnPosition → Type 0
-JoinsNot p = IsJoiningTurn p d_to_e on_e 0 4 (shard_at d_to_e 0) → ⊥
+JoinsNot p = IsJoiningTurn None p d_to_e on_e 0 4 (shard_at d_to_e 0) → ⊥
 
 -- an answer that leaves another version isn't it
 other : (p : TurnPosition) (n : ℕ) → left_by p.turn.answer ≡ n → n ≢ 5 → JoinsNot p
@@ -190,16 +196,16 @@ refuses a b is_was is_next last joined =
     also tt) found.0 found.1 found.2
 
 -- the names that are printed with the only shard are those of the peers
-peers_of : (names : List ℕ) (p : TurnPosition) (was next : Placement) (node : ℕ) (shard : Shard) → shards_by p.turn.answer ≡ (0, names) ∷ [] → (joins : IsJoiningTurn p was next 0 node shard) → ArePeers p was shard names
-peers_of names p was next node shard is joins = by (subst (λ (xs : List (ℕ × List ℕ)). IsIn xs (0, joins.names)) is (subst (λ (xs : List (ℕ × List ℕ)). IsIn xs (0, joins.names)) (sym (ap shards_by joins.bootstrap.answered)) joins.printed))
+peers_of : (start : Option MetaState) (names : List ℕ) (p : TurnPosition) (was next : Placement) (node : ℕ) (shard : Shard) → shards_by p.turn.answer ≡ (0, names) ∷ [] → (joins : IsJoiningTurn start p was next 0 node shard) → ArePeers start p was 0 shard names
+peers_of start names p was next node shard is joins = by (subst (λ (xs : List (ℕ × List ℕ)). IsIn xs (0, joins.names)) is (subst (λ (xs : List (ℕ × List ℕ)). IsIn xs (0, joins.names)) (sym (ap shards_by joins.bootstrap.answered)) joins.printed))
   where
-    by : IsIn {X = ℕ × List ℕ} ((0, names) ∷ []) (0, joins.names) → ArePeers p was shard names
-    by (inl same) = subst (ArePeers p was shard) (sym (ap (λ (x : ℕ × List ℕ). x.1) same)) joins.peers
+    by : IsIn {X = ℕ × List ℕ} ((0, names) ∷ []) (0, joins.names) → ArePeers start p was 0 shard names
+    by (inl same) = subst (ArePeers start p was 0 shard) (sym (ap (λ (x : ℕ × List ℕ). x.1) same)) joins.peers
     by (inr none) = absurd none
 
 -- e's bootstrap prints names that aren't those of such peers
-prints_not : (names : List ℕ) → (ArePeers (position_after before_e (act.Bootstrap (codes "e") None) (e_prints names)) d_to_e (shard_at d_to_e 0) names → ⊥) → ¬ Joined (life_of (second_prints names))
-prints_not names not = refuses (act.Bootstrap (codes "e") None) (e_prints names) (inr (inr (inr (inl refl)))) (inr (inr (inr (inr (inl refl))))) (λ joins. not (peers_of names _ d_to_e on_e 4 (shard_at d_to_e 0) refl joins))
+prints_not : (names : List ℕ) → (ArePeers None (position_after before_e (act.Bootstrap (codes "e") None) (e_prints names)) d_to_e 0 (shard_at d_to_e 0) names → ⊥) → ¬ Joined (life_of (second_prints names))
+prints_not names not = refuses (act.Bootstrap (codes "e") None) (e_prints names) (inr (inr (inr (inl refl)))) (inr (inr (inr (inr (inl refl))))) (λ joins. not (peers_of None names _ d_to_e on_e 4 (shard_at d_to_e 0) refl joins))
 
 pub nobody-refused : ¬ Joined (life_of (second_prints []))
 nobody-refused = prints_not [] (λ peers. let many : 2 ≤ 0 = peers.enough in omega (arith, many))
@@ -250,7 +256,7 @@ d_turned = record {
 }
 
 abbrev DJoinsNot : TurnPosition → Type 0
-DJoinsNot p = IsJoiningTurn p a_to_d on_d 0 3 (shard_at a_to_d 0) → ⊥
+DJoinsNot p = IsJoiningTurn None p a_to_d on_d 0 3 (shard_at a_to_d 0) → ⊥
 
 not_d : (p : TurnPosition) → left_by p.turn.answer ≡ 0 → DJoinsNot p
 not_d p is joins = let bad : 0 ≡ 3 = sym is ∙ ap left_by joins.bootstrap.answered in omega (arith, bad)
@@ -263,8 +269,74 @@ stopped-refused joined =
   where
     last : DJoinsNot (position_after both_stopped (act.Bootstrap (codes "d") None) (d_prints (1 ∷ 2 ∷ [])))
     last joins =
-        let peers = peers_of (1 ∷ 2 ∷ []) _ a_to_d on_d 3 (shard_at a_to_d 0) refl joins in
+        let peers = peers_of None (1 ∷ 2 ∷ []) _ a_to_d on_d 3 (shard_at a_to_d 0) refl joins in
         let bad : true ≡ false = of_name a_to_d (λ name. is_stopped (inner_turns both_stopped) name ≡ false) 1 _ refl (peers.running 1 (inl refl)) in
+        cc
+
+-- ---- idle peers
+
+pub idle-refused : ¬ Joined (life_of idle_print)
+unfolding d_turned
+idle-refused joined =
+    let found = joined a_to_d on_d (inr (inl refl)) (inr (inr (inl refl))) 0 3 d_turned in
+    each_position DJoinsNot idle_print (only (not_d _ refl) also only (not_d _ refl) also only (not_d _ refl) also only (not_d _ refl) also only last also tt) found.0 found.1 found.2
+  where
+    last : DJoinsNot (position_after b_idle (act.Bootstrap (codes "d") None) (d_prints (1 ∷ 2 ∷ [])))
+    last joins =
+        let peers = peers_of None (1 ∷ 2 ∷ []) _ a_to_d on_d 3 (shard_at a_to_d 0) refl joins in
+        let bad : true ≡ false = of_name a_to_d (λ name. idles_after (record { shard = 0; node = 1; name = name }) None (inner_turns b_idle ++ []) ≡ false) 1 _ refl (peers.begun 1 (inl refl)) in
+        cc
+
+-- a turned available in the first of two shards
+a_turned : TurnsAvailable both_to_a first_on_a 0 0
+a_turned = record {
+  follows = refl;
+  shard = shard_at both_to_a 0;
+  shard_is = refl;
+  joining = joining 0 2 1;
+  joins = inr (inl refl);
+  of_node = refl;
+  is_joining = refl;
+  after = shard_at first_on_a 0;
+  after_is = refl;
+  joined = holding 0 2;
+  stands = inl refl;
+  to_node = refl;
+  is_available = refl;
+}
+
+abbrev AJoinsNot : TurnPosition → Type 0
+AJoinsNot p = IsJoiningTurn (Some (held both_to_a)) p both_to_a first_on_a 0 0 (shard_at both_to_a 0) → ⊥
+
+pub half_idle-refused : ¬ Joined (reopened_with both_to_a half_idle)
+unfolding a_turned
+half_idle-refused joined =
+    let found = joined both_to_a first_on_a (inl refl) (inr (inr (inl refl))) 0 0 a_turned in
+    each_position AJoinsNot half_idle (only earlier also only last also tt) found.0 found.1 found.2
+  where
+    front : List Turn
+    front = boot_of (codes "b") 1 (answer.Available [] both_to_a 2) ∷ []
+
+    earlier : AJoinsNot (position_after [] (act.Bootstrap (codes "b") (Some 1)) (answer.Available [] both_to_a 2))
+    earlier joins = let bad : 2 ≡ 3 = ap left_by joins.bootstrap.answered in omega (arith, bad)
+
+    last : AJoinsNot (position_after front (act.Bootstrap (codes "a") (Some 0)) (answer.Available ((0, 1 ∷ []) ∷ []) first_on_a 3))
+    last joins =
+        let peers = peers_of (Some (held both_to_a)) (1 ∷ []) _ both_to_a first_on_a 0 (shard_at both_to_a 0) refl joins in
+        let bad : true ≡ false = of_name both_to_a (λ name. idles_after (record { shard = 0; node = 1; name = name }) (Some (held both_to_a)) (inner_turns front ++ []) ≡ false) 1 _ refl (peers.begun 1 (inl refl)) in
+        cc
+
+-- ---- the one that joins
+
+pub joining-no_peer : (place : Placement) → IsLawful place → (shard : Shard) → IsIn place.shards shard → (joining : Assignment) → IsIn shard joining → joining.state ≡ Initializing → ¬ IsIn (former shard) joining.node
+joining-no_peer place lawful shard stands joining joins is_joining = by (is_steady shard)
+  where
+    by : (steady : Bool) → IsIn (if steady then [] else holders shard) joining.node → ⊥
+    by true none = none
+    by false among =
+        let x = chosen_node is_holder shard joining.node among in
+        let same : x.0 ≡ joining = same_node shard x.0 joining (lawful.shards shard stands).distinct x.1 joins x.2 in
+        let bad : true ≡ false = sym x.3 ∙ ap (λ (a : Assignment). holds a.state) same ∙ ap holds is_joining in
         cc
 
 -- ---- other turns

@@ -1,5 +1,5 @@
 -- Bootstraps once many versions are kept.
-use Rattle.std.proofs.Common.{◌≡◌, ◌≢◌, ◌≤◌, ◌<◌, ◌-◌, ◌∙◌, ℕ, zero, suc, true, false, List, [], ◌∷◌, length, Some, None, refl, ap, subst, sym, inl, inr, arith, slice_get}
+use Rattle.std.proofs.Common.{◌≡◌, ◌≢◌, ◌≤◌, ◌<◌, ◌-◌, ◌∙◌, ℕ, zero, suc, Bool, true, false, List, [], ◌∷◌, ◌++◌, length, Some, None, refl, ap, subst, sym, inl, inr, arith, append-nil, slice_get}
 use Rattle.std.specs.Prelude.{Option, codes, map}
 use Rattle.std.specs.declared.cmp.Ordering.TheVariants.{Less, Equal}
 use Rattle.std.proofs.lemmas.Option.{same_Some}
@@ -14,19 +14,20 @@ use Rattle.m3_model.specs.declared.turn.Turn.{Turn}
 use Rattle.placement_core.specs.NodeNames.{IsNamedBelow}
 use Rattle.placement_core.specs.Shards.{former, shard_at}
 use Rattle.transcripts.specs.Caused.{IsBootstrapped, IsDueBy, versions_after}
-use Rattle.transcripts.specs.Fates.{IsRunningAt, is_stopped}
+use Rattle.transcripts.specs.Fates.{IsRunningAt, OfNode, is_stopped}
 use Rattle.transcripts.specs.Faults.{Fault}
 use Rattle.transcripts.specs.Joined.{ArePeers}
 use Rattle.transcripts.specs.Peers.{IsJoinedBy, LacksVersion}
 use Rattle.transcripts.specs.Placements.{placement_after}
 use Rattle.transcripts.specs.Record.{TurnPosition, inner_turns}
 use Rattle.transcripts.specs.Refusals.{kept_versions}
+use Rattle.transcripts.specs.Waiting.{IsBegunFor, idles_after}
 use Rattle.model_laws.specs.Building.{position_after}
 use Rattle.model_laws.proofs.EachLemmas.{◌also◌, ascends_by, each_in}
 use Rattle.model_laws.proofs.PositionLemmas.{after_all, due, due_here, only_after, only_used}
 use Rattle.move_laws.specs.Moving.{joining}
 use Rattle.move_laws.proofs.MovingLemmas.{of_name}
-use Rattle.join_laws.specs.Limits.{MayBootLate, Run, StandsLate, boots_d, late}
+use Rattle.join_laws.specs.Limits.{MayBootLate, Serve, StandsLate, boots_d, late, of_shard}
 use Rattle.join_laws.proofs.NameLemmas.{names_below}
 
 -- so many versions are kept then
@@ -39,8 +40,8 @@ free_due version lines faults b stood not_memory not_full may = subst (IsDueBy t
 
 -- ---- accepted
 
-pub limit-caused : (lines : List Turn) → StandsLate 1024 lines → Run lines (codes "b" ∷ codes "c" ∷ []) → MayBootLate lines [] (answer.Limit 1024)
-limit-caused lines stood runs =
+pub limit-caused : (lines : List Turn) → StandsLate 1024 lines → Serve lines ((1, codes "b") ∷ (2, codes "c") ∷ []) → MayBootLate lines [] (answer.Limit 1024)
+limit-caused lines stood serves =
     due true [] [] lines boots_d (answer.Limit 1024) (subst (IsDueBy true [] None [] p) (sym (stood.free (answer.Limit 1024))) (record {
       turns = inner_turns lines;
       after = after_all lines boots_d (answer.Limit 1024);
@@ -52,7 +53,8 @@ limit-caused lines stood runs =
       are_peers = record {
         by_name = ascends_by (IsNamedBelow (late 1024)) (1 ∷ 2 ∷ []) ((record { one = _; other = _; of_one = refl; of_other = refl; below = refl } also tt) also tt also tt);
         within = each_in (IsIn (former (shard_at (late 1024) 0))) (1 ∷ 2 ∷ []) (inr (inl refl) also inr (inr (inl refl)) also tt);
-        running = each_in (IsRunningAt p (late 1024)) (1 ∷ 2 ∷ []) (record { instance_ = _; stands = refl; holds = runs.0 } also record { instance_ = _; stands = refl; holds = runs.1.0 } also tt);
+        running = each_in (IsRunningAt p (late 1024)) (1 ∷ 2 ∷ []) (record { instance_ = _; stands = refl; holds = serves.0.0 } also record { instance_ = _; stands = refl; holds = serves.1.0.0 } also tt);
+        begun = each_in (IsBegunFor None p (late 1024) 0) (1 ∷ 2 ∷ []) (begun 1 (codes "b") _ refl refl serves.0.1 also begun 2 (codes "c") _ refl refl serves.1.0.1 also tt);
         enough = omega arith;
       };
       limit_is = refl;
@@ -61,6 +63,9 @@ limit-caused lines stood runs =
   where
     p : TurnPosition
     p = position_after lines boots_d (answer.Limit 1024)
+
+    begun : (node : ℕ) (name : List ℕ) (one : Instance) → slice_get (late 1024).instances node ≡ Some one → one.name ≡ name → idles_after (of_shard node name) None (inner_turns lines) ≡ false → IsBegunFor None p (late 1024) 0 node
+    begun node name one known is wakes = record { instance_ = one; stands = known; holds = ap (λ ts. idles_after (of_shard node one.name) None ts) (append-nil (inner_turns lines)) ∙ ap (λ own. idles_after (of_shard node own) None (inner_turns lines)) is ∙ wakes }
 
 -- ---- refused
 
@@ -85,36 +90,57 @@ early-refused lines stood faults may =
     let bad : MOST_VERSIONS ≤ 1023 = subst (λ n. MOST_VERSIONS ≤ n) (kept_are 1023 lines stood) reached in
     omega (arith, bad)
 
--- two peers would have to be c
-not_two : (lines : List Turn) (version : ℕ) (names : List ℕ) → is_stopped (inner_turns lines) (codes "a") ≡ true → is_stopped (inner_turns lines) (codes "b") ≡ true → ArePeers (position_after lines boots_d (answer.Limit 1024)) (late version) (shard_at (late version) 0) names → ⊥
-not_two lines version [] a_stops b_stops peers = let many : 2 ≤ 0 = peers.enough in omega (arith, many)
-not_two lines version (x ∷ []) a_stops b_stops peers = let many : 2 ≤ 1 = peers.enough in omega (arith, many)
-not_two lines version (x ∷ y ∷ names) a_stops b_stops peers =
-    let first : x ≡ 2 = is_c x (peers.within x (inl refl)) (peers.running x (inl refl)) in
-    let second : y ≡ 2 = is_c y (peers.within y (inr (inl refl))) (peers.running y (inr (inl refl))) in
-    let below : IsNamedBelow (late version) 2 2 = subst (λ n. IsNamedBelow (late version) n 2) first (subst (IsNamedBelow (late version) x) second (peers.by_name.0 y (inl refl))) in
-    let bad : Equal ≡ Less = names_below (late version) 2 2 _ _ refl refl below in
+-- what is false of a node isn't so of one of which it is true
+absent : (f : ℕ → List ℕ → Bool) (n : ℕ) (one : Instance) → slice_get (late 1024).instances n ≡ Some one → f n one.name ≡ true → (node : ℕ) → OfNode (late 1024) node (λ name. f node name ≡ false) → node ≢ n
+absent f n one known holds node fails is = let bad : true ≡ false = sym holds ∙ of_name (late 1024) (λ name. f n name ≡ false) n one known (subst (λ k. OfNode (late 1024) k (λ name. f k name ≡ false)) is fails) in cc
+
+-- two peers that are neither a nor b would have to be c
+not_two : (lines : List Turn) (names : List ℕ) → ((node : ℕ) → IsIn names node → (node ≢ 0) × (node ≢ 1)) → ArePeers None (position_after lines boots_d (answer.Limit 1024)) (late 1024) 0 (shard_at (late 1024) 0) names → ⊥
+not_two lines [] others peers = let many : 2 ≤ 0 = peers.enough in omega (arith, many)
+not_two lines (x ∷ []) others peers = let many : 2 ≤ 1 = peers.enough in omega (arith, many)
+not_two lines (x ∷ y ∷ names) others peers =
+    let first : x ≡ 2 = is_c x (others x (inl refl)) (peers.within x (inl refl)) in
+    let second : y ≡ 2 = is_c y (others y (inr (inl refl))) (peers.within y (inr (inl refl))) in
+    let below : IsNamedBelow (late 1024) 2 2 = subst (λ n. IsNamedBelow (late 1024) n 2) first (subst (IsNamedBelow (late 1024) x) second (peers.by_name.0 y (inl refl))) in
+    let bad : Equal ≡ Less = names_below (late 1024) 2 2 _ _ refl refl below in
     cc
   where
-    is_c : (node : ℕ) → IsIn (former (shard_at (late version) 0)) node → IsRunningAt (position_after lines boots_d (answer.Limit 1024)) (late version) node → node ≡ 2
-    is_c node (inl is) runs = let bad : true ≡ false = sym a_stops ∙ of_name (late version) (λ name. is_stopped (inner_turns lines) name ≡ false) 0 _ refl (subst (IsRunningAt (position_after lines boots_d (answer.Limit 1024)) (late version)) (sym is) runs) in cc
-    is_c node (inr (inl is)) runs = let bad : true ≡ false = sym b_stops ∙ of_name (late version) (λ name. is_stopped (inner_turns lines) name ≡ false) 1 _ refl (subst (IsRunningAt (position_after lines boots_d (answer.Limit 1024)) (late version)) (sym is) runs) in cc
-    is_c node (inr (inr (inl is))) runs = sym is
-    is_c node (inr (inr (inr none))) runs = absurd none
+    is_c : (node : ℕ) → (node ≢ 0) × (node ≢ 1) → IsIn (former (shard_at (late 1024) 0)) node → node ≡ 2
+    is_c node other (inl is) = absurd (other.0 (sym is))
+    is_c node other (inr (inl is)) = absurd (other.1 (sym is))
+    is_c node other (inr (inr (inl is))) = sym is
+    is_c node other (inr (inr (inr none))) = absurd none
 
 -- d joins the only shard
 only_shard : (version shard : ℕ) → IsJoinedBy (late version) (codes "d") None shard → shard ≡ 0
 only_shard version zero joins = refl
 only_shard version (suc shard) joins = absurd joins.among
 
-pub stopped-refused : (lines : List Turn) → StandsLate 1024 lines → is_stopped (inner_turns lines) (codes "a") ≡ true → is_stopped (inner_turns lines) (codes "b") ≡ true → (faults : List Fault) → ¬ MayBootLate lines faults (answer.Limit 1024)
-stopped-refused lines stood a_stops b_stops faults may =
+-- the peers that the limit speaks of
+late_peers : (lines : List Turn) (faults : List Fault) → StandsLate 1024 lines → MayBootLate lines faults (answer.Limit 1024) → (names : List ℕ) × ArePeers None (position_after lines boots_d (answer.Limit 1024)) (late 1024) 0 (shard_at (late 1024) 0) names
+late_peers lines faults stood may =
     let p = position_after lines boots_d (answer.Limit 1024) in
     let l = lacks 1024 lines faults 1024 stood may in
     let same = same_place 1024 lines 1024 stood l in
     let joins : IsJoinedBy (late 1024) (codes "d") None l.shard = subst (λ q. IsJoinedBy q (codes "d") None l.shard) (sym same.1) l.joins in
-    let peers : ArePeers p (late 1024) (shard_at (late 1024) l.shard) l.peers = subst (λ q. ArePeers p q (shard_at q l.shard) l.peers) (sym same.1) l.are_peers in
-    not_two lines 1024 l.peers a_stops b_stops (subst (λ s. ArePeers p (late 1024) (shard_at (late 1024) s) l.peers) (only_shard 1024 l.shard joins) peers)
+    let peers : ArePeers None p (late 1024) l.shard (shard_at (late 1024) l.shard) l.peers = subst (λ q. ArePeers None p q l.shard (shard_at q l.shard) l.peers) (sym same.1) l.are_peers in
+    (l.peers, subst (λ s. ArePeers None p (late 1024) s (shard_at (late 1024) s) l.peers) (only_shard 1024 l.shard joins) peers)
+
+pub stopped-refused : (lines : List Turn) → StandsLate 1024 lines → is_stopped (inner_turns lines) (codes "a") ≡ true → is_stopped (inner_turns lines) (codes "b") ≡ true → (faults : List Fault) → ¬ MayBootLate lines faults (answer.Limit 1024)
+stopped-refused lines stood a_stops b_stops faults may =
+    let l = late_peers lines faults stood may in
+    let stops : ℕ → List ℕ → Bool = λ node name. is_stopped (inner_turns lines) name in
+    not_two lines l.0 (λ node m. (absent stops 0 _ refl a_stops node (l.1.running node m), absent stops 1 _ refl b_stops node (l.1.running node m))) l.1
+
+pub idle-refused : (lines : List Turn) → StandsLate 1024 lines → idles_after (of_shard 0 (codes "a")) None (inner_turns lines) ≡ true → idles_after (of_shard 1 (codes "b")) None (inner_turns lines) ≡ true → (faults : List Fault) → ¬ MayBootLate lines faults (answer.Limit 1024)
+idle-refused lines stood a_idles b_idles faults may =
+    let l = late_peers lines faults stood may in
+    let idles : ℕ → List ℕ → Bool = λ node name. idles_after (of_shard node name) None (inner_turns lines ++ []) in
+    let all = append-nil (inner_turns lines) in
+    not_two lines l.0 (λ node m. (
+      absent idles 0 _ refl (ap (idles_after (of_shard 0 (codes "a")) None) all ∙ a_idles) node (l.1.begun node m),
+      absent idles 1 _ refl (ap (idles_after (of_shard 1 (codes "b")) None) all ∙ b_idles) node (l.1.begun node m),
+    )) l.1
 
 pub room-refused : (lines : List Turn) → StandsLate 1024 lines → (peers : List ℕ) (faults : List Fault) → ¬ MayBootLate lines faults (answer.Available ((0, peers) ∷ []) (late 1025) 1025)
 room-refused lines stood peers faults may =

@@ -1,5 +1,5 @@
 -- Bootstraps that end no move since too few former replicas streamed whole, and ticks of a node that is to join.
-use Rattle.std.proofs.Common.{◌≡◌, ◌≢◌, ◌∙◌, ◌<◌, ◌+◌, ◌++◌, ℕ, zero, suc, Bool, true, false, List, [], ◌∷◌, length, map, Some, None, refl, ap, subst, sym, inl, inr, arith, slice_get}
+use Rattle.std.proofs.Common.{◌≡◌, ◌≢◌, ◌∙◌, ◌<◌, ◌+◌, ◌++◌, ℕ, zero, suc, Bool, true, false, List, [], ◌∷◌, length, map, Some, None, refl, ap, subst, sym, inl, inr, arith}
 use Rattle.std.specs.Prelude.{◌⊎◌, Option, Ok, Err, Result, IsTrue, codes}
 use Rattle.std.specs.declared.cmp.Ordering.TheVariants.{Less, Equal, Greater}
 use Rattle.m3_model.specs.Ascends.{Ascends}
@@ -10,7 +10,6 @@ use Rattle.m3_model.specs.declared.act.Act.TheVariants as act
 use Rattle.m3_model.specs.declared.answer.Answer.{Answer}
 use Rattle.m3_model.specs.declared.answer.Answer.TheVariants as answer
 use Rattle.m3_model.specs.declared.placement.Assignment.{Assignment}
-use Rattle.m3_model.specs.declared.placement.Instance.{Instance}
 use Rattle.m3_model.specs.declared.placement.Placement.{Placement}
 use Rattle.m3_model.specs.declared.placement.ShardState.TheVariants.{Initializing, Available, Leaving}
 use Rattle.m3_model.specs.declared.reason.Reason.{Reason}
@@ -19,14 +18,14 @@ use Rattle.m3_model.specs.declared.turn.Turn.{Turn}
 use Rattle.placement_core.specs.NodeNames.{IsNamedBelow}
 use Rattle.placement_core.specs.Shards.{former, nodes_of, shard_at}
 use Rattle.transcripts.specs.Caused.{Caused, IsDueBy, refusal_after}
-use Rattle.transcripts.specs.Fates.{IsRunningAt, IsStoppedAt, OfNode, is_stopped}
+use Rattle.transcripts.specs.Fates.{IsRunningAt, OfNode, is_stopped}
 use Rattle.transcripts.specs.Faults.{Fault}
 use Rattle.transcripts.specs.Moves.{HasAssignment, IsNew, OwnsNot, placement_by}
 use Rattle.transcripts.specs.Peers.{IsJoinedBy, IsJoinedWith, IsUnjoined, IsUnownedForMove, MayBreak, MissesMajority}
 use Rattle.transcripts.specs.Placements.{has_replica, placement_after}
 use Rattle.transcripts.specs.Record.{TurnPosition, inner_turns}
 use Rattle.transcripts.specs.Sweeps.{AreAllMembers, Entry, IsSlotBelow, IsSwept, MayNotKeepUp}
-use Rattle.transcripts.specs.Waiting.{IsBegunFor, is_assigned, waits_at}
+use Rattle.transcripts.specs.Waiting.{IsBegunFor, idles_after, is_assigned, waits_at}
 use Rattle.model_laws.specs.Building.{assigned, life_of, line, place, position_after}
 use Rattle.model_laws.proofs.CausedLives.{first_placement}
 use Rattle.model_laws.proofs.EachLemmas.{◌also◌, ascends_by, each_in, texts_differ}
@@ -34,7 +33,7 @@ use Rattle.model_laws.proofs.PositionLemmas.{after_all, caused_by_positions, due
 use Rattle.move_laws.specs.Moving.{both_to_a, held, joining}
 use Rattle.move_laws.proofs.MovingLemmas.{of_name}
 use Rattle.join_laws.specs.Limits.{boots_d}
-use Rattle.join_laws.specs.Replaced.{a_to_d, all_stopped, boot, both_stopped, few, first_missed, forgetful, misses, moving_to_d, refuses_tick}
+use Rattle.join_laws.specs.Replaced.{a_to_d, all_stopped, b_idle, boot, both_stopped, few, first_missed, forgetful, idle_misses, misses, moving_to_d, refuses_tick}
 use Rattle.join_laws.proofs.NameLemmas.{names_below}
 use Rattle.join_laws.proofs.PlanLemmas.{replaces_a}
 
@@ -45,6 +44,10 @@ here b = position_after moving_to_d boots_d b
 -- d is joining the only shard
 unfoldable pub d_is_joining : IsJoinedBy a_to_d (codes "d") None 0
 d_is_joining = record { node = 3; named = record { instance_ = _; stands = refl; holds = refl }; covers = refl; joining = joining 3 2 0; among = inr (inr (inr (inl refl))); of_node = refl; is_joining = refl }
+
+-- the node runs, and its replica of the only shard was begun
+abbrev Streams : TurnPosition → ℕ → Type 0
+Streams p node = IsRunningAt p a_to_d node × IsBegunFor None p a_to_d 0 node
 
 -- b and c stand by name
 b_and_c : (one other : ℕ × Reason) → IsNamedBelow a_to_d one.0 other.0 → Ascends (λ (r s : ℕ × Reason). IsNamedBelow a_to_d r.0 s.0) (one ∷ other ∷ [])
@@ -73,7 +76,7 @@ down-caused =
         of_former = each_in (λ (r : ℕ × Reason). IsIn (former (shard_at a_to_d 0)) r.0) reasons (inr (inl refl) also inr (inr (inl refl)) also tt);
         by_name = b_and_c (1, reason.Down) (2, reason.Down) below_1_2;
       };
-      stopped = each_in (λ node. IsStoppedAt at a_to_d node → IsIn (1 ∷ 2 ∷ []) node) (0 ∷ 1 ∷ 2 ∷ []) (not_a also (λ stops. inl refl) also (λ stops. inr (inl refl)) also tt);
+      streamed = each_in (λ node. ¬ IsIn (1 ∷ 2 ∷ []) node → Streams at node) (0 ∷ 1 ∷ 2 ∷ []) ((λ unnamed. (record { instance_ = _; stands = refl; holds = refl }, record { instance_ = _; stands = refl; holds = refl })) also (λ unnamed. absurd (unnamed (inl refl))) also (λ unnamed. absurd (unnamed (inr (inl refl)))) also tt);
       refused = each_in (λ (r : ℕ × Reason). MayBreak true [] None at a_to_d 0 r.0 r.1) reasons (inl (record { instance_ = _; stands = refl; holds = refl }) also inl (record { instance_ = _; stands = refl; holds = refl }) also tt);
     }))
     also tt)
@@ -87,16 +90,9 @@ down-caused =
     at : TurnPosition
     at = position_after both_stopped boots_d b
 
-    not_a : IsStoppedAt at a_to_d 0 → IsIn {X = ℕ} (1 ∷ 2 ∷ []) 0
-    not_a stops = let bad : false ≡ true = of_name a_to_d (λ name. is_stopped (inner_turns both_stopped) name ≡ true) 0 _ refl stops in cc
-
--- nobody is stopped
-none_stopped : (b : Answer) (node : ℕ) (wanted : List ℕ) → IsIn (former (shard_at a_to_d 0)) node → IsStoppedAt (here b) a_to_d node → IsIn wanted node
-none_stopped b node wanted among =
-    each_in (λ n. IsStoppedAt (here b) a_to_d n → IsIn wanted n) (0 ∷ 1 ∷ 2 ∷ []) (by 0 _ refl also by 1 _ refl also by 2 _ refl also tt) node among
-  where
-    by : (n : ℕ) (one : Instance) → slice_get a_to_d.instances n ≡ Some one → IsStoppedAt (here b) a_to_d n → IsIn wanted n
-    by n one known stops = let bad : false ≡ true = of_name a_to_d (λ name. is_stopped (inner_turns moving_to_d) name ≡ true) n one known stops in cc
+-- each of the three may have streamed
+all_stream : (b : Answer) (node : ℕ) → IsIn (former (shard_at a_to_d 0)) node → Streams (here b) node
+all_stream b = each_in (Streams (here b)) (0 ∷ 1 ∷ 2 ∷ []) ((record { instance_ = _; stands = refl; holds = refl }, record { instance_ = _; stands = refl; holds = refl }) also (record { instance_ = _; stands = refl; holds = refl }, record { instance_ = _; stands = refl; holds = refl }) also (record { instance_ = _; stands = refl; holds = refl }, record { instance_ = _; stands = refl; holds = refl }) also tt)
 
 pub memory-caused : Caused true (life_of (misses (few 1 2 (forgetful 1 ∷ forgetful 2 ∷ [])))) []
 memory-caused =
@@ -114,7 +110,7 @@ memory-caused =
         of_former = each_in (λ (r : ℕ × Reason). IsIn (former (shard_at a_to_d 0)) r.0) reasons (inr (inl refl) also inr (inr (inl refl)) also tt);
         by_name = b_and_c (forgetful 1) (forgetful 2) below_1_2;
       };
-      stopped = λ node among. none_stopped b node (1 ∷ 2 ∷ []) among;
+      streamed = λ node among unnamed. all_stream b node among;
       refused = each_in (λ (r : ℕ × Reason). MayBreak true [] None (here b) a_to_d 0 r.0 r.1) reasons (tt also tt also tt);
     }))
     also tt)
@@ -124,6 +120,38 @@ memory-caused =
 
     b : Answer
     b = few 1 2 reasons
+
+pub idle-caused : Caused true (life_of (idle_misses (few 1 2 ((1, reason.Boot) ∷ forgetful 2 ∷ [])))) []
+idle-caused =
+    caused_by_positions true [] (life_of (idle_misses b)) tt refl (
+    only (due true [] [] _ _ _ (first_placement, refl))
+    also only (due true [] [] _ _ _ tt)
+    also only (due true [] [] _ _ _ tt)
+    also only (due true [] [] _ _ _ (refl, replaces_a, refl))
+    also only (due true [] [] b_idle boots_d b (record {
+      misses = record {
+        place = a_to_d;
+        stands = (inner_turns b_idle, after_all b_idle _ _, refl);
+        joins = d_is_joining;
+        needed_is = refl;
+        fewer = omega arith;
+        others = refl;
+        of_former = each_in (λ (r : ℕ × Reason). IsIn (former (shard_at a_to_d 0)) r.0) reasons (inr (inl refl) also inr (inr (inl refl)) also tt);
+        by_name = b_and_c (1, reason.Boot) (forgetful 2) below_1_2;
+      };
+      streamed = each_in (λ node. ¬ IsIn (1 ∷ 2 ∷ []) node → Streams at node) (0 ∷ 1 ∷ 2 ∷ []) ((λ unnamed. (record { instance_ = _; stands = refl; holds = refl }, record { instance_ = _; stands = refl; holds = refl })) also (λ unnamed. absurd (unnamed (inl refl))) also (λ unnamed. absurd (unnamed (inr (inl refl)))) also tt);
+      refused = each_in (λ (r : ℕ × Reason). MayBreak true [] None at a_to_d 0 r.0 r.1) reasons ((λ told. record { instance_ = _; stands = refl; holds = refl }) also tt also tt);
+    }))
+    also tt)
+  where
+    reasons : List (ℕ × Reason)
+    reasons = (1, reason.Boot) ∷ forgetful 2 ∷ []
+
+    b : Answer
+    b = few 1 2 reasons
+
+    at : TurnPosition
+    at = position_after b_idle boots_d b
 
 -- where the bootstrap of two shards stands
 abbrev alone : List ℕ → Option ℕ → TurnPosition
@@ -143,7 +171,7 @@ first-caused =
         of_former = each_in (λ (r : ℕ × Reason). IsIn (former (shard_at both_to_a 0)) r.0) (forgetful 1 ∷ []) (inl refl also tt);
         by_name = ascends_by (λ (r s : ℕ × Reason). IsNamedBelow both_to_a r.0 s.0) (forgetful 1 ∷ []) (tt also tt);
       };
-      stopped = λ node among stops. among;
+      streamed = λ node among unnamed. absurd (unnamed among);
       refused = each_in (λ (r : ℕ × Reason). MayBreak true [] (Some (held both_to_a)) (alone (codes "a") (Some 0)) both_to_a 0 r.0 r.1) (forgetful 1 ∷ []) (tt also tt);
     }))
     also tt)
@@ -154,7 +182,7 @@ first-caused =
 record MissesThere (lines : List Turn) (faults : List Fault) (got needed : ℕ) (reasons : List (ℕ × Reason)) : Type 0 where
   misses : MissesMajority None (position_after lines boots_d (few got needed reasons)) (codes "d") None got needed reasons 0
   same : a_to_d ≡ misses.place
-  stopped : (node : ℕ) → IsIn (former (shard_at a_to_d 0)) node → IsStoppedAt (position_after lines boots_d (few got needed reasons)) a_to_d node → IsIn (map (λ (r : ℕ × Reason). r.0) reasons) node
+  streamed : (node : ℕ) → IsIn (former (shard_at a_to_d 0)) node → ¬ IsIn (map (λ (r : ℕ × Reason). r.0) reasons) node → Streams (position_after lines boots_d (few got needed reasons)) node
   refused : (r : ℕ × Reason) → IsIn reasons r → MayBreak true faults None (position_after lines boots_d (few got needed reasons)) a_to_d 0 r.0 r.1
 
 there : {faults : List Fault} (lines : List Turn) (got needed : ℕ) (reasons : List (ℕ × Reason)) → placement_after None (inner_turns lines) ≡ Some a_to_d
@@ -165,7 +193,7 @@ there {faults} lines got needed reasons stood due =
     record {
       misses = due.misses;
       same = same;
-      stopped = subst (λ q. (node : ℕ) → IsIn (former (shard_at q 0)) node → IsStoppedAt p q node → IsIn (map (λ (r : ℕ × Reason). r.0) reasons) node) (sym same) due.stopped;
+      streamed = subst (λ q. (node : ℕ) → IsIn (former (shard_at q 0)) node → ¬ IsIn (map (λ (r : ℕ × Reason). r.0) reasons) node → IsRunningAt p q node × IsBegunFor None p q 0 node) (sym same) due.streamed;
       refused = λ r among. subst (λ q. MayBreak true faults None p q 0 r.0 r.1) (sym same) (due.refused r among);
     }
 
@@ -176,7 +204,17 @@ pub stopped-refused : (faults : List Fault) → ¬ Caused true (life_of (all_sto
 stopped-refused faults caused =
     let reasons : List (ℕ × Reason) = (0, reason.Down) ∷ (1, reason.Down) ∷ [] in
     let m = there {faults = faults} all_stopped 1 2 reasons refl (due_after all_stopped boots_d (few 1 2 reasons) [] (λ e. cc) (λ e. cc) caused) in
-    each_in (λ n. n ≢ 2) (0 ∷ 1 ∷ []) ((λ e. omega (arith, e)) also (λ e. omega (arith, e)) also tt) 2 (m.stopped 2 (inr (inr (inl refl))) (record { instance_ = _; stands = refl; holds = refl })) refl
+    let unnamed : ¬ IsIn (0 ∷ 1 ∷ []) 2 = λ named. each_in (λ n. n ≢ 2) (0 ∷ 1 ∷ []) ((λ e. omega (arith, e)) also (λ e. omega (arith, e)) also tt) 2 named refl in
+    let bad : true ≡ false = of_name a_to_d (λ name. is_stopped (inner_turns all_stopped) name ≡ false) 2 _ refl (m.streamed 2 (inr (inr (inl refl))) unnamed).0 in
+    cc
+
+pub idle-refused : (faults : List Fault) → ¬ Caused true (life_of (idle_misses (few 1 2 (forgetful 0 ∷ forgetful 2 ∷ [])))) faults
+idle-refused faults caused =
+    let reasons : List (ℕ × Reason) = forgetful 0 ∷ forgetful 2 ∷ [] in
+    let m = there {faults = faults} b_idle 1 2 reasons refl (due_after b_idle boots_d (few 1 2 reasons) [] (λ e. cc) (λ e. cc) caused) in
+    let unnamed : ¬ IsIn (0 ∷ 2 ∷ []) 1 = λ named. each_in (λ n. n ≢ 1) (0 ∷ 2 ∷ []) ((λ e. omega (arith, e)) also (λ e. omega (arith, e)) also tt) 1 named refl in
+    let bad : true ≡ false = of_name a_to_d (λ name. idles_after (record { shard = 0; node = 1; name = name }) None (inner_turns b_idle ++ []) ≡ false) 1 _ refl (m.streamed 1 (inr (inl refl)) unnamed).1 in
+    cc
 
 pub needed-refused : (faults : List Fault) → ¬ Caused true (life_of (misses (few 2 3 (forgetful 2 ∷ [])))) faults
 needed-refused faults caused =

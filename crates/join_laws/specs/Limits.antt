@@ -10,6 +10,7 @@ use Rattle.transcripts.specs.Faults.{Fault}
 use Rattle.transcripts.specs.Fates.{is_stopped}
 use Rattle.transcripts.specs.Placements.{placement_after}
 use Rattle.transcripts.specs.Record.{inner_turns}
+use Rattle.transcripts.specs.Waiting.{Replica, idles_after}
 use Rattle.model_laws.specs.Building.{position_after}
 use Rattle.join_laws.specs.Replaced.{a_to_d}
 
@@ -27,10 +28,14 @@ pub record StandsLate (version : ℕ) (lines : List Turn) : Type 0 where
   pub versions : versions_after None (inner_turns lines) ≡ 1 ∷ later
   pub free : (b : Answer) → refusal_after None (position_after lines boots_d b) (inner_turns lines) ≡ None
 
--- so do these nodes, and none of them is stopped
-abbrev pub Run : List Turn → List (List ℕ) → Type 0
-Run lines [] = Unit {0}
-Run lines (name ∷ names) = (is_stopped (inner_turns lines) name ≡ false) × Run lines names
+-- a node's replica of the only shard
+abbrev pub of_shard : ℕ → List ℕ → Replica
+of_shard node name = record { shard = 0; node = node; name = name }
+
+-- none of these nodes of these names is stopped, and none of their replicas lies idle
+abbrev pub Serve : List Turn → List (ℕ × List ℕ) → Type 0
+Serve lines [] = Unit {0}
+Serve lines (x ∷ xs) = ((is_stopped (inner_turns lines) x.1 ≡ false) × (idles_after (of_shard x.0 x.1) None (inner_turns lines) ≡ false)) × Serve lines xs
 
 -- d's bootstrap may be answered so then, over these faults
 abbrev pub MayBootLate : List Turn → List Fault → Answer → Type 0

@@ -1,5 +1,5 @@
 -- Transcripts in which a of three nodes is replaced by d, and then d by e.
-use Rattle.std.specs.Prelude.{ℕ, List, [], ◌∷◌, ◌++◌, Option, None, true, codes, slice_set}
+use Rattle.std.specs.Prelude.{ℕ, List, [], ◌∷◌, ◌++◌, Option, Some, None, true, codes, slice_set}
 use Rattle.m3_model.specs.declared.act.Act.{Act}
 use Rattle.m3_model.specs.declared.act.Act.TheVariants as act
 use Rattle.m3_model.specs.declared.answer.Answer.{Answer}
@@ -17,7 +17,7 @@ use Rattle.placement_plan.specs.Nodes.{fresh_node}
 use Rattle.transcripts.specs.Record.{Life}
 use Rattle.model_laws.specs.Building.{assigned, begun, line, made, nodes}
 use Rattle.model_laws.specs.Messages.{stopped}
-use Rattle.move_laws.specs.Moving.{both_to_a, holding, joining, leaving, reopened_with}
+use Rattle.move_laws.specs.Moving.{both_to_a, first_on_a, holding, joining, leaving, reopened_with}
 
 -- ---- placements
 
@@ -87,6 +87,22 @@ both_stopped = made ∷ stopped (codes "b") ∷ stopped (codes "c") ∷ replaced
 abbrev pub stopped_print : List Turn
 stopped_print = both_stopped ++ boot (codes "d") (d_prints (1 ∷ 2 ∷ [])) ∷ []
 
+-- b was stopped and restarted, so that its replica lies idle, and d is to join
+abbrev pub b_idle : List Turn
+b_idle = made ∷ stopped (codes "b") ∷ line (act.Restart (codes "b") 0) answer.Done ∷ replaced_a ∷ []
+
+-- and prints b
+abbrev pub idle_print : List Turn
+idle_print = b_idle ++ boot (codes "d") (d_prints (1 ∷ 2 ∷ [])) ∷ []
+
+-- a bootstrap of one shard of a node, with its answer
+abbrev pub boot_of : List ℕ → ℕ → Answer → Turn
+boot_of name shard b = line (act.Bootstrap name (Some shard)) b
+
+-- in a run that begins while b is to give both shards to a, b bootstraps the second one alone, and a joins the first one and prints b
+abbrev pub half_idle : List Turn
+half_idle = boot_of (codes "b") 1 (answer.Available [] both_to_a 2) ∷ boot_of (codes "a") 0 (answer.Available ((0, 1 ∷ []) ∷ []) first_on_a 3) ∷ []
+
 -- ---- too few peers
 
 -- d is to join
@@ -108,6 +124,10 @@ forgetful node = (node, reason.Memory)
 -- all three are stopped, and then d is to join
 abbrev pub all_stopped : List Turn
 all_stopped = made ∷ stopped (codes "a") ∷ stopped (codes "b") ∷ stopped (codes "c") ∷ replaced_a ∷ []
+
+-- b lies idle, and d's bootstrap is answered so
+abbrev pub idle_misses : Answer → List Turn
+idle_misses b = b_idle ++ boot (codes "d") b ∷ []
 
 -- a run that begins while a of two nodes is to have both shards, in which a bootstrap of this node and shard finds too few peers for the first one
 abbrev pub first_missed : List ℕ → Option ℕ → Life

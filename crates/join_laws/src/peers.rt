@@ -4,18 +4,24 @@ ghost use Rattle.m3_model.specs.declared.reason.Reason.TheVariants as reason;
 ghost use Rattle.transcripts.specs.Caused.{Caused};
 ghost use Rattle.transcripts.specs.Faults.{Fault};
 ghost use Rattle.model_laws.specs.Building.{life_of};
-ghost use Rattle.join_laws.specs.Replaced.{all_stopped, boot, both_stopped, few, first_missed, forgetful, misses, refuses_tick};
+ghost use Rattle.join_laws.specs.Replaced.{all_stopped, boot, both_stopped, few, first_missed, forgetful, idle_misses, misses, refuses_tick};
 
-/// Two of the three former replicas are stopped, or wanted memory: the third one is too few.
+/// Two of the three former replicas are stopped, or wanted memory, or one of them waits for a bootstrap: the third one is too few.
 pub fn too_few_streamed()
     ensures down { Caused true (life_of (both_stopped ++ boot (codes "d") (few 1 2 ((1, reason.Down) ∷ (2, reason.Down) ∷ [])) ∷ [])) [] }
     ensures memory { Caused true (life_of (misses (few 1 2 (forgetful 1 ∷ forgetful 2 ∷ [])))) [] }
+    ensures idle { Caused true (life_of (idle_misses (few 1 2 ((1, reason.Boot) ∷ forgetful 2 ∷ [])))) [] }
     ensures first { Caused true (first_missed (codes "a") (Some 0)) [] }
 {}
 
 /// All three are stopped, and one of them is said to have streamed.
 pub fn stopped_node_streams()
     ensures { (faults : List Fault) → ¬ Caused true (life_of (all_stopped ++ boot (codes "d") (few 1 2 ((0, reason.Down) ∷ (1, reason.Down) ∷ [])) ∷ [])) faults }
+{}
+
+/// One that was restarted, and of which no bootstrap was asked since, is said to have streamed.
+pub fn idle_node_streams()
+    ensures { (faults : List Fault) → ¬ Caused true (life_of (idle_misses (few 1 2 (forgetful 0 ∷ forgetful 2 ∷ [])))) faults }
 {}
 
 /// Another number than a majority is said to be needed, or as many as are needed streamed, or a former replica is neither

@@ -168,6 +168,22 @@ restart_cases x (t ∷ ts) =
       ]
     ]
 
+-- an act that neither begins replicas nor stops any wakes none
+idles_on_by : (x : Replica) (a : Act) (b : Answer) → (OpensReplicas a → ⊥) → (IsHaltAct a → ⊥) → idles_by x a b true ≡ true
+idles_on_by x (act.Init rf shards seed nodes) b opens_none goes_on = absurd (opens_none tt)
+idles_on_by x (act.Bootstrap node asked) b opens_none goes_on = absurd (opens_none tt)
+idles_on_by x (act.Stop node) b opens_none goes_on = absurd (goes_on tt)
+idles_on_by x (act.Restart node pick) b opens_none goes_on = absurd (goes_on tt)
+idles_on_by x _ b opens_none goes_on = refl
+
+-- and a bootstrap none of another node
+idles_beside : (x : Replica) (node : List ℕ) (asked : Option ℕ) (b : Answer) → (x.name ≡ node → ⊥) → idles_by x (act.Bootstrap node asked) b true ≡ true
+idles_beside x node asked b other = by (pointwise nat_eq x.name node) refl
+  where
+    by : (c : Bool) → pointwise nat_eq x.name node ≡ c → (not (c && is_covering x.shard asked) && true) ≡ true
+    by true is = absurd (other (name_is x.name node is))
+    by false is = refl
+
 -- where none of them restarts its node, it doesn't lie idle behind one that wakes it
 woken : (x : Replica) (ts : List InnerTurn) (t : InnerTurn) → IsIn ts t → ((b : Bool) → idles_by x t.act t.answer b ≡ false) → ((u : InnerTurn) → IsIn ts u → IsRestartOf x.name u → ⊥) → (b : Bool) → idles_on x b ts ≡ false
 woken x [] t m wakes none b = absurd m
@@ -437,9 +453,9 @@ module _ {tells : Bool} (start : Option MetaState) (turns : List Turn) (events :
           let q = position_in turns cut.0 line cut.1 cut.2 t (subst (λ ts. IsIn ts t) (append-nil (joined (lists_of line))) m) in
           (q.0, q.1, ap length q.3 ∙ cut.3, subst (IsRestartOf name) (sym q.2) restart)
 
-  -- and where it is open within the stretch of a turn that neither begins replicas nor stops any, it doesn't at that turn
-  wakes_there : (p : TurnPosition) → IsTurnPosition turns p → (OpensReplicas p.turn.act → ⊥) → (IsHaltAct p.turn.act → ⊥) → (i : ℕ) → (told.spans).from p ≤ i → i < (told.spans).to p → OpenAt i → idles_after slot start (inner_turns p.lines ++ (p.earlier ++ p.beside)) ≡ false
-  wakes_there p at opens_none goes_on i low high now =
+  -- and where it is open within the stretch of a turn that doesn't wake it and stops no node, it doesn't at that turn
+  wakes_there : (p : TurnPosition) → IsTurnPosition turns p → idles_by slot p.turn.act p.turn.answer true ≡ true → (IsHaltAct p.turn.act → ⊥) → (i : ℕ) → (told.spans).from p ≤ i → i < (told.spans).to p → OpenAt i → idles_after slot start (inner_turns p.lines ++ (p.earlier ++ p.beside)) ≡ false
+  wakes_there p at stays goes_on i low high now =
       let k = length p.lines in
       let less : k < length turns = line_below turns p at in
       let front : take k turns ≡ p.lines = lines_before start turns events legal told p at in
@@ -474,7 +490,7 @@ module _ {tells : Bool} (start : Option MetaState) (turns : List Turn) (events :
         | before_line rest line lines m ↦ absurd (omega (arith, ap length lines, length-append (told.makers j).lines (line ∷ rest), h.line_is))
         | before_there lines m ↦ IsIn-append_left p.earlier p.beside (told.makers j).turn m
         | in_other_list lines m ↦ IsIn-append_right p.earlier p.beside (told.makers j).turn m
-        | is_it same ↦ absurd (opens_none (subst (λ (x : TurnPosition). OpensReplicas x.turn.act) same h.opens))
+        | is_it same ↦ let bad : true ≡ false = sym stays ∙ subst (λ (x : TurnPosition). idles_by slot x.turn.act x.turn.answer true ≡ false) same (h.wakes true) in cc
         | comes_later later ↦ absurd (omega (arith, (told.tells).order.order p (told.makers j) at h.in_run later, h.within, lt))
       ]
 
@@ -489,7 +505,20 @@ pub serves_begun : {tells : Bool} → (start : Option MetaState) (turns : List T
     → idles_after (record { shard = s; node = n; name = name }) start (inner_turns p.lines ++ (p.earlier ++ p.beside)) ≡ false
 serves_begun {tells} start turns events legal told halts p at opens_none goes_on n s name named c a serves h =
     let i = h.1 in
-    wakes_there start turns events legal told halts n s name named p at opens_none goes_on h.0 i.0 i.1 (serves_open tells (take h.0 events) n s (replica n s (take h.0 events)) c a serves (lawful_step events legal h.0 n s c a i.2))
+    wakes_there start turns events legal told halts n s name named p at (idles_on_by (record { shard = s; node = n; name = name }) p.turn.act p.turn.answer opens_none goes_on) goes_on h.0 i.0 i.1
+    (serves_open tells (take h.0 events) n s (replica n s (take h.0 events)) c a serves (lawful_step events legal h.0 n s c a i.2))
+
+-- and so is one that serves in the stretch of another node's bootstrap
+pub serves_beside : {tells : Bool} → (start : Option MetaState) (turns : List Turn) (events : List Event) → Legal tells events → (told : ToldBy start turns events) → HaltsAlone turns → (p : TurnPosition) → IsTurnPosition turns p
+    → (node : List ℕ) (asked : Option ℕ) → p.turn.act ≡ act.Bootstrap node asked → (n s : ℕ) (name : List ℕ) → IsNamedBy events n name → (name ≡ node → ⊥)
+    → (c : StepCall) (a : StepReply) → Serves c a → Happens (InStretch events ((told.spans).from p) ((told.spans).to p)) (event.Step n s c a)
+    → idles_after (record { shard = s; node = n; name = name }) start (inner_turns p.lines ++ (p.earlier ++ p.beside)) ≡ false
+serves_beside {tells} start turns events legal told halts p at node asked acts n s name named other c a serves h =
+    let i = h.1 in
+    let slot : Replica = record { shard = s; node = n; name = name } in
+    let stays : idles_by slot p.turn.act p.turn.answer true ≡ true = ap (λ b. idles_by slot b p.turn.answer true) acts ∙ idles_beside slot node asked p.turn.answer other in
+    wakes_there start turns events legal told halts n s name named p at stays (λ halt. subst IsHaltAct acts halt) h.0 i.0 i.1
+    (serves_open tells (take h.0 events) n s (replica n s (take h.0 events)) c a serves (lawful_step events legal h.0 n s c a i.2))
 
 -- what upkeep asks of a replica is served where it answers with a count
 pub sweep_serves : (a : Act) (c : StepCall) → IsSweepCall a c → (n : ℕ) → Serves c (reply.Count n)
@@ -546,7 +575,8 @@ who_served_begun {tells} start turns events legal told halts p at calls names pl
     let past = take (step.2).0 events in
     let law = lawful_step events legal (step.2).0 node shard step.0 h.0 i.2 in
     let now = serves_open tells past node shard (replica node shard past) step.0 h.0 (served_by tells start p place.version past node shard (replica node shard past) step.0 h.0 h.1 step.1 law) law in
-    let begun = wakes_there start turns events legal told halts node shard named.0 named.2 p at (opens_none p.turn.act calls) (goes_on p.turn.act calls) (step.2).0 i.0 i.1 now in
+    let slot : Replica = record { shard = shard; node = node; name = named.0 } in
+    let begun = wakes_there start turns events legal told halts node shard named.0 named.2 p at (idles_on_by slot p.turn.act p.turn.answer (opens_none p.turn.act calls) (goes_on p.turn.act calls)) (goes_on p.turn.act calls) (step.2).0 i.0 i.1 now in
     record {
       instance_ = (named.1).instance_;
       stands = (named.1).stands;

@@ -106,7 +106,7 @@ pub member_place : (o : Option Placement) (s n : ℕ) → has_replica o s n ≡ 
 member_place None s n e = cc
 member_place (Some place) s n e = (place, refl)
 
-shard_there : (shards : List Shard) (s : ℕ) (a : Assignment) → IsIn (slice_index_or shards s []) a → At shards s (slice_index_or shards s [])
+pub shard_there : (shards : List Shard) (s : ℕ) (a : Assignment) → IsIn (slice_index_or shards s []) a → At shards s (slice_index_or shards s [])
 shard_there [] s a m = absurd m
 shard_there (x ∷ shards) zero a m = refl
 shard_there (x ∷ shards) (suc s) a m = shard_there shards s a m

@@ -35,22 +35,22 @@ use Rattle.cluster_core.proofs.ListLemmas.{at_in}
 use Rattle.cluster_core.proofs.QuorumLemmas.{distinct_within}
 use Rattle.transcripts.specs.Caused.{kept_after}
 use Rattle.transcripts.specs.Deliveries.{LateMessage}
-use Rattle.transcripts.specs.Fates.{IsRunningAt}
+use Rattle.transcripts.specs.Fates.{IsRunningAt, OfNode}
 use Rattle.transcripts.specs.Faults.{Fault}
 use Rattle.transcripts.specs.Joined.{ArePeers}
 use Rattle.transcripts.specs.Peers.{IsJoinedBy}
 use Rattle.transcripts.specs.Placements.{placement_after, start_placement}
 use Rattle.transcripts.specs.Reasons.{IsShown}
 use Rattle.transcripts.specs.Record.{AreSomeOf, InnerTurn, Record, TurnPosition, inner_turns, line_of}
-use Rattle.transcripts.specs.Waiting.{is_covering}
+use Rattle.transcripts.specs.Waiting.{IsBegunFor, is_covering}
 use Rattle.told_by.specs.Hears.{Happens, HearsPeers, HearsReason, InStretch, IsStreamCall}
 use Rattle.told_by.specs.Lines.{PlainLine, position_after}
 use Rattle.told_by.proofs.LeaveLemmas.{place_there}
 use Rattle.told_causes.proofs.WaitLemmas.{shard_is}
 use Rattle.told_runs.specs.Answers.{HearsFenced, IsOfKind}
 use Rattle.told_runs.specs.Lines.{IsToldAndServed, delivered_on}
-use Rattle.told_runs.proofs.JoinedLemmas.{former_there}
-use Rattle.told_runs.proofs.RunningLemmas.{runs_there}
+use Rattle.told_runs.proofs.FormerLemmas.{former_named, former_there}
+use Rattle.told_runs.proofs.RunningLemmas.{fenced_there}
 use Rattle.peer_streams.specs.Joins.{AreAsked, AskedPeer, HasJoinedBy, Opened, begun_with, is_streamed, reasons_of, streamed_of}
 use Rattle.told_joins.specs.Laws.{MissedJoinsServe, UnmarkedJoinsServe}
 use Rattle.told_joins.specs.Lines.{AddsMissed, AddsUnmarked, MayAdd, MeetsBoot, added_by, missed_answer}
@@ -291,15 +291,17 @@ module _ {tells : Bool} (past : List Record) (start : Option MetaState) (turns :
     line : PlainLine start turns events a limit more
     line = front_line past start turns unanswered later events taking was told place last_is name only y meets limit more may (unmarked_each place y only kept more adds) prints tt
 
-    -- those that the node streamed from were fenced in the line, so they run
-    peers_run : (w : WasJoined adds.opened adds.joined) (h : HasJoinedBy place (w.one).shard y w.join (w.one).added) → (q : ℕ) → IsIn (w.join).peers q → IsRunningAt (position_after turns a limit) place q
-    peers_run w h q among =
+    -- those that the node streamed from were fenced in the line, so they run, and were begun
+    peers_serve : (w : WasJoined adds.opened adds.joined) (h : HasJoinedBy place (w.one).shard y w.join (w.one).added) → (q : ℕ) → IsIn (w.join).peers q → IsRunningAt (position_after turns a limit) place q × IsBegunFor start (position_after turns a limit) place (w.one).shard q
+    peers_serve w h q among =
         let enough = are_enough place low y only adds.opened [] adds.all w.one w.join h in
         let one = former_there place low (w.one).shard (h.given).shard (h.given).there q (enough.within q among) in
         let placed = place_there events place last_is in
         let fence : Event = event.Step q (w.one).shard (call.Fence (h.joining).tenure) reply.Done in
         let added : IsIn more fence = subst (λ xs. IsIn xs fence) (sym adds.adds) (flat_map-IsIn (λ (z : Opened). z.added) adds.opened w.one fence w.among (fenced_each place low y only adds.opened [] adds.all w.one w.join h q among)) in
-        runs_there past start turns unanswered events taking was told a limit more line may.legal (λ halts. halts) placed.0 place placed.1 placed.2 q one.0 one.1 (w.one).shard (call.Fence (h.joining).tenure) reply.Done tt (in_stretch events more fence added)
+        let own : OfNode place (h.joining).node (λ own. own ≡ name) = subst (λ n. OfNode place n (λ own. own ≡ name)) (sym (h.given).to_node) meets.named in
+        let other = former_named place low (w.one).shard (h.given).shard (h.given).there h.joining (h.given).among (h.joins).0 name own q (enough.within q among) one.0 one.1 in
+        fenced_there past start turns unanswered events taking was told name only limit more line may.legal placed.0 place placed.1 placed.2 q one.0 one.1 other (w.one).shard (h.joining).tenure (in_stretch events more fence added)
 
     lacks : IsOfKind [] start (position_after turns a limit) a limit
     lacks =
@@ -323,10 +325,11 @@ module _ {tells : Bool} (past : List Record) (start : Option MetaState) (turns :
             is_joining = (h.joins).0;
           };
           peers = (w.join).peers;
-          are_peers = subst (λ xs. ArePeers (position_after turns a limit) place xs (w.join).peers) (sym same) (record {
+          are_peers = subst (λ xs. ArePeers start (position_after turns a limit) place (w.one).shard xs (w.join).peers) (sym same) (record {
             by_name = are_by_name place low y only adds.opened [] adds.all w.one w.join h;
             within = enough.within;
-            running = peers_run w h;
+            running = λ q m. (peers_serve w h q m).0;
+            begun = λ q m. (peers_serve w h q m).1;
             enough = enough.enough;
           });
           limit_is = refl;

@@ -17,6 +17,7 @@ use Rattle.m3_model.specs.declared.reason.Reason.TheVariants as reason
 use Rattle.m3_model.specs.declared.rules.MetaState.{MetaState}
 use Rattle.m3_model.specs.declared.turn.Request.{Request}
 use Rattle.m3_model.specs.declared.turn.Turn.{Turn}
+use Rattle.placement_core.specs.Lawful.{IsLawful}
 use Rattle.placement_core.specs.Shards.{Shard, former, holders, is_holder, is_steady, nodes_of, shard_at}
 use Rattle.placement_core.proofs.HolderLemmas.{chosen_node}
 use Rattle.cluster_core.specs.Legal.{Legal}
@@ -25,20 +26,19 @@ use Rattle.cluster_core.specs.declared.event.Event.TheVariants as event
 use Rattle.cluster_core.specs.declared.event.StepCall.{StepCall}
 use Rattle.cluster_core.specs.declared.event.StepCall.TheVariants as call
 use Rattle.cluster_core.specs.declared.event.StepReply.TheVariants as reply
-use Rattle.cluster_core.proofs.QuorumLemmas.{dec_in}
 use Rattle.transcripts.specs.Caused.{Caused, CausedAt, HadBefore, IsDueBy, IsOwn, refusal_after}
 use Rattle.transcripts.specs.Deliveries.{LateMessage}
-use Rattle.transcripts.specs.Fates.{IsStoppedAt, is_stopped}
+use Rattle.transcripts.specs.Fates.{IsRunningAt, OfNode, is_stopped}
 use Rattle.transcripts.specs.Faults.{Damaged, Failing, Fault, Taking}
 use Rattle.transcripts.specs.Levels.{MissesLevel}
-use Rattle.transcripts.specs.Peers.{IsJoinedWith, IsUnjoined, MissesMajority}
+use Rattle.transcripts.specs.Peers.{IsJoinedBy, IsJoinedWith, IsUnjoined, MissesMajority}
 use Rattle.transcripts.specs.Placements.{MayStand, printed}
 use Rattle.transcripts.specs.Record.{Record, TurnPosition, IsTurnPosition, inner_turns}
-use Rattle.transcripts.specs.Waiting.{idles_after}
+use Rattle.transcripts.specs.Waiting.{IsBegunFor, idles_after}
 use Rattle.transcripts.specs.Sweeps.{IsSwept, IsSweptOver}
 use Rattle.transcripts.proofs.MoreFaults.{AreAmong, break_more, different_both, kept_up_more, own_more, step_more}
 use Rattle.transcripts.proofs.SweepLemmas.{done_entry, entry_slot, failed_entry}
-use Rattle.told_by.specs.Hears.{Happens, HearsBy, HearsPeers, HearsSwept, InStretch, IsRestartCall, IsSweepCall}
+use Rattle.told_by.specs.Hears.{Happens, HearsBy, HearsPeers, HearsSwept, InStretch, IsNamedBy, IsRestartCall, IsSweepCall}
 use Rattle.told_by.specs.Openings.{opening_length}
 use Rattle.told_by.specs.Told.{ToldBy}
 use Rattle.told_by.proofs.LineLemmas.{line_below}
@@ -60,12 +60,14 @@ use Rattle.told_causes.proofs.PeerLemmas.{peers_said}
 use Rattle.told_causes.proofs.RunLemmas.{sweep_begun, sweep_serves, who_serves}
 use Rattle.told_causes.proofs.StoodLemmas.{may_stand}
 use Rattle.told_causes.proofs.SweepLemmas.{sweeps_said}
-use Rattle.told_causes.proofs.WaitLemmas.{shard_is}
+use Rattle.told_causes.proofs.WaitLemmas.{shard_is, shard_there}
 use Rattle.told_moves.specs.Order.{IsInOrder}
 use Rattle.told_runs.specs.Answers.{AreAnswered, Delivers, HearsFenced, HearsOf, IsAnswered, IsDecidedBy, IsOfKind}
 use Rattle.told_runs.specs.Bounds.{IsBounded}
 use Rattle.told_runs.proofs.BoundLemmas.{full_by_many}
+use Rattle.told_runs.proofs.FormerLemmas.{fenced_serves, former_named}
 use Rattle.told_runs.proofs.MemberLemmas.{had_before}
+use Rattle.told_runs.proofs.UsedLemmas.{used_known}
 
 -- What is known of the calls, the deliveries, the sweeps and the streams of a run.
 pub record AreKnown (tells : Bool) (start : Option MetaState) (turns : List Turn) (events : List Event) (told : ToldBy start turns events) : Type 0 where
@@ -150,21 +152,20 @@ module _ {tells : Bool} (taking : List Fault) (start : Option MetaState) (turns 
       by true none = absurd none
       by false among = let x = chosen_node is_holder shard n among in subst (IsIn (nodes_of shard)) (x.2) (map-IsIn (λ (a : Assignment). a.node) shard x.0 x.1)
 
-  -- one that has no reason was fenced, so its node runs
-  stopped_named : (p : TurnPosition) → IsTurnPosition turns p → (place : Placement) (shard version : ℕ) → IsKnownStream tells start turns events told p place shard version → (reasons : List (ℕ × Reason))
+  -- one that has no reason was fenced, so its node runs, and its replica was begun
+  streamed : (p : TurnPosition) → IsTurnPosition turns p → (name : List ℕ) (asked : Option ℕ) → p.turn.act ≡ act.Bootstrap name asked → (place : Placement) → IsLawful place → (shard version : ℕ) (joins : IsJoinedBy place name asked shard)
+      → IsKnownStream tells start turns events told p place shard version → (reasons : List (ℕ × Reason))
       → ((node : ℕ) → IsIn (former (shard_at place shard)) node → (IsIn (map (λ r. r.0) reasons) node → ⊥) → (v : ℕ) × Happens (Within events told.spans p) (event.Step node shard (call.Fence v) reply.Done))
-      → (node : ℕ) → IsIn (former (shard_at place shard)) node → IsStoppedAt p place node → IsIn (map (λ r. r.0) reasons) node
-  stopped_named p at place shard version k reasons fenced node among stops =
-      elim (dec_in node (map (λ (r : ℕ × Reason). r.0) reasons)) as (λ _. IsIn (map (λ (r : ℕ × Reason). r.0) reasons) node) [
-        | inl named ↦ named
-        | inr unnamed ↦
-            let steady = (k.explained node (former_node (shard_at place shard) node among)).0 in
-            let step = fenced node among unnamed in
-            let runs = who_serves start turns events legal told halts p at node shard steady.name steady.everywhere (call.Fence step.0) reply.Done tt step.1 in
-            let same : (steady.named).instance_ ≡ stops.instance_ = same_Some _ _ (sym (steady.named).stands ∙ stops.stands) in
-            let bad : false ≡ true = sym runs ∙ ap (is_stopped (inner_turns p.lines)) (sym (steady.named).holds ∙ ap (λ (i : Instance). i.name) same) ∙ stops.holds in
-            cc
-      ]
+      → (node : ℕ) → IsIn (former (shard_at place shard)) node → (IsIn (map (λ r. r.0) reasons) node → ⊥) → IsRunningAt p place node × IsBegunFor start p place shard node
+  streamed p at name asked acts place lawful shard version joins k reasons fenced node among unnamed =
+      let there = shard_there place.shards shard joins.joining joins.among in
+      let steady = (k.explained node (former_node (shard_at place shard) node among)).0 in
+      let one = (steady.named).instance_ in
+      let own : OfNode place (joins.joining).node (λ own. own ≡ name) = subst (λ n. OfNode place n (λ own. own ≡ name)) (sym joins.of_node) joins.named in
+      let other = former_named place lawful shard (shard_at place shard) there joins.joining joins.among joins.is_joining name own node among one (steady.named).stands in
+      let everywhere = subst (IsNamedBy events node) (sym (steady.named).holds) steady.everywhere in
+      let step = fenced node among unnamed in
+      fenced_serves start turns events legal told halts p at name asked acts place node shard one (steady.named).stands everywhere other step.0 step.1
 
   of_peers : (p : TurnPosition) → IsTurnPosition turns p → (node : List ℕ) (asked : Option ℕ) (got needed : ℕ) (reasons : List (ℕ × Reason)) (shard : ℕ) → p.turn.act ≡ act.Bootstrap node asked → p.turn.answer ≡ answer.Peers got needed reasons shard
       → HearsFenced start (Within events told.spans p) p reasons shard → MissesMajority start p node asked got needed reasons shard → IsUnjoined tells all_faults start p node asked got needed reasons shard
@@ -176,9 +177,10 @@ module _ {tells : Bool} (taking : List Fault) (start : Option MetaState) (turns 
       let joins : IsJoinedWith hears.place shard (hears.joining).tenure =
       record { joining = hears.joining; among = subst (λ xs. IsIn xs hears.joining) (sym (shard_is (hears.place).shards shard hears.assignments hears.there)) hears.among; is_joining = hears.is_joining; tenure_is = refl } in
       let k = known.streams p at (subst IsBootAct (sym acts) tt) prints misses.place hears.place misses.stands moving shard (hears.joining).tenure joins in
+      let known = used_known start turns events legal told order p at prints None misses.place misses.stands in
       record {
         misses = misses;
-        stopped = stopped_named p at misses.place shard (hears.joining).tenure k reasons (fenced misses.place misses.stands);
+        streamed = streamed p at node asked acts misses.place (order.lawful known.place_at misses.place known.done known.there) shard (hears.joining).tenure misses.joins k reasons (fenced misses.place misses.stands);
         refused = λ r m. break_more tells told_faults all_faults told_among start p misses.place shard r.0 r.1
             (peers_said start turns events told p misses.place shard (hears.joining).tenure k r.0 (former_node (shard_at misses.place shard) r.0 (misses.of_former r m)) r.1 (hears.heard r m));
       }

@@ -1,5 +1,6 @@
 pub mod BoundLemmas
 pub mod UsedLemmas
+pub mod FormerLemmas
 pub mod MemberLemmas
 pub mod AnswerLemmas
 pub mod KnownLemmas

@@ -144,7 +144,7 @@ own_more tells faults more among start messages p (act.Restart node pick) answer
 own_more tells faults more among start messages p (act.Restart node pick) (answer.Disk name shard) h = (h.0, (h.1.0, h.1.1, h.1.2, among _ h.1.3))
 own_more tells faults more among start messages p (act.Bootstrap node asked) (answer.Available available place version) h = h
 own_more tells faults more among start messages p (act.Bootstrap node asked) (answer.Disk name shard) h = (h.0, h.1, (h.2.0, h.2.1, h.2.2, among _ h.2.3))
-own_more tells faults more among start messages p (act.Bootstrap node asked) (answer.Peers got needed reasons shard) h = record { misses = h.misses; stopped = h.stopped; refused = λ r m. break_more tells faults more among start p (h.misses).place shard r.0 r.1 (h.refused r m) }
+own_more tells faults more among start messages p (act.Bootstrap node asked) (answer.Peers got needed reasons shard) h = record { misses = h.misses; streamed = h.streamed; refused = λ r m. break_more tells faults more among start p (h.misses).place shard r.0 r.1 (h.refused r m) }
 own_more tells faults more among start messages p (act.Bootstrap node asked) (answer.Limit limit) h = h
 own_more tells faults more among start messages p (act.Bootstrap node asked) (answer.Corrupt name shard damage) h = (h.0, h.1, (h.2.0, h.2.1, h.2.2, among _ h.2.3), h.3)
 own_more tells faults more among start messages p (act.Add node group) b h = step_more faults more among start p (act.Add node group) b h

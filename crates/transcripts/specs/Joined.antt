@@ -8,11 +8,13 @@ use Rattle.m3_model.specs.declared.answer.Answer.TheVariants as answer
 use Rattle.m3_model.specs.declared.placement.Assignment.{Assignment}
 use Rattle.m3_model.specs.declared.placement.Placement.{Placement}
 use Rattle.m3_model.specs.declared.placement.ShardState.TheVariants.{Initializing, Available}
+use Rattle.m3_model.specs.declared.rules.MetaState.{MetaState}
 use Rattle.placement_core.specs.NodeNames.{IsNamedBelow}
 use Rattle.placement_core.specs.Shards.{Shard, former}
 use Rattle.transcripts.specs.Fates.{IsRunningAt, OfNode}
 use Rattle.transcripts.specs.Placements.{placements}
 use Rattle.transcripts.specs.Record.{Life, TurnPosition, IsTurnPosition, inner_turns}
+use Rattle.transcripts.specs.Waiting.{IsBegunFor}
 
 -- the node is Initializing in the shard in one placement, and Available in the next
 pub record TurnsAvailable (was next : Placement) (number node : ℕ) : Type 0 where
@@ -39,23 +41,24 @@ pub record IsBootstrapInto (p : TurnPosition) (next : Placement) (node : ℕ) (a
   pub version : ℕ
   pub answered : p.turn.answer ≡ answer.Available available next version
 
--- the nodes are former replicas of the shard, by name and each once, at least a majority, and all of them run
-pub record ArePeers (p : TurnPosition) (was : Placement) (shard : Shard) (names : List ℕ) : Type 0 where
+-- the nodes are former replicas of the shard of this number, by name and each once, at least a majority; all of them run, and none of their replicas lies idle
+pub record ArePeers (start : Option MetaState) (p : TurnPosition) (was : Placement) (number : ℕ) (shard : Shard) (names : List ℕ) : Type 0 where
   pub by_name : Ascends (IsNamedBelow was) names
   pub within : (node : ℕ) → IsIn names node → IsIn (former shard) node
   pub running : (node : ℕ) → IsIn names node → IsRunningAt p was node
+  pub begun : (node : ℕ) → IsIn names node → IsBegunFor start p was number node
   pub enough : majority was.rf ≤ length names
 
 -- the turn is the bootstrap that joined the node to the shard: it led from the one placement to the other, and prints the shard with such peers
-pub record IsJoiningTurn (p : TurnPosition) (was next : Placement) (number node : ℕ) (shard : Shard) : Type 0 where
+pub record IsJoiningTurn (start : Option MetaState) (p : TurnPosition) (was next : Placement) (number node : ℕ) (shard : Shard) : Type 0 where
   pub available : List (ℕ × List ℕ)
   pub bootstrap : IsBootstrapInto p next node available
   pub names : List ℕ
   pub printed : IsIn available (number, names)
-  pub peers : ArePeers p was shard names
+  pub peers : ArePeers start p was number shard names
 
 -- of two placements of the present run, one the next of the other: each node that turned Available was joined by the turn that led from the one to the other
 abbrev pub Joined : Life → Type 0
 Joined life =
     (was next : Placement) → IsIn (placements life.present.start (inner_turns life.present.turns)) was → IsIn (placements life.present.start (inner_turns life.present.turns)) next
-    → (number node : ℕ) → (turns : TurnsAvailable was next number node) → (p : TurnPosition) × IsTurnPosition life.present.turns p × IsJoiningTurn p was next number node turns.shard
+    → (number node : ℕ) → (turns : TurnsAvailable was next number node) → (p : TurnPosition) × IsTurnPosition life.present.turns p × IsJoiningTurn life.present.start p was next number node turns.shard

@@ -12,7 +12,7 @@ use Rattle.m3_model.specs.declared.reason.Reason.TheVariants as reason
 use Rattle.m3_model.specs.declared.rules.MetaState.{MetaState}
 use Rattle.placement_core.specs.NodeNames.{IsNamedBelow}
 use Rattle.placement_core.specs.Shards.{former, shard_at}
-use Rattle.transcripts.specs.Fates.{IsStoppedAt, OfNode}
+use Rattle.transcripts.specs.Fates.{IsRunningAt, OfNode}
 use Rattle.transcripts.specs.Faults.{Fault}
 use Rattle.transcripts.specs.Joined.{ArePeers}
 use Rattle.transcripts.specs.Moves.{IsNew, OwnsNot}
@@ -20,7 +20,7 @@ use Rattle.transcripts.specs.Placements.{MayStand, placement_after, placements, 
 use Rattle.transcripts.specs.Reasons.{MayFail}
 use Rattle.transcripts.specs.Record.{InnerTurn, IsAfter, TurnPosition}
 use Rattle.transcripts.specs.Refusals.{kept_versions}
-use Rattle.transcripts.specs.Waiting.{Replica, is_covering}
+use Rattle.transcripts.specs.Waiting.{IsBegunFor, Replica, is_covering}
 
 -- a node joins the shard in the placement, with this tenure
 pub record IsJoinedWith (place : Placement) (shard tenure : ℕ) : Type 0 where
@@ -66,15 +66,15 @@ pub record MissesMajority (start : Option MetaState) (p : TurnPosition) (name : 
   pub of_former : (r : ℕ × Reason) → IsIn reasons r → IsIn (former (shard_at place shard)) r.0
   pub by_name : Ascends (λ a b. IsNamedBelow place a.0 b.0) reasons
 
--- and each reason has its cause, and a stopped node one
+-- and each reason has its cause; whoever has none runs, and its replica doesn't lie idle
 pub record IsUnjoined (tells : Bool) (faults : List Fault) (start : Option MetaState) (p : TurnPosition) (name : List ℕ) (asked : Option ℕ) (got needed : ℕ) (reasons : List (ℕ × Reason)) (shard : ℕ) : Type 0 where
   pub misses : MissesMajority start p name asked got needed reasons shard
-  pub stopped : (node : ℕ) → IsIn (former (shard_at misses.place shard)) node → IsStoppedAt p misses.place node → IsIn (map (λ r. r.0) reasons) node
+  pub streamed : (node : ℕ) → IsIn (former (shard_at misses.place shard)) node → ¬ IsIn (map (λ r. r.0) reasons) node → IsRunningAt p misses.place node × IsBegunFor start p misses.place shard node
   pub refused : (r : ℕ × Reason) → IsIn reasons r → MayBreak tells faults start p misses.place shard r.0 r.1
 
 -- ---- no version left
 
--- the node joins a shard that is asked for, as many versions are kept as may be, and so many former replicas run that its move could end
+-- the node joins a shard that is asked for, as many versions are kept as may be, and so many former replicas run and don't lie idle that its move could end
 pub record LacksVersion (start : Option MetaState) (p : TurnPosition) (name : List ℕ) (asked : Option ℕ) (limit : ℕ) : Type 0 where
   pub turns : List InnerTurn
   pub after : IsAfter p turns
@@ -83,7 +83,7 @@ pub record LacksVersion (start : Option MetaState) (p : TurnPosition) (name : Li
   pub shard : ℕ
   pub joins : IsJoinedBy place name asked shard
   pub peers : List ℕ
-  pub are_peers : ArePeers p place (shard_at place shard) peers
+  pub are_peers : ArePeers start p place shard (shard_at place shard) peers
   pub limit_is : limit ≡ MOST_VERSIONS
   pub reached : MOST_VERSIONS ≤ kept_versions (Some place) (map (λ kept. kept.version) (placements start turns))
 
