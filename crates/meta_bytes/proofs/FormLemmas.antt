@@ -7,7 +7,7 @@ use Rattle.wire_bytes.specs.declared.wire_err.WireErr.{WireErr}
 use Rattle.wire_bytes.proofs.FieldLemmas.{EndsItself, Some_of, Then, first_fault, second_fault, then_ends, fault_as, stands_both}
 use Rattle.wire_bytes.proofs.NumberLemmas.{number_ends}
 use Rattle.wire_bytes.proofs.PointLemmas.{Counted as OfCount, counted_ends, counted_one, counted_fault}
-use Rattle.meta_bytes.specs.Forms.{Form, Byte, Number, Both, Counted, AByte, TwoHave, Times, CountHas, Has, IsFair, StandsAs, MayFault}
+use Rattle.meta_bytes.specs.Forms.{Form, Byte, Number, Both, Counted, AByte, TwoHave, Times, CountHas, HasForm, IsFair, StandsAs, MayFault}
 use Rattle.meta_bytes.specs.declared.read_err.ReadErr.{ReadErr}
 use Rattle.meta_bytes.specs.declared.read_err.ReadErr.TheVariants as refused
 
@@ -97,45 +97,45 @@ byte_ends passes a r f g =
 
 -- ---- any form
 
-pub form_ends : (f : Form) → IsFair f → EndsItself (Has f)
+pub form_ends : (f : Form) → IsFair f → EndsItself (HasForm f)
 form_ends (Byte passes) fair = byte_ends passes
 form_ends (Number width low high) fair = number_ends width low high
-form_ends (Both f g) fair = two_ends (Has f) (Has g) (form_ends f fair.0) (form_ends g fair.1)
-form_ends (Counted low high f) fair = count_ends low high (Has f) fair.1 (form_ends f fair.2)
+form_ends (Both f g) fair = two_ends (HasForm f) (HasForm g) (form_ends f fair.0) (form_ends g fair.1)
+form_ends (Counted low high f) fair = count_ends low high (HasForm f) fair.1 (form_ends f fair.2)
 
-pub form_some : (f : Form) → IsFair f → Some (Has f)
+pub form_some : (f : Form) → IsFair f → Some (HasForm f)
 form_some (Byte passes) fair = (big_bytes 1 fair.n, record { n = fair.n; small = fair.small; passed = fair.passed; spelled = refl })
 form_some (Number width low high) fair = (big_bytes width low, record { n = low; least = omega arith; most = fair.0; spelled = refl })
 form_some (Both f g) fair = let a = form_some f fair.0 in let b = form_some g fair.1 in (a.0 ++ b.0, record { a = a.0; b = b.0; first = a.1; second = b.1; joined = refl })
 form_some (Counted low high f) fair =
-    let l = times_some (Has f) (form_some f fair.2) low in
+    let l = times_some (HasForm f) (form_some f fair.2) low in
     (big_bytes 1 low ++ l.0, record { n = low; b = l.0; least = omega arith; most = fair.0; items = l.1; joined = refl })
 
 -- ---- what a reading answers
 
-pub may_first : (f g : Form) → IsFair f → IsFair g → (bytes : List ℕ) (at : ℕ) (e : ReadErr) → MayFault (Has f) bytes at e → MayFault (Has (Both f g)) bytes at e
+pub may_first : (f g : Form) → IsFair f → IsFair g → (bytes : List ℕ) (at : ℕ) (e : ReadErr) → MayFault (HasForm f) bytes at e → MayFault (HasForm (Both f g)) bytes at e
 may_first f g fair more bytes at refused.Memory a = tt
-may_first f g fair more bytes at (refused.Wire why) a = two_first (Has f) (Has g) (form_ends f fair) (form_some g more) bytes at why a
+may_first f g fair more bytes at (refused.Wire why) a = two_first (HasForm f) (HasForm g) (form_ends f fair) (form_some g more) bytes at why a
 
-pub may_second : (f g : Form) → IsFair f → (s bytes : List ℕ) (at mid : ℕ) (e : ReadErr) → StandsAs f s bytes at mid → MayFault (Has g) bytes mid e → MayFault (Has (Both f g)) bytes at e
+pub may_second : (f g : Form) → IsFair f → (s bytes : List ℕ) (at mid : ℕ) (e : ReadErr) → StandsAs f s bytes at mid → MayFault (HasForm g) bytes mid e → MayFault (HasForm (Both f g)) bytes at e
 may_second f g fair s bytes at mid refused.Memory st a = tt
-may_second f g fair s bytes at mid (refused.Wire why) st a = two_second (Has f) (Has g) (form_ends f fair) s bytes at mid why st.has st.stands a
+may_second f g fair s bytes at mid (refused.Wire why) st a = two_second (HasForm f) (HasForm g) (form_ends f fair) s bytes at mid why st.has st.stands a
 
-pub may_count : (low high : ℕ) (f : Form) → IsFair f → (bytes : List ℕ) (at : ℕ) (e : ReadErr) → MayFault (Has (Number 1 low high)) bytes at e → MayFault (Has (Counted low high f)) bytes at e
+pub may_count : (low high : ℕ) (f : Form) → IsFair f → (bytes : List ℕ) (at : ℕ) (e : ReadErr) → MayFault (HasForm (Number 1 low high)) bytes at e → MayFault (HasForm (Counted low high f)) bytes at e
 may_count low high f fair bytes at refused.Memory a = tt
-may_count low high f fair bytes at (refused.Wire why) a = count_first low high (Has f) (form_some f fair) bytes at why a
+may_count low high f fair bytes at (refused.Wire why) a = count_first low high (HasForm f) (form_some f fair) bytes at why a
 
-pub may_items : (low high : ℕ) (f : Form) → high < 256 → (n : ℕ) (bytes : List ℕ) (at mid : ℕ) (e : ReadErr) → low ≤ n → n ≤ high → Stands (big_bytes 1 n) bytes at mid → MayFault (Times n (Has f)) bytes mid e → MayFault (Has (Counted low high f)) bytes at e
+pub may_items : (low high : ℕ) (f : Form) → high < 256 → (n : ℕ) (bytes : List ℕ) (at mid : ℕ) (e : ReadErr) → low ≤ n → n ≤ high → Stands (big_bytes 1 n) bytes at mid → MayFault (Times n (HasForm f)) bytes mid e → MayFault (HasForm (Counted low high f)) bytes at e
 may_items low high f lt n bytes at mid refused.Memory least most st a = tt
-may_items low high f lt n bytes at mid (refused.Wire why) least most st a = count_later low high (Has f) lt n bytes at mid why least most st a
+may_items low high f lt n bytes at mid (refused.Wire why) least most st a = count_later low high (HasForm f) lt n bytes at mid why least most st a
 
-pub may_one : (f : Form) → IsFair f → (n : ℕ) (bytes : List ℕ) (at : ℕ) (e : ReadErr) → MayFault (Has f) bytes at e → MayFault (Times (suc n) (Has f)) bytes at e
+pub may_one : (f : Form) → IsFair f → (n : ℕ) (bytes : List ℕ) (at : ℕ) (e : ReadErr) → MayFault (HasForm f) bytes at e → MayFault (Times (suc n) (HasForm f)) bytes at e
 may_one f fair n bytes at refused.Memory a = tt
-may_one f fair n bytes at (refused.Wire why) a = times_first (Has f) (form_ends f fair) (form_some f fair) n bytes at why a
+may_one f fair n bytes at (refused.Wire why) a = times_first (HasForm f) (form_ends f fair) (form_some f fair) n bytes at why a
 
-pub may_later : (f : Form) → IsFair f → (n : ℕ) (s bytes : List ℕ) (at mid : ℕ) (e : ReadErr) → StandsAs f s bytes at mid → MayFault (Times n (Has f)) bytes mid e → MayFault (Times (suc n) (Has f)) bytes at e
+pub may_later : (f : Form) → IsFair f → (n : ℕ) (s bytes : List ℕ) (at mid : ℕ) (e : ReadErr) → StandsAs f s bytes at mid → MayFault (Times n (HasForm f)) bytes mid e → MayFault (Times (suc n) (HasForm f)) bytes at e
 may_later f fair n s bytes at mid refused.Memory st a = tt
-may_later f fair n s bytes at mid (refused.Wire why) st a = times_later (Has f) (form_ends f fair) n s bytes at mid why st.has st.stands a
+may_later f fair n s bytes at mid (refused.Wire why) st a = times_later (HasForm f) (form_ends f fair) n s bytes at mid why st.has st.stands a
 
 -- two forms that stand one after the other
 pub both_stand : (f g : Form) (s t bytes : List ℕ) (at mid next : ℕ) → StandsAs f s bytes at mid → StandsAs g t bytes mid next → StandsAs (Both f g) (s ++ t) bytes at next
@@ -145,7 +145,7 @@ both_stand f g s t bytes at mid next a b = record {
 }
 
 -- a count and its items
-pub count_stands : (low high : ℕ) (f : Form) (n : ℕ) (t bytes : List ℕ) (at mid next : ℕ) → low ≤ n → n ≤ high → Stands (big_bytes 1 n) bytes at mid → Times n (Has f) t → Stands t bytes mid next → StandsAs (Counted low high f) (big_bytes 1 n ++ t) bytes at next
+pub count_stands : (low high : ℕ) (f : Form) (n : ℕ) (t bytes : List ℕ) (at mid next : ℕ) → low ≤ n → n ≤ high → Stands (big_bytes 1 n) bytes at mid → Times n (HasForm f) t → Stands t bytes mid next → StandsAs (Counted low high f) (big_bytes 1 n ++ t) bytes at next
 count_stands low high f n t bytes at mid next least most a items b = record {
   has = record { n = n; b = t; least = least; most = most; items = items; joined = refl };
   stands = stands_both (big_bytes 1 n) t bytes at mid next a b;
@@ -155,10 +155,10 @@ count_stands low high f n t bytes at mid next least most a items b = record {
 
 -- where the rest of a form fails at the offset, the whole form fails at its begin
 abbrev pub Behind : Form → Form → List ℕ → ℕ → ℕ → Type 0
-Behind whole rest bytes at offset = (e : ReadErr) → MayFault (Has rest) bytes offset e → MayFault (Has whole) bytes at e
+Behind whole rest bytes at offset = (e : ReadErr) → MayFault (HasForm rest) bytes offset e → MayFault (HasForm whole) bytes at e
 
 pub behind : (whole f g : Form) → IsFair f → (s bytes : List ℕ) (at offset mid : ℕ) → Behind whole (Both f g) bytes at offset → StandsAs f s bytes offset mid → Behind whole g bytes at mid
 behind whole f g fair s bytes at offset mid b st = λ e a. b e (may_second f g fair s bytes offset mid e st a)
 
-pub fails : (whole f g : Form) → IsFair f → IsFair g → (bytes : List ℕ) (at offset : ℕ) → Behind whole (Both f g) bytes at offset → (e : ReadErr) → MayFault (Has f) bytes offset e → MayFault (Has whole) bytes at e
+pub fails : (whole f g : Form) → IsFair f → IsFair g → (bytes : List ℕ) (at offset : ℕ) → Behind whole (Both f g) bytes at offset → (e : ReadErr) → MayFault (HasForm f) bytes offset e → MayFault (HasForm whole) bytes at e
 fails whole f g fair more bytes at offset b e a = b e (may_first f g fair more bytes offset e a)

@@ -2,7 +2,7 @@
 use Rattle.std.proofs.Common.{ℕ, zero, suc, ◌+◌, ◌≤◌, List, length, ap, ◌∙◌, arith, length-append}
 use Rattle.byteorder.specs.Endian.{big_bytes}
 use Rattle.wire_bytes.proofs.NumberLemmas.{length_number}
-use Rattle.meta_bytes.specs.Forms.{Form, Byte, Number, Both, Counted, Times, Has}
+use Rattle.meta_bytes.specs.Forms.{Form, Byte, Number, Both, Counted, Times, HasForm}
 use Rattle.meta_bytes.specs.States.{state_form}
 
 -- so many times as many
@@ -29,7 +29,7 @@ times_short F m short (suc n) b h =
     let e = ap length h.joined ∙ length-append h.a h.b in
     omega (arith, one, rest, e)
 
-short : (f : Form) (b : List ℕ) → Has f b → length b ≤ most_bytes f
+short : (f : Form) (b : List ℕ) → HasForm f b → length b ≤ most_bytes f
 short (Byte passes) b h = let e = ap length h.spelled ∙ length_number 1 h.n in omega (arith, e)
 short (Number width low high) b h = let e = ap length h.spelled ∙ length_number width h.n in omega (arith, e)
 short (Both f g) b h =
@@ -38,11 +38,11 @@ short (Both f g) b h =
     let e = ap length h.joined ∙ length-append h.a h.b in
     omega (arith, one, two, e)
 short (Counted low high f) b h =
-    let items = times_short (Has f) (most_bytes f) (short f) h.n h.b h.items in
+    let items = times_short (HasForm f) (most_bytes f) (short f) h.n h.b h.items in
     let up = times_up h.n high (most_bytes f) h.most in
     let e = ap length h.joined ∙ length-append (big_bytes 1 h.n) h.b in
     let count = length_number 1 h.n in
     omega (arith, items, up, e, count)
 
-pub state_short : (b : List ℕ) → Has state_form b → length b ≤ 5905
+pub state_short : (b : List ℕ) → HasForm state_form b → length b ≤ 5905
 state_short b h = short state_form b h

@@ -20,18 +20,18 @@ use Rattle.placement_core.specs.Shards.{Shard}
 use Rattle.placement_core.specs.Lawful.{IsMoving, IsLawful}
 use Rattle.placement_core.proofs.HolderLemmas.{same_node}
 use Rattle.wire_bytes.specs.Numbers.{ANumber}
-use Rattle.meta_bytes.specs.Forms.{Form, AByte, Times, CountHas, Has}
+use Rattle.meta_bytes.specs.Forms.{Form, AByte, Times, CountHas, HasForm}
 use Rattle.meta_bytes.specs.States.{counted_bytes, name_bytes, name_form, flags_of, instance_bytes, instance_form, code_of, source_of, is_source, assignment_bytes, assignment_form, shard_bytes, shard_form, space_bytes, space_form, state_bytes, state_form, FitsInstance, FitsAssignment, FitsShard, FitsSpace, FitsState, IsSpaceOf, IsMetaState, IsInForm, StatesFit}
 use Rattle.meta_bytes.proofs.LengthLemmas.{state_short}
 use Rattle.meta_bytes.proofs.NameLemmas.{letters}
 
 -- ---- lists
 
-times_of : {X : Type 0} (form : Form) (spelled : X → List ℕ) (xs : List X) → All (λ x. Has form (spelled x)) xs → Times (length xs) (Has form) (flat_map spelled xs)
+times_of : {X : Type 0} (form : Form) (spelled : X → List ℕ) (xs : List X) → All (λ x. HasForm form (spelled x)) xs → Times (length xs) (HasForm form) (flat_map spelled xs)
 times_of form spelled [] h = refl
 times_of form spelled (x ∷ xs) h = record { a = spelled x; b = flat_map spelled xs; first = h 0 x (omega arith); second = times_of form spelled xs (λ i d lt. h (suc i) d (omega (arith, lt))); joined = refl }
 
-count_of : {X : Type 0} (low high : ℕ) (form : Form) (spelled : X → List ℕ) (xs : List X) → low ≤ length xs → length xs ≤ high → All (λ x. Has form (spelled x)) xs → CountHas low high (Has form) (counted_bytes spelled xs)
+count_of : {X : Type 0} (low high : ℕ) (form : Form) (spelled : X → List ℕ) (xs : List X) → low ≤ length xs → length xs ≤ high → All (λ x. HasForm form (spelled x)) xs → CountHas low high (HasForm form) (counted_bytes spelled xs)
 count_of low high form spelled xs least most h = record { n = length xs; b = flat_map spelled xs; least = least; most = most; items = times_of form spelled xs h; joined = refl }
 
 some_in : {X : Type 0} (xs : List X) → 1 ≤ length xs → (x : X) × IsIn xs x
@@ -46,7 +46,7 @@ number_of width low high n least most = record { n = n; least = least; most = mo
 
 record NameFits (name : List ℕ) : Type 0 where
   short : length name < 256
-  form : Has name_form (name_bytes name)
+  form : HasForm name_form (name_bytes name)
 
 name_fits : (name : List ℕ) → IsTrue (is_name name) → NameFits name
 name_fits name h =
@@ -67,7 +67,7 @@ most_flags true true = omega arith
 
 record NodeFits (i : Instance) : Type 0 where
   fits : FitsInstance i
-  form : Has instance_form (instance_bytes i)
+  form : HasForm instance_form (instance_bytes i)
 
 node_fits : (i : Instance) → IsTrue (is_name i.name) × IsTrue (is_name i.group) → NodeFits i
 node_fits i h =
@@ -108,7 +108,7 @@ source_form_of (Some n) h = record { n = n; small = omega (arith, h); passed = a
 
 record AssignmentFits (a : Assignment) : Type 0 where
   fits : FitsAssignment a
-  form : Has assignment_form (assignment_bytes a)
+  form : HasForm assignment_form (assignment_bytes a)
 
 assignment_fits : (a : Assignment) → IsSmall a → AssignmentFits a
 assignment_fits a s =
@@ -190,18 +190,18 @@ module _ (place : Placement) (law : IsLawful place) (shard : Shard) (stands : Is
       let rf = law.limits.few_replicas in
       record { few = omega (arith, many.1, rf); each = All-from_each FitsAssignment shard (λ a m. (assignment_fits a (is_small a m)).fits) }
 
-  shard_has : Has shard_form (shard_bytes shard)
+  shard_has : HasForm shard_form (shard_bytes shard)
   shard_has =
       let low = law.limits.some_replicas in
       let high = law.limits.few_replicas in
       count_of 1 6 assignment_form assignment_bytes shard (omega (arith, many.0, low)) (omega (arith, many.1, high))
-      (All-from_each (λ a. Has assignment_form (assignment_bytes a)) shard (λ a m. (assignment_fits a (is_small a m)).form))
+      (All-from_each (λ a. HasForm assignment_form (assignment_bytes a)) shard (λ a m. (assignment_fits a (is_small a m)).form))
 
 -- ---- namespaces
 
 record SpaceFits (s : Space) : Type 0 where
   fits : FitsSpace s
-  form : Has space_form (space_bytes s)
+  form : HasForm space_form (space_bytes s)
 
 space_fits : (s : Space) → IsSpaceOf s → SpaceFits s
 space_fits s h =
@@ -255,14 +255,14 @@ module _ (s : MetaState) (h : IsMetaState s) where
   abbrev place : Placement
   place = s.place
 
-  nodes_all : All (λ i. Has instance_form (instance_bytes i)) place.instances
-  nodes_all = All-from_each (λ i. Has instance_form (instance_bytes i)) place.instances (λ i m. (node_fits i (h.place.limits.named i m)).form)
+  nodes_all : All (λ i. HasForm instance_form (instance_bytes i)) place.instances
+  nodes_all = All-from_each (λ i. HasForm instance_form (instance_bytes i)) place.instances (λ i m. (node_fits i (h.place.limits.named i m)).form)
 
-  shards_all : All (λ x. Has shard_form (shard_bytes x)) place.shards
-  shards_all = All-from_each (λ x. Has shard_form (shard_bytes x)) place.shards (λ x m. shard_has place h.place x m)
+  shards_all : All (λ x. HasForm shard_form (shard_bytes x)) place.shards
+  shards_all = All-from_each (λ x. HasForm shard_form (shard_bytes x)) place.shards (λ x m. shard_has place h.place x m)
 
-  spaces_all : All (λ x. Has space_form (space_bytes x)) s.rules.spaces
-  spaces_all = All-weaker IsSpaceOf (λ x. Has space_form (space_bytes x)) (λ x is. (space_fits x is).form) s.rules.spaces h.spaces.each
+  spaces_all : All (λ x. HasForm space_form (space_bytes x)) s.rules.spaces
+  spaces_all = All-weaker IsSpaceOf (λ x. HasForm space_form (space_bytes x)) (λ x is. (space_fits x is).form) s.rules.spaces h.spaces.each
 
   nodes_some : 1 ≤ length place.instances
   nodes_some = let x = some_in place.shards h.place.limits.some_shards in some_nodes place h.place x.0 x.1
@@ -289,7 +289,7 @@ module _ (s : MetaState) (h : IsMetaState s) where
         spaces = All-weaker IsSpaceOf FitsSpace (λ x is. (space_fits x is).fits) s.rules.spaces h.spaces.each;
       }
 
-  state_has : Has state_form (state_bytes s)
+  state_has : HasForm state_form (state_bytes s)
   state_has =
       let moment = h.moment in
       let seed = h.seed in

@@ -4,7 +4,7 @@ use Rattle.std.specs.List.{flat_map}
 use Rattle.std.proofs.lemmas.List.{length_push}
 use Rattle.wire_bytes.specs.Fields.{Stands}
 use Rattle.wire_bytes.proofs.FieldLemmas.{stands_both}
-use Rattle.meta_bytes.specs.Forms.{Form, Times, Has, StandsAs}
+use Rattle.meta_bytes.specs.Forms.{Form, Times, HasForm, StandsAs}
 use Rattle.meta_bytes.specs.Lists.{ItemsStand}
 use Rattle.meta_bytes.proofs.FormLemmas.{times_more}
 
@@ -21,7 +21,7 @@ one_more form spelled n xs x bytes from offset next all st =
     let up : suc n ≡ n + 1 = omega arith in
     record {
       counted = length_push xs x ∙ (let e : _ = all.counted in omega (arith, e));
-      has = subst (λ (k : ℕ). Times k (Has form) (flat_map spelled (xs ++ x ∷ []))) up (subst (Times (suc n) (Has form)) (sym push) (times_more (Has form) n (flat_map spelled xs) (spelled x) all.has st.has));
+      has = subst (λ (k : ℕ). Times k (HasForm form) (flat_map spelled (xs ++ x ∷ []))) up (subst (Times (suc n) (HasForm form)) (sym push) (times_more (HasForm form) n (flat_map spelled xs) (spelled x) all.has st.has));
       stands = subst (λ (l : List ℕ). Stands l bytes from next) (sym push) (stands_both (flat_map spelled xs) (spelled x) bytes from offset next all.stands st.stands);
     }
 

@@ -13,7 +13,7 @@ use Rattle.wire_bytes.specs.Fields.{Stands, GoesOn, Misfits, IsFault}
 use Rattle.wire_bytes.specs.declared.wire_err.WireErr.{WireErr}
 use Rattle.wire_bytes.specs.declared.wire_err.WireErr.TheVariants as errors
 use Rattle.wire_bytes.proofs.Characters.{with_first1}
-use Rattle.meta_bytes.specs.Forms.{Number, Byte, Times, Has, StandsAs}
+use Rattle.meta_bytes.specs.Forms.{Number, Byte, Times, HasForm, StandsAs}
 use Rattle.meta_bytes.specs.States.{name_form, name_bytes}
 use Rattle.meta_bytes.proofs.FormLemmas.{count_stands, times_later, form_ends}
 
@@ -30,7 +30,7 @@ small_byte b e =
     (or_cases (is_letter b || is_digit b) (b == 95 || b == 45) e)
 
 abbrev NameByte : List ℕ → Type 0
-NameByte = Has (Byte is_name_byte)
+NameByte = HasForm (Byte is_name_byte)
 
 one_byte : (b : ℕ) → b < 256 → big_bytes 1 b ≡ b ∷ []
 one_byte b lt = ap (λ (c : ℕ). c ∷ []) (mod-eq_of_lt lt)

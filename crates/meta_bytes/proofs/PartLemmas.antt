@@ -2,7 +2,7 @@
 use Rattle.std.proofs.Common.{◌≡◌, ℕ, zero, suc, ◌-◌, ◌≤◌, ◌^◌, ◌%◌, List, ◌++◌, Bool, refl, sym, subst, arith}
 use Rattle.std.specs.Prelude.{◌==◌, nat_le}
 use Rattle.byteorder.specs.Endian.{big_bytes}
-use Rattle.meta_bytes.specs.Forms.{Form, Byte, Number, Both, Has, StandsAs, MayFault}
+use Rattle.meta_bytes.specs.Forms.{Form, Byte, Number, Both, HasForm, StandsAs, MayFault}
 use Rattle.meta_bytes.specs.States.{name_form, name_bytes, instance_form, is_source, assignment_form, space_form, flags_of}
 use Rattle.meta_bytes.specs.declared.read_err.ReadErr.{ReadErr}
 use Rattle.meta_bytes.proofs.FairForms.{fair_name, fair_instance, fair_assignment, fair_space}
@@ -22,17 +22,17 @@ module _ (bytes : List ℕ) (at : ℕ) where
   abbrev flag_form : Form
   flag_form = Number 1 0 3
 
-  pub node_name : (e : ReadErr) → MayFault (Has name_form) bytes at e → MayFault (Has instance_form) bytes at e
+  pub node_name : (e : ReadErr) → MayFault (HasForm name_form) bytes at e → MayFault (HasForm instance_form) bytes at e
   node_name e a = fails instance_form name_form (Both name_form flag_form) fair_name fair_instance.1 bytes at at (λ f b. b) e a
 
   module _ (name : List ℕ) (group_at : ℕ) (st : StandsAs name_form (name_bytes name) bytes at group_at) where
     behind_name : Behind instance_form (Both name_form flag_form) bytes at group_at
     behind_name = behind instance_form name_form (Both name_form flag_form) fair_name (name_bytes name) bytes at at group_at (λ f b. b) st
 
-    pub node_group : (e : ReadErr) → MayFault (Has name_form) bytes group_at e → MayFault (Has instance_form) bytes at e
+    pub node_group : (e : ReadErr) → MayFault (HasForm name_form) bytes group_at e → MayFault (HasForm instance_form) bytes at e
     node_group e a = fails instance_form name_form flag_form fair_name fair_instance.1.1 bytes at group_at behind_name e a
 
-    pub node_flags : (group : List ℕ) (flags_at : ℕ) → StandsAs name_form (name_bytes group) bytes group_at flags_at → (e : ReadErr) → MayFault (Has flag_form) bytes flags_at e → MayFault (Has instance_form) bytes at e
+    pub node_flags : (group : List ℕ) (flags_at : ℕ) → StandsAs name_form (name_bytes group) bytes group_at flags_at → (e : ReadErr) → MayFault (HasForm flag_form) bytes flags_at e → MayFault (HasForm instance_form) bytes at e
     node_flags group flags_at su e a = behind instance_form name_form flag_form fair_name (name_bytes group) bytes at group_at flags_at behind_name su e a
 
 -- ---- the fields of an assignment
@@ -50,24 +50,24 @@ module _ (bytes : List ℕ) (at : ℕ) where
   abbrev source_form : Form
   source_form = Byte is_source
 
-  pub assigned_node : (e : ReadErr) → MayFault (Has node_form) bytes at e → MayFault (Has assignment_form) bytes at e
+  pub assigned_node : (e : ReadErr) → MayFault (HasForm node_form) bytes at e → MayFault (HasForm assignment_form) bytes at e
   assigned_node e a = fails assignment_form node_form (Both tenure_form (Both shard_state_form source_form)) fair_assignment.0 fair_assignment.1 bytes at at (λ f b. b) e a
 
   module _ (node tenure_at : ℕ) (st : StandsAs node_form (big_bytes 1 node) bytes at tenure_at) where
     behind_node : Behind assignment_form (Both tenure_form (Both shard_state_form source_form)) bytes at tenure_at
     behind_node = behind assignment_form node_form (Both tenure_form (Both shard_state_form source_form)) fair_assignment.0 (big_bytes 1 node) bytes at at tenure_at (λ f b. b) st
 
-    pub assigned_tenure : (e : ReadErr) → MayFault (Has tenure_form) bytes tenure_at e → MayFault (Has assignment_form) bytes at e
+    pub assigned_tenure : (e : ReadErr) → MayFault (HasForm tenure_form) bytes tenure_at e → MayFault (HasForm assignment_form) bytes at e
     assigned_tenure e a = fails assignment_form tenure_form (Both shard_state_form source_form) fair_assignment.1.0 fair_assignment.1.1 bytes at tenure_at behind_node e a
 
     module _ (tenure state_at : ℕ) (su : StandsAs tenure_form (big_bytes 8 tenure) bytes tenure_at state_at) where
       behind_tenure : Behind assignment_form (Both shard_state_form source_form) bytes at state_at
       behind_tenure = behind assignment_form tenure_form (Both shard_state_form source_form) fair_assignment.1.0 (big_bytes 8 tenure) bytes at tenure_at state_at behind_node su
 
-      pub assigned_state : (e : ReadErr) → MayFault (Has shard_state_form) bytes state_at e → MayFault (Has assignment_form) bytes at e
+      pub assigned_state : (e : ReadErr) → MayFault (HasForm shard_state_form) bytes state_at e → MayFault (HasForm assignment_form) bytes at e
       assigned_state e a = fails assignment_form shard_state_form source_form fair_assignment.1.1.0 fair_assignment.1.1.1 bytes at state_at behind_tenure e a
 
-      pub assigned_source : (code source_at : ℕ) → StandsAs shard_state_form (big_bytes 1 code) bytes state_at source_at → (e : ReadErr) → MayFault (Has source_form) bytes source_at e → MayFault (Has assignment_form) bytes at e
+      pub assigned_source : (code source_at : ℕ) → StandsAs shard_state_form (big_bytes 1 code) bytes state_at source_at → (e : ReadErr) → MayFault (HasForm source_form) bytes source_at e → MayFault (HasForm assignment_form) bytes at e
       assigned_source code source_at sv e a = behind assignment_form shard_state_form source_form fair_assignment.1.1.0 (big_bytes 1 code) bytes at state_at source_at behind_tenure sv e a
 
 -- ---- the fields of a namespace
@@ -88,31 +88,31 @@ module _ (bytes : List ℕ) (at : ℕ) where
   abbrev from_block : Form
   from_block = Both long_form from_past
 
-  pub space_name : (e : ReadErr) → MayFault (Has name_form) bytes at e → MayFault (Has space_form) bytes at e
+  pub space_name : (e : ReadErr) → MayFault (HasForm name_form) bytes at e → MayFault (HasForm space_form) bytes at e
   space_name e a = fails space_form name_form from_block fair_name fair_space.1 bytes at at (λ f b. b) e a
 
   module _ (name : List ℕ) (block_at : ℕ) (st : StandsAs name_form (name_bytes name) bytes at block_at) where
     behind_space_name : Behind space_form from_block bytes at block_at
     behind_space_name = behind space_form name_form from_block fair_name (name_bytes name) bytes at at block_at (λ f b. b) st
 
-    pub space_block : (e : ReadErr) → MayFault (Has long_form) bytes block_at e → MayFault (Has space_form) bytes at e
+    pub space_block : (e : ReadErr) → MayFault (HasForm long_form) bytes block_at e → MayFault (HasForm space_form) bytes at e
     space_block e a = fails space_form long_form from_past fair_space.1.0 fair_space.1.1 bytes at block_at behind_space_name e a
 
     module _ (block past_at : ℕ) (su : StandsAs long_form (big_bytes 8 block) bytes block_at past_at) where
       behind_block : Behind space_form from_past bytes at past_at
       behind_block = behind space_form long_form from_past fair_space.1.0 (big_bytes 8 block) bytes at block_at past_at behind_space_name su
 
-      pub space_past : (e : ReadErr) → MayFault (Has buffer_form) bytes past_at e → MayFault (Has space_form) bytes at e
+      pub space_past : (e : ReadErr) → MayFault (HasForm buffer_form) bytes past_at e → MayFault (HasForm space_form) bytes at e
       space_past e a = fails space_form buffer_form from_future fair_space.1.1.0 fair_space.1.1.1 bytes at past_at behind_block e a
 
       module _ (past future_at : ℕ) (sv : StandsAs buffer_form (big_bytes 8 past) bytes past_at future_at) where
         behind_past : Behind space_form from_future bytes at future_at
         behind_past = behind space_form buffer_form from_future fair_space.1.1.0 (big_bytes 8 past) bytes at past_at future_at behind_block sv
 
-        pub space_future : (e : ReadErr) → MayFault (Has buffer_form) bytes future_at e → MayFault (Has space_form) bytes at e
+        pub space_future : (e : ReadErr) → MayFault (HasForm buffer_form) bytes future_at e → MayFault (HasForm space_form) bytes at e
         space_future e a = fails space_form buffer_form long_form fair_space.1.1.1.0 fair_space.1.1.1.1 bytes at future_at behind_past e a
 
-        pub space_retention : (future retention_at : ℕ) → StandsAs buffer_form (big_bytes 8 future) bytes future_at retention_at → (e : ReadErr) → MayFault (Has long_form) bytes retention_at e → MayFault (Has space_form) bytes at e
+        pub space_retention : (future retention_at : ℕ) → StandsAs buffer_form (big_bytes 8 future) bytes future_at retention_at → (e : ReadErr) → MayFault (HasForm long_form) bytes retention_at e → MayFault (HasForm space_form) bytes at e
         space_retention future retention_at sw e a = behind space_form buffer_form long_form fair_space.1.1.1.0 (big_bytes 8 future) bytes at future_at retention_at behind_past sw e a
 
 -- ---- parts that stand whole

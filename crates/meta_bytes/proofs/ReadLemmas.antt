@@ -4,7 +4,7 @@ use Rattle.byteorder.specs.Endian.{big_bytes}
 use Rattle.m3_model.specs.declared.placement.Assignment.{Assignment}
 use Rattle.m3_model.specs.declared.placement.Instance.{Instance}
 use Rattle.m3_model.specs.declared.rules.Space.{Space}
-use Rattle.meta_bytes.specs.Forms.{Form, Number, Both, Counted, Has, StandsAs, MayFault}
+use Rattle.meta_bytes.specs.Forms.{Form, Number, Both, Counted, HasForm, StandsAs, MayFault}
 use Rattle.meta_bytes.specs.States.{counted_bytes, instance_form, instance_bytes, shard_form, shard_bytes, space_form, space_bytes, state_form, state_bytes}
 use Rattle.meta_bytes.specs.declared.read_err.ReadErr.{ReadErr}
 use Rattle.meta_bytes.proofs.FairForms.{fair_state}
@@ -50,53 +50,53 @@ abbrev from_moment : Form
 from_moment = Both moment_form from_seed
 
 module _ (bytes : List ℕ) where
-  pub state_format : (e : ReadErr) → MayFault (Has format_form) bytes 0 e → MayFault (Has state_form) bytes 0 e
+  pub state_format : (e : ReadErr) → MayFault (HasForm format_form) bytes 0 e → MayFault (HasForm state_form) bytes 0 e
   state_format e a = fails state_form format_form from_moment fair_state.0 fair_state.1 bytes 0 0 (λ f b. b) e a
 
   module _ (now_at : ℕ) (a1 : StandsAs format_form (big_bytes 1 1) bytes 0 now_at) where
     b1 : Behind state_form from_moment bytes 0 now_at
     b1 = behind state_form format_form from_moment fair_state.0 (big_bytes 1 1) bytes 0 0 now_at (λ f b. b) a1
 
-    pub state_moment : (e : ReadErr) → MayFault (Has moment_form) bytes now_at e → MayFault (Has state_form) bytes 0 e
+    pub state_moment : (e : ReadErr) → MayFault (HasForm moment_form) bytes now_at e → MayFault (HasForm state_form) bytes 0 e
     state_moment e a = fails state_form moment_form from_seed fair_state.1.0 fair_state.1.1 bytes 0 now_at b1 e a
 
     module _ (now seed_at : ℕ) (a2 : StandsAs moment_form (big_bytes 8 now) bytes now_at seed_at) where
       b2 : Behind state_form from_seed bytes 0 seed_at
       b2 = behind state_form moment_form from_seed fair_state.1.0 (big_bytes 8 now) bytes 0 now_at seed_at b1 a2
 
-      pub state_seed : (e : ReadErr) → MayFault (Has seed_form) bytes seed_at e → MayFault (Has state_form) bytes 0 e
+      pub state_seed : (e : ReadErr) → MayFault (HasForm seed_form) bytes seed_at e → MayFault (HasForm state_form) bytes 0 e
       state_seed e a = fails state_form seed_form from_rf fair_state.1.1.0 fair_state.1.1.1 bytes 0 seed_at b2 e a
 
       module _ (seed rf_at : ℕ) (a3 : StandsAs seed_form (big_bytes 4 seed) bytes seed_at rf_at) where
         b3 : Behind state_form from_rf bytes 0 rf_at
         b3 = behind state_form seed_form from_rf fair_state.1.1.0 (big_bytes 4 seed) bytes 0 seed_at rf_at b2 a3
 
-        pub state_rf : (e : ReadErr) → MayFault (Has rf_form) bytes rf_at e → MayFault (Has state_form) bytes 0 e
+        pub state_rf : (e : ReadErr) → MayFault (HasForm rf_form) bytes rf_at e → MayFault (HasForm state_form) bytes 0 e
         state_rf e a = fails state_form rf_form from_version fair_state.1.1.1.0 fair_state.1.1.1.1 bytes 0 rf_at b3 e a
 
         module _ (rf version_at : ℕ) (a4 : StandsAs rf_form (big_bytes 1 rf) bytes rf_at version_at) where
           b4 : Behind state_form from_version bytes 0 version_at
           b4 = behind state_form rf_form from_version fair_state.1.1.1.0 (big_bytes 1 rf) bytes 0 rf_at version_at b3 a4
 
-          pub state_version : (e : ReadErr) → MayFault (Has moment_form) bytes version_at e → MayFault (Has state_form) bytes 0 e
+          pub state_version : (e : ReadErr) → MayFault (HasForm moment_form) bytes version_at e → MayFault (HasForm state_form) bytes 0 e
           state_version e a = fails state_form moment_form from_nodes fair_state.1.1.1.1.0 fair_state.1.1.1.1.1 bytes 0 version_at b4 e a
 
           module _ (version nodes_at : ℕ) (a5 : StandsAs moment_form (big_bytes 8 version) bytes version_at nodes_at) where
             b5 : Behind state_form from_nodes bytes 0 nodes_at
             b5 = behind state_form moment_form from_nodes fair_state.1.1.1.1.0 (big_bytes 8 version) bytes 0 version_at nodes_at b4 a5
 
-            pub state_nodes : (e : ReadErr) → MayFault (Has nodes_form) bytes nodes_at e → MayFault (Has state_form) bytes 0 e
+            pub state_nodes : (e : ReadErr) → MayFault (HasForm nodes_form) bytes nodes_at e → MayFault (HasForm state_form) bytes 0 e
             state_nodes e a = fails state_form nodes_form from_shards fair_state.1.1.1.1.1.0 fair_state.1.1.1.1.1.1 bytes 0 nodes_at b5 e a
 
             module _ (nodes : List Instance) (shards_at : ℕ) (a6 : StandsAs nodes_form (counted_bytes instance_bytes nodes) bytes nodes_at shards_at) where
               b6 : Behind state_form from_shards bytes 0 shards_at
               b6 = behind state_form nodes_form from_shards fair_state.1.1.1.1.1.0 (counted_bytes instance_bytes nodes) bytes 0 nodes_at shards_at b5 a6
 
-              pub state_shards : (e : ReadErr) → MayFault (Has shards_form) bytes shards_at e → MayFault (Has state_form) bytes 0 e
+              pub state_shards : (e : ReadErr) → MayFault (HasForm shards_form) bytes shards_at e → MayFault (HasForm state_form) bytes 0 e
               state_shards e a = fails state_form shards_form spaces_form fair_state.1.1.1.1.1.1.0 fair_state.1.1.1.1.1.1.1 bytes 0 shards_at b6 e a
 
               module _ (shards : List (List Assignment)) (spaces_at : ℕ) (a7 : StandsAs shards_form (counted_bytes shard_bytes shards) bytes shards_at spaces_at) where
-                pub state_spaces : (e : ReadErr) → MayFault (Has spaces_form) bytes spaces_at e → MayFault (Has state_form) bytes 0 e
+                pub state_spaces : (e : ReadErr) → MayFault (HasForm spaces_form) bytes spaces_at e → MayFault (HasForm state_form) bytes 0 e
                 state_spaces e a = behind state_form shards_form spaces_form fair_state.1.1.1.1.1.1.0 (counted_bytes shard_bytes shards) bytes 0 shards_at spaces_at b6 a7 e a
 
                 pub state_stands : (spaces : List Space) (next : ℕ) → StandsAs spaces_form (counted_bytes space_bytes spaces) bytes spaces_at next

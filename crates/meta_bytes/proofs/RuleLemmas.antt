@@ -4,7 +4,7 @@ use Rattle.m3_model.specs.Names.{is_name}
 use Rattle.m3_model.specs.declared.rules.Space.{Space}
 use Rattle.m3_model.specs.declared.rules.MetaState.{MetaState}
 use Rattle.m3_model.specs.declared.limits.TheConstants.{MOST_NAMESPACES}
-use Rattle.meta_bytes.specs.Forms.{Has}
+use Rattle.meta_bytes.specs.Forms.{HasForm}
 use Rattle.meta_bytes.specs.States.{FitsState, state_form, state_bytes, IsSpaceOf, AreSpaces, IsMetaState, IsNoState}
 use Rattle.meta_bytes.specs.StateParts.{HasDurations, AreApart, HasMoment, HasParts}
 use Rattle.meta_bytes.proofs.LimitLemmas.{in_form}
@@ -27,8 +27,8 @@ state_decided s = (λ t. record { moment = (t.0).0; seed = (t.0).1; place = (t.1
 -- ---- bytes
 
 -- bytes that haven't a state's form are no state's
-pub no_form : (bytes : List ℕ) → ¬ (Has state_form bytes) → IsNoState bytes
-no_form bytes none s h = none (subst (Has state_form) (sym h.is) (in_form s h.lawful).form)
+pub no_form : (bytes : List ℕ) → ¬ (HasForm state_form bytes) → IsNoState bytes
+no_form bytes none s h = none (subst (HasForm state_form) (sym h.is) (in_form s h.lawful).form)
 
 -- nor are those of a state that no cluster may have
 pub no_rules : (bytes : List ℕ) (s : MetaState) → bytes ≡ state_bytes s → FitsState s → ¬ (IsMetaState s) → IsNoState bytes

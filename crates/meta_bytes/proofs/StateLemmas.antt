@@ -5,7 +5,7 @@ use Rattle.std.proofs.Math.ListN.{drop_of_length-le}
 use Rattle.wire_bytes.specs.Fields.{Begins, GoesOn, Misfits, IsFault, StopsAt}
 use Rattle.wire_bytes.specs.declared.wire_err.WireErr.TheVariants as errors
 use Rattle.wire_bytes.proofs.FieldLemmas.{EndsItself, begins_goes, begins_take}
-use Rattle.meta_bytes.specs.Forms.{Has, StandsAs, MayFault}
+use Rattle.meta_bytes.specs.Forms.{HasForm, StandsAs, MayFault}
 use Rattle.meta_bytes.specs.States.{state_form, MayBreak, placed}
 use Rattle.meta_bytes.specs.declared.read_err.ReadErr.{ReadErr}
 use Rattle.meta_bytes.specs.declared.read_err.ReadErr.TheVariants as why
@@ -64,27 +64,27 @@ module _ (F : List ℕ → Type 0) (ends : EndsItself F) (bytes : List ℕ) wher
 at_start : (bytes : List ℕ) → drop 0 bytes ≡ bytes
 at_start bytes = refl
 
-pub breaks_short : (bytes : List ℕ) → IsFault (Has state_form) bytes 0 errors.Short → StopsAt (Has state_form) bytes (length bytes)
-breaks_short bytes a = stops_short (Has state_form) (form_ends state_form fair_state) bytes a
+pub breaks_short : (bytes : List ℕ) → IsFault (HasForm state_form) bytes 0 errors.Short → StopsAt (HasForm state_form) bytes (length bytes)
+breaks_short bytes a = stops_short (HasForm state_form) (form_ends state_form fair_state) bytes a
 
-pub breaks_bad : (bytes : List ℕ) (offset : ℕ) → IsFault (Has state_form) bytes 0 (errors.Bad offset) → StopsAt (Has state_form) bytes offset
+pub breaks_bad : (bytes : List ℕ) (offset : ℕ) → IsFault (HasForm state_form) bytes 0 (errors.Bad offset) → StopsAt (HasForm state_form) bytes offset
 breaks_bad bytes offset a =
     let none : offset - 0 ≡ offset = omega arith in
-    stops_bad (Has state_form) (form_ends state_form fair_state) bytes offset (subst (Misfits (Has state_form) bytes) none a.1)
+    stops_bad (HasForm state_form) (form_ends state_form fair_state) bytes offset (subst (Misfits (HasForm state_form) bytes) none a.1)
 
-pub breaks_behind : (s bytes : List ℕ) (next : ℕ) → StandsAs state_form s bytes 0 next → next < length bytes → StopsAt (Has state_form) bytes next
+pub breaks_behind : (s bytes : List ℕ) (next : ℕ) → StandsAs state_form s bytes 0 next → next < length bytes → StopsAt (HasForm state_form) bytes next
 breaks_behind s bytes next st lt =
     let long : length s ≡ next = omega (arith, st.stands.ends) in
-    subst (StopsAt (Has state_form) bytes) long (stops_behind (Has state_form) (form_ends state_form fair_state) bytes s (drop next bytes) st.has st.stands.split (omega (arith, length-drop next bytes)))
+    subst (StopsAt (HasForm state_form) bytes) long (stops_behind (HasForm state_form) (form_ends state_form fair_state) bytes s (drop next bytes) st.has st.stands.split (omega (arith, length-drop next bytes)))
 
 -- a state that is all of some bytes
-pub whole_state : (s bytes : List ℕ) (next : ℕ) → StandsAs state_form s bytes 0 next → length bytes ≤ next → (bytes ≡ s) × Has state_form bytes
+pub whole_state : (s bytes : List ℕ) (next : ℕ) → StandsAs state_form s bytes 0 next → length bytes ≤ next → (bytes ≡ s) × HasForm state_form bytes
 whole_state s bytes next st le =
     let is : bytes ≡ s = st.stands.split ∙ ap (λ (l : List ℕ). s ++ l) (drop_of_length-le bytes le) ∙ append-nil s in
-    (is, subst (Has state_form) (sym is) st.has)
+    (is, subst (HasForm state_form) (sym is) st.has)
 
 -- what a fault of the fields tells of all bytes
-pub breaks_err : (bytes : List ℕ) (e : ReadErr) → MayFault (Has state_form) bytes 0 e → MayBreak bytes (placed (length bytes) e)
+pub breaks_err : (bytes : List ℕ) (e : ReadErr) → MayFault (HasForm state_form) bytes 0 e → MayBreak bytes (placed (length bytes) e)
 breaks_err bytes why.Memory a = tt
 breaks_err bytes (why.Wire errors.Short) a = let s = breaks_short bytes a in (no_form bytes s.none, s)
 breaks_err bytes (why.Wire (errors.Bad offset)) a = let s = breaks_bad bytes offset a in (no_form bytes s.none, s)

@@ -40,11 +40,11 @@ pub record CountHas (low high : ℕ) (F : List ℕ → Type 0) (bytes : List ℕ
   pub joined : bytes ≡ big_bytes 1 n ++ b
 
 -- these bytes have the form
-abbrev pub Has : Form → List ℕ → Type 0
-Has (Byte passes) bytes = AByte passes bytes
-Has (Number width low high) bytes = ANumber width low high bytes
-Has (Both f g) bytes = TwoHave (Has f) (Has g) bytes
-Has (Counted low high f) bytes = CountHas low high (Has f) bytes
+abbrev pub HasForm : Form → List ℕ → Type 0
+HasForm (Byte passes) bytes = AByte passes bytes
+HasForm (Number width low high) bytes = ANumber width low high bytes
+HasForm (Both f g) bytes = TwoHave (HasForm f) (HasForm g) bytes
+HasForm (Counted low high f) bytes = CountHas low high (HasForm f) bytes
 
 -- a byte passes the test
 pub record IsPassed (passes : ℕ → Bool) : Type 0 where
@@ -61,7 +61,7 @@ IsFair (Counted low high f) = (low ≤ high) × (high < 256) × IsFair f
 
 -- these bytes of the form stand from the one offset to the other
 pub record StandsAs (form : Form) (s bytes : List ℕ) (at next : ℕ) : Type 0 where
-  pub has : Has form s
+  pub has : HasForm form s
   pub stands : Stands s bytes at next
 
 -- why none stand there; memory may always be wanted

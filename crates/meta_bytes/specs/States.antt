@@ -15,7 +15,7 @@ use Rattle.m3_model.specs.declared.rules.MetaState.{MetaState}
 use Rattle.placement_core.specs.Lawful.{IsLawful}
 use Rattle.wire_bytes.specs.Fields.{StopsAt}
 use Rattle.wire_bytes.specs.declared.wire_err.WireErr.TheVariants as wire
-use Rattle.meta_bytes.specs.Forms.{Form, Byte, Number, Both, Counted, Has}
+use Rattle.meta_bytes.specs.Forms.{Form, Byte, Number, Both, Counted, HasForm}
 use Rattle.meta_bytes.specs.declared.read_err.ReadErr.{ReadErr}
 use Rattle.meta_bytes.specs.declared.read_err.ReadErr.TheVariants as why
 use Rattle.meta_bytes.specs.declared.state_read.StateErr.{StateErr}
@@ -159,8 +159,8 @@ IsNoState bytes = (s : MetaState) → ¬ (IsStateOf bytes s)
 -- Memory may always be wanted.
 abbrev pub MayBreak : List ℕ → StateErr → Type 0
 MayBreak bytes refused.Memory = ⊤
-MayBreak bytes (refused.Form at) = IsNoState bytes × StopsAt (Has state_form) bytes at
-MayBreak bytes refused.Rules = IsNoState bytes × Has state_form bytes
+MayBreak bytes (refused.Form at) = IsNoState bytes × StopsAt (HasForm state_form) bytes at
+MayBreak bytes refused.Rules = IsNoState bytes × HasForm state_form bytes
 
 -- a fault as an offset in so many bytes
 abbrev pub placed : ℕ → ReadErr → StateErr
@@ -177,7 +177,7 @@ StatesAreOne = (s t : MetaState) → FitsState s → FitsState t → state_bytes
 -- the numbers of each state that a cluster may have fit their fields, and its bytes, at most 5,905, have a state's form
 pub record IsInForm (s : MetaState) : Type 0 where
   pub fits : FitsState s
-  pub form : Has state_form (state_bytes s)
+  pub form : HasForm state_form (state_bytes s)
   pub short : length (state_bytes s) ≤ 5905
 
 abbrev pub StatesFit : Type 0

@@ -4,7 +4,7 @@ ghost use Rattle.std.specs.List.{list_all};
 ghost use Rattle.m3_model.specs.Names.{is_name_byte, is_name};
 ghost use Rattle.m3_model.specs.declared.limits.TheConstants.{MOST_NAME_BYTES};
 ghost use Rattle.wire_bytes.specs.Fields.{Stands, IsFault};
-ghost use Rattle.meta_bytes.specs.Forms.{Byte, Has, Times, StandsAs, MayFault};
+ghost use Rattle.meta_bytes.specs.Forms.{Byte, HasForm, Times, StandsAs, MayFault};
 ghost use Rattle.meta_bytes.specs.States.{name_form, name_bytes};
 
 use crate::numbers::read_number;
@@ -39,7 +39,7 @@ fn find_name(bytes: &[u8], at: usize, len: usize) -> Result<(), WireErr>
     requires short { len ≤ MOST_NAME_BYTES }
     ensures ok { OnOk result (Stands (take len (drop at bytes.now)) bytes.now at (at + len)) }
     ensures name { OnOk result (list_all is_name_byte (take len (drop at bytes.now)) ≡ true) }
-    ensures err { IfErr result (λ e. IsFault (Times len (Has (Byte is_name_byte))) bytes.now at e) }
+    ensures err { IfErr result (λ e. IsFault (Times len (HasForm (Byte is_name_byte))) bytes.now at e) }
 {
     for offset in at..at + len {
         if offset == bytes.len() {
@@ -56,7 +56,7 @@ fn find_name(bytes: &[u8], at: usize, len: usize) -> Result<(), WireErr>
 pub(crate) fn read_name(alloc: Global, bytes: &[u8], at: usize) -> Result<(Text, usize), ReadErr>
     ensures ok { IfOk result (λ r. StandsAs name_form (name_bytes r.0) bytes.now at r.1) }
     ensures fits { IfOk result (λ r. length r.0 < 256) }
-    ensures err { IfErr result (MayFault (Has name_form) bytes.now at) }
+    ensures err { IfErr result (MayFault (HasForm name_form) bytes.now at) }
 {
     let (len, from) = read_number(bytes, at, 1, 1, MOST_NAME_BYTES as u64)?;
     let len = len as usize;

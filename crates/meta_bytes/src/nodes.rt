@@ -20,7 +20,7 @@ fn flags(listed: bool, drained: bool) -> u64
 impl Spelled for Instance {
     ghost use Rattle.std.specs.Prelude.{◌≡◌, ◌<◌, length, ◌++◌, IfOk, IfErr, OnOk};
     ghost use Rattle.meta_bytes.specs.States.{instance_form, instance_bytes, FitsInstance};
-    ghost use Rattle.meta_bytes.specs.Forms.{Has, StandsAs, MayFault};
+    ghost use Rattle.meta_bytes.specs.Forms.{HasForm, StandsAs, MayFault};
 
     ghost form = { instance_form };
 

@@ -1,6 +1,6 @@
 ghost use Rattle.std.specs.Prelude.{◌≡◌, ℕ, ◌+◌, ◌^◌, ◌<◌, ◌≤◌, length, IfOk, IfErr};
 ghost use Rattle.byteorder.specs.Endian.{big_bytes};
-ghost use Rattle.meta_bytes.specs.Forms.{Number, Has, StandsAs, MayFault};
+ghost use Rattle.meta_bytes.specs.Forms.{Number, HasForm, StandsAs, MayFault};
 
 use crate::read_err::ReadErr;
 use wire_bytes::get_between;
@@ -19,7 +19,7 @@ pub(crate) fn read_number(
     requires fits { high < 256 ^ width }
     ensures ok { IfOk result (λ r. StandsAs (Number width low high) (big_bytes width r.0) bytes.now at r.1) }
     ensures within { IfOk result (λ r. (low ≤ r.0) × (r.0 ≤ high)) }
-    ensures err { IfErr result (MayFault (Has (Number width low high)) bytes.now at) }
+    ensures err { IfErr result (MayFault (HasForm (Number width low high)) bytes.now at) }
 {
     let n = get_between(bytes, at, width, low, high)?;
     Ok((n, at + width))

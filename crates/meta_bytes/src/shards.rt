@@ -1,6 +1,6 @@
 ghost use Rattle.std.specs.Prelude.{◌≡◌, ℕ, ◌<◌, ◌≤◌, length, Some, Option, IfOk, IfErr, IfSome, option_map};
 ghost use Rattle.byteorder.specs.Endian.{big_bytes};
-ghost use Rattle.meta_bytes.specs.Forms.{Byte, Number, Has, StandsAs, MayFault};
+ghost use Rattle.meta_bytes.specs.Forms.{Byte, Number, HasForm, StandsAs, MayFault};
 ghost use Rattle.meta_bytes.specs.States.{code_of, source_of, is_source};
 
 use crate::numbers::read_number;
@@ -28,7 +28,7 @@ fn code_of(state: ShardState) -> u64
 // The state of a shard at the offset, and the offset behind it.
 fn read_shard_state(bytes: &[u8], at: usize) -> Result<(ShardState, usize), ReadErr>
     ensures ok { IfOk result (λ r. StandsAs (Number 1 0 2) (big_bytes 1 (code_of r.0)) bytes.now at r.1) }
-    ensures err { IfErr result (MayFault (Has (Number 1 0 2)) bytes.now at) }
+    ensures err { IfErr result (MayFault (HasForm (Number 1 0 2)) bytes.now at) }
 {
     let (code, next) = read_number(bytes, at, 1, 0, 2)?;
     let state = match code {
@@ -50,7 +50,7 @@ fn source_of(source: Option<u8>) -> u64
 fn read_source(bytes: &[u8], at: usize) -> Result<(Option<u8>, usize), ReadErr>
     ensures ok { IfOk result (λ r. StandsAs (Byte is_source) (big_bytes 1 (source_of r.0)) bytes.now at r.1) }
     ensures fits { IfOk result (λ r. IfSome r.0 (λ node. node < 255)) }
-    ensures err { IfErr result (MayFault (Has (Byte is_source)) bytes.now at) }
+    ensures err { IfErr result (MayFault (HasForm (Byte is_source)) bytes.now at) }
 {
     if at >= bytes.len() {
         return Err(ReadErr::Wire {
@@ -72,7 +72,7 @@ fn read_source(bytes: &[u8], at: usize) -> Result<(Option<u8>, usize), ReadErr>
 impl Spelled for Assignment {
     ghost use Rattle.std.specs.Prelude.{◌≡◌, ⊤, ◌++◌, IfOk, IfErr, OnOk};
     ghost use Rattle.meta_bytes.specs.States.{assignment_form, assignment_bytes, FitsAssignment};
-    ghost use Rattle.meta_bytes.specs.Forms.{Has, StandsAs, MayFault};
+    ghost use Rattle.meta_bytes.specs.Forms.{HasForm, StandsAs, MayFault};
 
     ghost form = { assignment_form };
 
@@ -105,7 +105,7 @@ impl Spelled for Assignment {
 impl Spelled for Seq<Assignment> {
     ghost use Rattle.std.specs.Prelude.{◌≡◌, ◌<◌, length, ◌++◌, IfOk, IfErr, OnOk};
     ghost use Rattle.meta_bytes.specs.States.{shard_form, shard_bytes, FitsShard};
-    ghost use Rattle.meta_bytes.specs.Forms.{Has, StandsAs, MayFault};
+    ghost use Rattle.meta_bytes.specs.Forms.{HasForm, StandsAs, MayFault};
 
     ghost form = { shard_form };
 

@@ -10,7 +10,7 @@ use wire_bytes::put_number;
 impl Spelled for Space {
     ghost use Rattle.std.specs.Prelude.{◌≡◌, ◌<◌, length, ◌++◌, IfOk, IfErr, OnOk};
     ghost use Rattle.meta_bytes.specs.States.{space_form, space_bytes, FitsSpace};
-    ghost use Rattle.meta_bytes.specs.Forms.{Has, StandsAs, MayFault};
+    ghost use Rattle.meta_bytes.specs.Forms.{HasForm, StandsAs, MayFault};
 
     ghost form = { space_form };
 

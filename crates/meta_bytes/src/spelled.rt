@@ -1,7 +1,7 @@
 //! Values with one spelling, and lists of them behind their count.
 ghost use Rattle.std.specs.Prelude.{◌≡◌, ℕ, ◌<◌, ◌≤◌, ◌++◌, length, flat_map, IfOk, IfErr, OnOk};
 ghost use Rattle.std.specs.List.{All};
-ghost use Rattle.meta_bytes.specs.Forms.{Counted, Has, IsFair, Times, StandsAs, MayFault};
+ghost use Rattle.meta_bytes.specs.Forms.{Counted, HasForm, IsFair, Times, StandsAs, MayFault};
 ghost use Rattle.meta_bytes.specs.Lists.{ItemsStand};
 ghost use Rattle.meta_bytes.specs.States.{counted_bytes};
 
@@ -28,7 +28,7 @@ pub trait Spelled: Drop {
         Self: Sized,
         ensures ok { IfOk result (λ r. StandsAs form (spelled r.0) bytes.now at r.1) }
         ensures fits { IfOk result (λ r. fits r.0) }
-        ensures err { IfErr result (MayFault (Has form) bytes.now at) };
+        ensures err { IfErr result (MayFault (HasForm form) bytes.now at) };
 
     /// Appends the value. Its numbers are to fit their fields.
     fn put(&self, out: &mut Vec<u8>) -> Result<(), Memory>
@@ -47,7 +47,7 @@ fn read_items<T: Spelled>(
     requires inside { from ≤ length bytes.now }
     ensures ok { IfOk result (λ r. ItemsStand T.form T.spelled count r.0 bytes.now from r.1) }
     ensures fits { IfOk result (λ r. All T.fits r.0) }
-    ensures err { IfErr result (MayFault (Times count (Has T.form)) bytes.now from) }
+    ensures err { IfErr result (MayFault (Times count (HasForm T.form)) bytes.now from) }
 {
     let mut items = Vec::new(alloc);
     let mut offset = from;
@@ -73,7 +73,7 @@ pub(crate) fn read_all<T: Spelled>(
     ensures ok { IfOk result (λ r. StandsAs (Counted low high T.form) (counted_bytes T.spelled r.0) bytes.now at r.1) }
     ensures few { IfOk result (λ r. length r.0 < 256) }
     ensures fits { IfOk result (λ r. All T.fits r.0) }
-    ensures err { IfErr result (MayFault (Has (Counted low high T.form)) bytes.now at) }
+    ensures err { IfErr result (MayFault (HasForm (Counted low high T.form)) bytes.now at) }
 {
     let (count, from) = read_number(bytes, at, 1, low, high)?;
     read_items(alloc, bytes, from, count)

@@ -1,5 +1,5 @@
 ghost use Rattle.std.specs.Prelude.{◌≡◌, ℕ, length, IfOk, IfErr};
-ghost use Rattle.meta_bytes.specs.Forms.{Has, StandsAs, MayFault};
+ghost use Rattle.meta_bytes.specs.Forms.{HasForm, StandsAs, MayFault};
 ghost use Rattle.meta_bytes.specs.States.{FitsState, state_form, state_bytes, IsStateOf, MayBreak, placed};
 
 use crate::lawful_state::is_meta_state;
@@ -34,7 +34,7 @@ pub enum StateErr {
 fn read_fields(alloc: Global, bytes: &[u8]) -> Result<(MetaState, usize), ReadErr>
     ensures ok { IfOk result (λ r. StandsAs state_form (state_bytes r.0) bytes.now 0 r.1) }
     ensures fits { IfOk result (λ r. FitsState r.0) }
-    ensures err { IfErr result (MayFault (Has state_form) bytes.now 0) }
+    ensures err { IfErr result (MayFault (HasForm state_form) bytes.now 0) }
 {
     let (_format, now_at) = read_number(bytes, 0, 1, FORMAT, FORMAT)?;
     let (now, seed_at) = read_number(bytes, now_at, 8, 0, TIME_END - 1)?;

@@ -22,7 +22,7 @@ use Rattle.meta_bytes.specs.States.{state_bytes, IsMetaState, IsStateOf, IsNoSta
 use Rattle.placement_log.specs.States.{payload_bytes, IsPayload, IsNoPayload, last_after}
 use Rattle.placement_log.specs.MetaHolds.{MetaHolds}
 use Rattle.placement_log.specs.MetaLaws.{DamagedHoldNothing}
-use Rattle.placement_log.specs.Damage.{MayBreakFrom, FormBreaks, Short, Fields, Rules, DigestsDiffer, ReadsStates, StatesStand, front_of, ChunkBreaks, GrammarBreaks, MayStop, in_segment, MayBeBroken, FindsStates, MayBeDamaged}
+use Rattle.placement_log.specs.Damage.{MayBreakFrom, FormBreaks, Short, Fields, Disagree, DigestsDiffer, ReadsStates, StatesStand, front_of, ChunkBreaks, GrammarBreaks, MayStop, in_segment, MayBeBroken, FindsStates, MayBeDamaged}
 use Rattle.placement_log.specs.declared.open_err.OpenErr.{OpenErr}
 use Rattle.placement_log.specs.declared.open_err.OpenErr.TheVariants as failures
 use Rattle.placement_log.specs.declared.payload.PayloadErr.{PayloadErr}
@@ -60,7 +60,7 @@ form_within chunk at (Fields le same stops) =
     let head : length (take 32 chunk) ≡ 32 = ap length same ∙ length-sha256 (drop 32 chunk) in
     let long = length-take 32 chunk in
     omega (arith, le, in_rest, rest, head, long)
-form_within chunk at (Rules long same has is) = omega (arith, is)
+form_within chunk at (Disagree long same has is) = omega (arith, is)
 
 -- ---- a segment
 

@@ -11,7 +11,7 @@ use Rattle.wire_bytes.specs.Fields.{StopsAt}
 use Rattle.commit_log.specs.Segment.{written, ReadsChunks, IsSegment}
 use Rattle.commit_log.specs.Reading.{ChunkStands}
 use Rattle.commit_log.specs.Contents.{numbers, PartsHold, segment_bytes}
-use Rattle.meta_bytes.specs.Forms.{Has}
+use Rattle.meta_bytes.specs.Forms.{HasForm}
 use Rattle.meta_bytes.specs.States.{state_form, IsMetaState}
 use Rattle.placement_log.specs.States.{payload_bytes, IsNoPayload, last_after}
 use Rattle.placement_log.specs.declared.open_err.OpenErr.{OpenErr}
@@ -36,8 +36,8 @@ pub record DigestsDiffer (chunk kept found : List ℕ) : Type 0 where
 -- go with what others say, and the offset is the chunk's end.
 pub data FormBreaks (chunk : List ℕ) (at : ℕ) : Type 0 where
   Short : length chunk < 32 → at ≡ length chunk → FormBreaks chunk at
-  Fields : 32 ≤ at → take 32 chunk ≡ sha256 (drop 32 chunk) → StopsAt (Has state_form) (drop 32 chunk) (at - 32) → FormBreaks chunk at
-  Rules : 32 ≤ length chunk → take 32 chunk ≡ sha256 (drop 32 chunk) → Has state_form (drop 32 chunk) → at ≡ length chunk → FormBreaks chunk at
+  Fields : 32 ≤ at → take 32 chunk ≡ sha256 (drop 32 chunk) → StopsAt (HasForm state_form) (drop 32 chunk) (at - 32) → FormBreaks chunk at
+  Disagree : 32 ≤ length chunk → take 32 chunk ≡ sha256 (drop 32 chunk) → HasForm state_form (drop 32 chunk) → at ≡ length chunk → FormBreaks chunk at
 
 -- why the chunk is no payload; memory may always be wanted
 abbrev pub MayBreakPayload : List ℕ → PayloadErr → Type 0

@@ -4,7 +4,7 @@ use Rattle.m3_model.specs.Names.{is_name_byte}
 use Rattle.wire_bytes.specs.Fields.{IsFault}
 use Rattle.wire_bytes.specs.declared.wire_err.WireErr.TheVariants as errors
 use Rattle.wire_bytes.proofs.TextLemmas.{stands_text}
-use Rattle.meta_bytes.specs.Forms.{Byte, Has, Times}
+use Rattle.meta_bytes.specs.Forms.{Byte, HasForm, Times}
 use Rattle.meta_bytes.proofs.NameLemmas.{name_short, name_bad, name_step, name_so_far}
 use Rattle.meta_bytes.proofs.names.find_name.Goals as goal
 
@@ -15,7 +15,7 @@ loop-offset-init c =
     record {
       within = c.requires.inside;
       name = ap (λ (k : ℕ). list_all is_name_byte (take k (drop c.args.at c.args.bytes.now))) none;
-      faults = λ e a. subst (λ (n : ℕ). IsFault (Times n (Has (Byte is_name_byte))) c.args.bytes.now c.args.at e) all a;
+      faults = λ e a. subst (λ (n : ℕ). IsFault (Times n (HasForm (Byte is_name_byte))) c.args.bytes.now c.args.at e) all a;
     }
 
 pub returns-then-offset-bytes-clause-err : goal.returns-then-offset-bytes-clause-err
@@ -33,7 +33,7 @@ loop-offset-preserved c =
       name = name_so_far c.args.at c.loop-offset.offset c.args.bytes.now (omega arith) (omega arith) fits c.loop-offset.invariant.name;
       faults = λ e a. c.loop-offset.invariant.faults e (name_step (c.args.at + c.args.len - c.loop-offset.offset) c.args.bytes.now c.loop-offset.offset e (omega arith) (omega arith) fits
           (let less : c.args.at + c.args.len - (c.loop-offset.offset + 1) ≡ c.args.at + c.args.len - c.loop-offset.offset - 1 = omega arith in
-          subst (λ (n : ℕ). IsFault (Times n (Has (Byte is_name_byte))) c.args.bytes.now (c.loop-offset.offset + 1) e) less a));
+          subst (λ (n : ℕ). IsFault (Times n (HasForm (Byte is_name_byte))) c.args.bytes.now (c.loop-offset.offset + 1) e) less a));
     }
 
 pub returns-clause-ok : goal.returns-clause-ok

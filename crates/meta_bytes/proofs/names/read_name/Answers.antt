@@ -1,7 +1,7 @@
 use Rattle.std.proofs.Common.{◌≡◌, ℕ, ◌+◌, List, ◌-◌, take, drop, sym, ap, subst, ◌∙◌, arith, IsUtf8}
 use Rattle.m3_model.specs.Names.{is_name_byte}
 use Rattle.wire_bytes.proofs.PointLemmas.{exit_err}
-use Rattle.meta_bytes.specs.Forms.{Byte, Has, StandsAs, MayFault}
+use Rattle.meta_bytes.specs.Forms.{Byte, HasForm, StandsAs, MayFault}
 use Rattle.meta_bytes.specs.States.{name_form, name_bytes}
 use Rattle.meta_bytes.specs.declared.read_err.ReadErr.TheVariants as refused
 use Rattle.meta_bytes.proofs.FairForms.{fair_name}
@@ -11,13 +11,13 @@ use Rattle.meta_bytes.proofs.names.read_name.Goals as goal
 
 pub returns-in_err-len-clause-err : goal.returns-in_err-len-clause-err
 returns-in_err-len-clause-err c =
-    exit_err c.from_residual.result c.in_err-len.field-0.0 (MayFault (Has name_form) c.args.bytes.now c.args.at) c.from_residual.ensures.1
+    exit_err c.from_residual.result c.in_err-len.field-0.0 (MayFault (HasForm name_form) c.args.bytes.now c.args.at) c.from_residual.ensures.1
     (may_count 1 32 (Byte is_name_byte) fair_name.2 c.args.bytes.now c.args.at c.in_err-len.field-0.0 c.in_err-len.ensures.err)
 
 pub returns-in_err-find_name-clause-err : goal.returns-in_err-find_name-clause-err
 returns-in_err-find_name-clause-err c =
     let e = refused.Wire c.in_err-find_name.field-0.0 in
-    exit_err c.from_residual-in_err-find_name.result e (MayFault (Has name_form) c.args.bytes.now c.args.at) c.from_residual-in_err-find_name.ensures.1
+    exit_err c.from_residual-in_err-find_name.result e (MayFault (HasForm name_form) c.args.bytes.now c.args.at) c.from_residual-in_err-find_name.ensures.1
     (may_items 1 32 (Byte is_name_byte) (omega arith) c.in_ok-len.len c.args.bytes.now c.args.at c.in_ok-len.from e c.in_ok-len.ensures.within.0 c.in_ok-len.ensures.within.1 c.in_ok-len.ensures.ok.stands c.in_err-find_name.ensures.err)
 
 pub unwrap-name-requires : goal.unwrap-name-requires
