@@ -1,6 +1,8 @@
 pub mod FailureLemmas
 pub mod RunLemmas
+pub mod LainLemmas
 pub mod OpenLemmas
+pub mod LeaveLemmas
 pub mod DamageLemmas
 pub mod NumberLemmas
 pub mod StepLemmas
@@ -22,4 +24,5 @@ pub mod BootstrapLemmas
 pub mod UpkeepLemmas
 pub mod InitLemmas
 pub mod PlacementLemmas
+pub mod AfreshLemmas
 pub mod LineLemmas

@@ -1,5 +1,7 @@
 pub mod Failures
+pub mod Lain
 pub mod Runs
+pub mod Leaves
 pub mod Numbers
 pub mod Tracks
 pub mod Steps

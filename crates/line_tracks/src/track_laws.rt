@@ -3,10 +3,11 @@ ghost use Rattle.told_runs.specs.told_by.Lines.{ClockLine, InitLine, PlainLine, 
 ghost use Rattle.line_tracks.specs.tracks.Adds.{AnewAdds, CallAdds, ServedAdds, StepsAreOfSlots};
 ghost use Rattle.line_tracks.specs.tracks.Ends.{CausedWhereTracked, JoinedWhereTracked, KeptWhereTracked, ShownWhereTracked};
 ghost use Rattle.line_tracks.specs.tracks.Failures.{CountGoesOn, OtherSlotsStay};
+ghost use Rattle.line_tracks.specs.tracks.Leaves.{RunLeavesAll};
 ghost use Rattle.line_tracks.specs.tracks.Numbers.{NumbersStay};
 ghost use Rattle.line_tracks.specs.tracks.Quiet.{QuietLinesStandOn, QuietTurnsMakeNone};
-ghost use Rattle.line_tracks.specs.tracks.Runs.{RunFindsNoDamage, RunGoesOn, RunIsCounted, RunOpensEmpty};
-ghost use Rattle.line_tracks.specs.tracks.Steps.{FirstStandsSo, StandsAfterLine, TracksAtFirst, TracksOn};
+ghost use Rattle.line_tracks.specs.tracks.Runs.{RunFindsNoDamage, RunGoesOn, RunIsCounted, RunOpensAsLeft, RunOpensEmpty};
+ghost use Rattle.line_tracks.specs.tracks.Steps.{FirstStandsSo, StandsAfterLine, TracksAfresh, TracksAtFirst, TracksOn};
 
 use m3_outside::Disk;
 use node_calls::of_cluster_members::Members;
@@ -21,12 +22,15 @@ pub fn faults_are_counted<D: Disk>(replicas: &Replicas<D>)
 {}
 
 /// Replicas that took the steps of the list since they were made go on so with the steps that come. Then their disks counted
-/// their failures; and where these tell and had no points, no replica first began with a point, and none found damage.
+/// their failures; and where these tell and stood for the life, they first began with what earlier runs left, and none found damage.
+/// None first began with a point where they had none. Once the disks are back, what stops leave of them stands for the life with the run.
 pub fn replicas_run<D: Disk>(replicas: &Replicas<D>)
     ensures goes_on { RunGoesOn D.state replicas.now }
     ensures counted { RunIsCounted D.state replicas.now }
     ensures opens_empty { RunOpensEmpty D.state replicas.now }
+    ensures opens_as_left { RunOpensAsLeft D.state replicas.now }
     ensures no_damage { RunFindsNoDamage D.state replicas.now }
+    ensures leaves_all { RunLeavesAll D.state replicas.now }
 {}
 
 /// The next calls go on by the numbers that the turns leave, as far as numbers go.
@@ -34,9 +38,10 @@ pub fn numbers_stay()
     ensures { NumbersStay }
 {}
 
-/// A cluster that made nothing tracks no turns; and one more line that is told, served and counted is tracked with them.
+/// A cluster that made nothing tracks no turns, nor does one that was opened by a state that was found; and one more line that is told, served and counted is tracked with them.
 pub fn one_more_is_tracked<D: Disk>(members: &Option<Members<D>>)
     ensures first { TracksAtFirst D.state members.now }
+    ensures afresh { TracksAfresh D.state members.now }
     ensures plain { TracksOn PlainLine D.state members.now }
     ensures clock { TracksOn ClockLine D.state members.now }
     ensures init { TracksOn InitLine D.state members.now }
@@ -75,7 +80,7 @@ pub fn cluster_begins<D: Disk>(members: &Members<D>)
     ensures { FirstStandsSo D.state members.now }
 {}
 
-/// A run whose turns are tracked kept what it had to, where its disks tell and had no points; its answers have their causes; each
+/// A run whose turns are tracked kept what it had to, where its disks tell and stood for the life; its answers have their causes; each
 /// node that turned available was joined; and the counts of the disks show the faults among these, once the disks are given back.
 pub fn tracked_runs_promise<D: Disk>(members: &Option<Members<D>>)
     ensures kept { KeptWhereTracked D.state members.now }

@@ -59,11 +59,11 @@ module _ {D : Type 0} {G : Ghosts D} (state : D → DiskState) where
     later = on;
   }
 
-  pub kept_of_first : (before now : Depot D) (c : SavedCluster D G) → IsOpened state before now c → (mid : Stage D G) (turns : List Turn) (unanswered : Option Request)
+  pub kept_of_first : ((d : D) → IsLawfulDisk (state d)) → (before now : Depot D) (c : SavedCluster D G) → IsOpened state before now c → (mid : Stage D G) (turns : List Turn) (unanswered : Option Request)
       → HaveServed state (record { start = state_of c.cluster; depot = now }) mid turns unanswered → AreEmpty state before.held → Kept (life_from (state_of c.cluster) turns unanswered)
-  kept_of_first before now c opened mid turns unanswered served empty =
+  kept_of_first lawful before now c opened mid turns unanswered served empty =
       let tracked = served.tracked true (may_track state before now c opened true empty) in
-      subst (λ o. Kept (life_from o turns unanswered)) (sym (first_none state before now c opened true empty)) (kept_closed state now mid turns tracked.more unanswered tracked.tracks)
+      subst (λ o. Kept (life_from o turns unanswered)) (sym (first_none state before now c opened true empty)) (kept_closed state lawful now mid turns tracked.more unanswered tracked.tracks)
 
   pub causes_of_first : ((d : D) → IsLawfulDisk (state d)) → (before now : Depot D) (c : SavedCluster D G) → IsOpened state before now c → (mid : Stage D G) (last : Depot D)
       → (state_of c.cluster ≡ None → Closes state before (record { start = state_of c.cluster; depot = now }) mid last) → (turns : List Turn) (unanswered : Option Request)

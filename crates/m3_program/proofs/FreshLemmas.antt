@@ -23,14 +23,16 @@ use Rattle.saved_cluster.proofs.first_cluster_proofs.SlotLists.{slot_or_other}
 use Rattle.saved_cluster.specs.replica_exchange.declared.slot.Slot.{Slot}
 use Rattle.saved_cluster.specs.session_net.Runs.{slot_at}
 use Rattle.saved_cluster.specs.served_cluster.Plans.{state_of}
-use Rattle.saved_cluster.specs.Openings.{BeginsTracked, IsOpened, OpensWith}
+use Rattle.saved_cluster.specs.served_cluster.Owned.{TracksTurns}
+use Rattle.saved_cluster.specs.line_tracks.Lain.{HadLain}
+use Rattle.saved_cluster.specs.Openings.{IsOpened, OpensWith}
 use Rattle.saved_cluster.specs.Saved.{IsSaved}
 use Rattle.saved_cluster.specs.declared.saved.SavedCluster.{SavedCluster}
 use Rattle.saved_cluster.proofs.OutLemmas.{meta_at}
 use Rattle.m3_program.specs.Faults.{AreEmpty, IsUnwritten}
 use Rattle.m3_program.specs.Runs.{IsFirstRun}
 use Rattle.m3_program.specs.Saved.{IsFound}
-use Rattle.m3_program.specs.Streams.{IsFresh, MayTrack, Stage}
+use Rattle.m3_program.specs.Streams.{IsFresh, MayTrack, Stage, opening_at}
 
 -- an empty disk has no points, as one that a slot gives for the first time
 unwritten_bare : {D : Type 0} (state : D → DiskState) (held : Held D) → IsUnwritten state held → IsBare state held
@@ -52,9 +54,6 @@ no_segments =
 
 none_held : MetaHolds None empty
 none_held = record { states = []; are = All-nil _; log = subst (λ (ns : List ℕ). PartsHold ns empty []) (sym no_segments) refl; last_is = refl }
-
-pub is_fresh : {D : Type 0} {G : Ghosts D} (state : D → DiskState) (now : Stage D G) → IsSaved (state_of now.saved.cluster) (state now.saved.meta) → BeginsTracked state now.depot now.saved.cluster → IsFresh state now
-is_fresh state now saved begins = record { saved = saved; tracks = λ tells may. begins may.none tells may.tell may.bare }
 
 module _ {D : Type 0} {G : Ghosts D} (state : D → DiskState) (before now : Depot D) (c : SavedCluster D G) (opened : IsOpened state before now c) where
   pub is_found : IsFound state before (state_of c.cluster)
@@ -101,3 +100,19 @@ module _ {D : Type 0} {G : Ghosts D} (state : D → DiskState) (before now : Dep
   pub first_none : (tells : Bool) → IsFirstRun tells state before (state_of c.cluster) → state_of c.cluster ≡ None
   first_none true none = none_found none
   first_none false none = none
+
+-- ---- no request was served yet
+
+pub is_fresh : {D : Type 0} {G : Ghosts D} (state : D → DiskState) (before : Depot D) (now : Stage D G) → IsSaved (state_of now.saved.cluster) (state now.saved.meta) → IsOpened state before now.depot now.saved → IsFresh state now
+is_fresh {D} {G} state before now saved opened = record { saved = saved; tracks = from }
+  where
+    -- over disks without points, and no runs before
+    from : (tells : Bool) → MayTrack state tells (opening_at now) → TracksTurns state tells [] None now.depot now.depot [] now.saved.cluster
+    from tells may =
+        let none : state_of now.saved.cluster ≡ None = may.none in
+        let same : now.depot ≡ opened.mid = only_meta state before now.depot now.saved opened none in
+        let lain = λ (e : tells ≡ true). subst (λ (x : Option MetaState). HadLain state [] x opened.mid.held) (sym none) (record {
+          bare = subst (λ (d : Depot D). AreBare state d.held) same (may.bare e);
+          stand = record { acked = λ turn among nodes is. absurd among; sent = λ n s point among. absurd among };
+        }) in
+        subst (λ (d : Depot D). TracksTurns state tells [] None d now.depot [] now.saved.cluster) (sym same) (subst (λ (x : Option MetaState). TracksTurns state tells [] x opened.mid now.depot [] now.saved.cluster) none (opened.tracks tells [] may.tell lain))

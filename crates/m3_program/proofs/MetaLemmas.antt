@@ -99,10 +99,10 @@ pub saved_leaves : (d : DiskState) (start last : Option MetaState) (turns : List
 saved_leaves d start last turns unanswered leave saved tells c image = record { last = last; may = record { state = last; leave = leave; is = inl refl }; holds = saved tells c image }
 
 -- within a request, or after it
-pub lost_leaves : {D : Type 0} {G : Ghosts D} (old new : DiskState) (start : Option MetaState) (turns : List Turn) (cluster : Cluster D G) (asked : Request) → new.tells ≡ old.tells → LeaveState start turns (state_of cluster) → IsSaved (state_of cluster) old
+pub lost_leaves : {D : Type 0} {G : Ghosts D} (old new : DiskState) (start : Option MetaState) (turns : List Turn) (cluster after : Cluster D G) (asked : Request) → new.tells ≡ old.tells → LeaveState start turns (state_of cluster) → IsSaved (state_of cluster) old
     → (start ≡ None → kept_of cluster ≡ kept_by turns (state_of cluster)) → (start ≡ None → RunsOn cluster asked → IsOnRunning (is_stopped (inner_turns turns)) asked)
-    → (old.tells ≡ true → ElapsesBy cluster asked old new) → StopsLeave new start turns (Some asked)
-lost_leaves old new start turns cluster asked same leave saved kept runs goes tells c image = by (goes told)
+    → (old.tells ≡ true → ElapsesBy cluster asked after old new) → StopsLeave new start turns (Some asked)
+lost_leaves old new start turns cluster after asked same leave saved kept runs goes tells c image = by (goes told)
   where
     told : old.tells ≡ true
     told = sym same ∙ tells
@@ -113,9 +113,9 @@ lost_leaves old new start turns cluster asked same leave saved kept runs goes te
     leads_on : (next : MetaState) → Leads cluster asked next → LeadsUnanswered start turns (state_of cluster) asked next
     leads_on next leads = record { kept = kept_of cluster; leads = leads.to; kept_is = kept; running = λ none. runs none leads.runs }
 
-    by : ElapsesBy cluster asked old new → HoldsLast start turns (Some asked) c
-    by (inl keeps) = let step = keeps.images c image in is_last (step.stepped.last (state_of cluster) (saved told step.before step.was))
-    by (inr (next, leads, may)) =
+    by : ElapsesBy cluster asked after old new → HoldsLast start turns (Some asked) c
+    by (inl (same, keeps)) = let step = keeps.images c image in is_last (step.stepped.last (state_of cluster) (saved told step.before step.was))
+    by (inr (next, leads, has, may)) =
         let step = may.images c image in
         elim (step.stepped.last (state_of cluster) (saved told step.before step.was)) as (λ _. HoldsLast start turns (Some asked) c) [
           | inl was ↦ is_last was

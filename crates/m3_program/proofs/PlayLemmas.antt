@@ -90,7 +90,7 @@ generated_closes state lawful before now c opened number mid last s closes back 
         course = record { parts = stopped.parts; later = stopped.later; unanswered = stopped.unanswered; of_script = stopped.of_script; taken = stopped.taken; each = stopped.each };
         played_to = played.played_to;
         meta = record { disk = mid.saved.meta; back = back; leaves = stopped.served.leaves };
-        kept = λ empty. kept_of_first state before now c opened mid turns stopped.unanswered stopped.served empty;
+        kept = λ empty. kept_of_first state lawful before now c opened mid turns stopped.unanswered stopped.served empty;
         joined = stopped.served.joined;
         causes = λ tells is_first. causes_of_first state lawful before now c opened mid last closes turns stopped.unanswered stopped.served tells is_first;
       }),

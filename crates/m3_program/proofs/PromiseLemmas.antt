@@ -13,7 +13,7 @@ use Rattle.transcripts.specs.Faults.{is_taking}
 use Rattle.transcripts.specs.Joined.{Joined}
 use Rattle.transcripts.specs.Kept.{Kept}
 use Rattle.transcripts.specs.Placements.{placement_after}
-use Rattle.transcripts.specs.Record.{Life, inner_turns}
+use Rattle.transcripts.specs.Record.{Life, Record, inner_turns}
 use Rattle.m3_outside.specs.Causes.{RoseBy}
 use Rattle.m3_outside.specs.DiskState.{DiskState, IsLawfulDisk}
 use Rattle.m3_outside.specs.declared.disk.Disk.{Ghosts}
@@ -62,14 +62,14 @@ joined_so : {D : Type 0} {G : Ghosts D} (state : D → DiskState) (first : Openi
 joined_so state first now turns unanswered s none =
     let tracks = s.tracks false (record { none = none; tell = λ e. (let clash : false ≡ true = e in cc); bare = λ e. (let clash : false ≡ true = e in cc) }) in
     subst (λ (o : Option MetaState). Joined (record { past = []; present = record { start = o; turns = turns; unanswered = unanswered } })) (sym none)
-    (joined_where_tracked state now.saved.cluster.members false first.depot now.depot turns now.saved.cluster.calls unanswered tracks)
+    (joined_where_tracked state now.saved.cluster.members false [] None first.depot now.depot turns now.saved.cluster.calls unanswered tracks)
 
 -- nothing more was served after these turns
 pub stood : {D : Type 0} {G : Ghosts D} (state : D → DiskState) (first : Opening D) (now : Stage D G) (turns : List Turn) (unanswered : Option Request) → StandsAfter state first turns now → HaveServed state first now turns unanswered
 stood state first now turns unanswered s = record {
   leaves = saved_leaves (state now.saved.meta) first.start (state_of now.saved.cluster) turns unanswered s.leave s.saved;
   counted = s.counted;
-  tracked = λ tells may. record { more = []; few = omega arith; tracks = subst (λ ts. TracksTurns state tells first.depot now.depot ts now.saved.cluster) (sym (append-nil turns)) (s.tracks tells may) };
+  tracked = λ tells may. record { more = []; few = omega arith; tracks = subst (λ ts. TracksTurns state tells [] None first.depot now.depot ts now.saved.cluster) (sym (append-nil turns)) (s.tracks tells may) };
   joined = joined_so state first now turns unanswered s;
 }
 
@@ -81,8 +81,8 @@ promised state first now xs unanswered p = stood state first now (turns_of xs) u
 pub record Serving {D : Type 0} {G : Ghosts D} (state : D → DiskState) (old : Stage D G) (asked : Request) (answered : Result Reply Lost) (new : Stage D G) : Type 0 where
   pub out : old.depot.held meta_slot ≡ Out
   pub served : ServesRequestSome state old.depot old.saved.cluster asked answered new.depot new.saved.cluster
-  pub tracks : (tells : Bool) (first : Depot D) (turns : List Turn) → TracksTurns state tells first old.depot turns old.saved.cluster → TracksRequest state tells first new.depot turns asked answered new.saved
-  pub any_moment : (state old.saved.meta).tells ≡ true → ElapsesBy old.saved.cluster asked (state old.saved.meta) (state new.saved.meta)
+  pub tracks : (tells : Bool) (past : List Record) (start : Option MetaState) (first : Depot D) (turns : List Turn) → TracksTurns state tells past start first old.depot turns old.saved.cluster → TracksRequest state tells past start first new.depot turns asked answered new.saved
+  pub any_moment : (state old.saved.meta).tells ≡ true → ElapsesBy old.saved.cluster asked new.saved.cluster (state old.saved.meta) (state new.saved.meta)
   pub tells : (state new.saved.meta).tells ≡ (state old.saved.meta).tells
 
 module _ {D : Type 0} {G : Ghosts D} (state : D → DiskState) (old new : Stage D G) where
@@ -91,22 +91,22 @@ module _ {D : Type 0} {G : Ghosts D} (state : D → DiskState) (old new : Stage 
   counted_so _ _ out h = absurd h
 
   -- in a first run, whatever the disks tell, the turns are tracked
-  tracked_so : (first : Opening D) (turns : List Turn) → StandsAfter state first turns old → first.start ≡ None → TracksTurns state false first.depot old.depot turns old.saved.cluster
+  tracked_so : (first : Opening D) (turns : List Turn) → StandsAfter state first turns old → first.start ≡ None → TracksTurns state false [] None first.depot old.depot turns old.saved.cluster
   tracked_so first turns was none = was.tracks false (record { none = none; tell = λ e. (let clash : false ≡ true = e in cc); bare = λ e. (let clash : false ≡ true = e in cc) })
 
   kept_so : (first : Opening D) (turns : List Turn) → StandsAfter state first turns old → first.start ≡ None → kept_of old.saved.cluster ≡ kept_by turns (state_of old.saved.cluster)
-  kept_so first turns was none = kept_left state false first.depot old.depot turns old.saved.cluster (tracked_so first turns was none)
+  kept_so first turns was none = kept_left state false [] None first.depot old.depot turns old.saved.cluster (tracked_so first turns was none)
 
   running_so : (first : Opening D) (turns : List Turn) (asked : Request) → StandsAfter state first turns old → first.start ≡ None → RunsOn old.saved.cluster asked → IsOnRunning (is_stopped (inner_turns turns)) asked
-  running_so first turns asked was none runs = running_left state false first.depot old.depot turns old.saved.cluster asked (tracked_so first turns was none) runs
+  running_so first turns asked was none runs = running_left state false [] None first.depot old.depot turns old.saved.cluster asked (tracked_so first turns was none) runs
 
   -- it may have been served, and got no reply
   pub lost_so : (first : Opening D) (turns : List Turn) (asked : Request) (answered : Result Reply Lost) → StandsAfter state first turns old → Serving state old asked answered new → HaveServed state first new turns (Some asked)
   lost_so first turns asked answered was s = record {
-    leaves = lost_leaves (state old.saved.meta) (state new.saved.meta) first.start turns old.saved.cluster asked s.tells was.leave was.saved (kept_so first turns was) (running_so first turns asked was) s.any_moment;
+    leaves = lost_leaves (state old.saved.meta) (state new.saved.meta) first.start turns old.saved.cluster new.saved.cluster asked s.tells was.leave was.saved (kept_so first turns was) (running_so first turns asked was) s.any_moment;
     counted = counted_so asked s.served.0 s.out s.served.2 ∙ was.counted;
     tracked = λ tells may.
-        let next = s.tracks tells first.depot turns (was.tracks tells may) in
+        let next = s.tracks tells [] None first.depot turns (was.tracks tells may) in
         record { more = record { request = asked; reply = next.0 } ∷ []; few = omega arith; tracks = next.2 };
     joined = joined_so state first old turns (Some asked) was;
   }
@@ -125,8 +125,8 @@ module _ {D : Type 0} {G : Ghosts D} (state : D → DiskState) (old new : Stage 
     saved = saved;
     counted = counted_so asked s.served.0 s.out s.served.2 ∙ was.counted;
     tracks = λ tells may.
-        let next = s.tracks tells first.depot turns (was.tracks tells may) in
-        subst (λ r. TracksTurns state tells first.depot new.depot (turns ++ record { request = asked; reply = r } ∷ []) new.saved.cluster) (sym next.1) next.2;
+        let next = s.tracks tells [] None first.depot turns (was.tracks tells may) in
+        subst (λ r. TracksTurns state tells [] None first.depot new.depot (turns ++ record { request = asked; reply = r } ∷ []) new.saved.cluster) (sym next.1) next.2;
   }
 
 -- ---- when the disks are given back
@@ -136,9 +136,9 @@ abbrev pub first_life : List Turn → Option Request → Life
 first_life turns unanswered = record { past = []; present = record { start = None; turns = turns; unanswered = unanswered } }
 
 -- what the reads had to keep, also where a turn more was served
-pub kept_closed : {D : Type 0} {G : Ghosts D} (state : D → DiskState) (first : Depot D) (mid : Stage D G) (turns more : List Turn) (unanswered : Option Request) → TracksTurns state true first mid.depot (turns ++ more) mid.saved.cluster
+pub kept_closed : {D : Type 0} {G : Ghosts D} (state : D → DiskState) → ((d : D) → IsLawfulDisk (state d)) → (first : Depot D) (mid : Stage D G) (turns more : List Turn) (unanswered : Option Request) → TracksTurns state true [] None first mid.depot (turns ++ more) mid.saved.cluster
     → Kept (first_life turns unanswered)
-kept_closed state first mid turns more unanswered tracks = kept_where_tracked state mid.saved.cluster.members first mid.depot turns more mid.saved.cluster.calls unanswered tracks
+kept_closed state lawful first mid turns more unanswered tracks = kept_where_tracked state lawful mid.saved.cluster.members [] None first mid.depot turns more mid.saved.cluster.calls unanswered tracks
 
 -- a line of these turns is one of a request that was taken
 line_taken : (turns more : List Turn) (unanswered : Option Request) (line : ℕ) → length more ≤ one_for unanswered → line < length (turns ++ more) → line < length turns + one_for unanswered
@@ -189,12 +189,12 @@ module _ {D : Type 0} {G : Ghosts D} (state : D → DiskState) (before : Depot D
       by (inr other) = let is = c.counted (slot_at disk_slot.node disk_slot.shard) (other_disk_slot (slot_at disk_slot.node disk_slot.shard) meta_at other) in omega (arith, is)
 
   -- the causes, shown by the counts
-  pub causes_closed : ((d : D) → IsLawfulDisk (state d)) → (tells : Bool) (turns more : List Turn) (unanswered : Option Request) → length more ≤ one_for unanswered → TracksTurns state tells first.depot mid.depot (turns ++ more) mid.saved.cluster
+  pub causes_closed : ((d : D) → IsLawfulDisk (state d)) → (tells : Bool) (turns more : List Turn) (unanswered : Option Request) → length more ≤ one_for unanswered → TracksTurns state tells [] None first.depot mid.depot (turns ++ more) mid.saved.cluster
       → HasCauses tells (counts_of before) (counts_of last) (first_life turns unanswered)
   causes_closed lawful tells turns more unanswered few tracks =
       let members = mid.saved.cluster.members in
       let calls = mid.saved.cluster.calls in
-      let shown = shown_where_tracked state lawful members tells first.depot mid.depot (turns ++ more) calls last.faults count_in tracks given_back in
+      let shown = shown_where_tracked state lawful members tells [] None first.depot mid.depot (turns ++ more) calls last.faults count_in tracks given_back in
       record {
         faults = faults_of tracks;
         counted = record {
@@ -209,5 +209,5 @@ module _ {D : Type 0} {G : Ghosts D} (state : D → DiskState) (before : Depot D
               let opened = c.opened in
               omega (arith, all, opened);
         };
-        caused = caused_where_tracked state members tells first.depot mid.depot turns more calls unanswered tracks;
+        caused = caused_where_tracked state members tells [] None first.depot mid.depot turns more calls unanswered tracks;
       }

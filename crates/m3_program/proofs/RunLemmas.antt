@@ -266,7 +266,7 @@ told_closes state lawful before now c opened mid last s closes back left0 gave0 
         none_found = none_found state before now c opened;
         ran = run.ran;
         meta = record { disk = mid.saved.meta; back = back; leaves = served.leaves };
-        kept = λ empty. kept_of_first state before now c opened mid turns unanswered served empty;
+        kept = λ empty. kept_of_first state lawful before now c opened mid turns unanswered served empty;
         joined = served.joined;
         causes = λ tells is_first. causes_of_first state lawful before now c opened mid last closes turns unanswered served tells is_first;
       }),

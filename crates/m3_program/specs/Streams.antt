@@ -49,14 +49,14 @@ pub record MayTrack {D : Type 0} (state : D → DiskState) (tells : Bool) (first
 -- no request was served yet, so that there are no turns to be tracked
 pub record IsFresh {D : Type 0} {G : Ghosts D} (state : D → DiskState) (now : Stage D G) : Type 0 where
   pub saved : IsSaved (state_of now.saved.cluster) (state now.saved.meta)
-  pub tracks : (tells : Bool) → MayTrack state tells (opening_at now) → TracksTurns state tells now.depot now.depot [] now.saved.cluster
+  pub tracks : (tells : Bool) → MayTrack state tells (opening_at now) → TracksTurns state tells [] None now.depot now.depot [] now.saved.cluster
 
 -- The cluster has the state that the turns left, and so has what a stop leaves of the meta disk, which is out; and the turns are tracked.
 pub record StandsAfter {D : Type 0} {G : Ghosts D} (state : D → DiskState) (first : Opening D) (turns : List Turn) (now : Stage D G) : Type 0 where
   pub leave : LeaveState first.start turns (state_of now.saved.cluster)
   pub saved : IsSaved (state_of now.saved.cluster) (state now.saved.meta)
   pub counted : now.depot.counted meta_slot ≡ first.depot.counted meta_slot
-  pub tracks : (tells : Bool) → MayTrack state tells first → TracksTurns state tells first.depot now.depot turns now.saved.cluster
+  pub tracks : (tells : Bool) → MayTrack state tells first → TracksTurns state tells [] None first.depot now.depot turns now.saved.cluster
 
 -- the exchanges so far, and how the run stands after them
 pub record Progress {D : Type 0} {G : Ghosts D} (state : D → DiskState) (first : Opening D) (xs : List Exchange) (now : Stage D G) : Type 0 where
@@ -67,7 +67,7 @@ pub record Progress {D : Type 0} {G : Ghosts D} (state : D → DiskState) (first
 pub record AreTracked {D : Type 0} {G : Ghosts D} (state : D → DiskState) (tells : Bool) (first : Opening D) (now : Stage D G) (turns : List Turn) (unanswered : Option Request) : Type 0 where
   pub more : List Turn
   pub few : length more ≤ one_for unanswered
-  pub tracks : TracksTurns state tells first.depot now.depot (turns ++ more) now.saved.cluster
+  pub tracks : TracksTurns state tells [] None first.depot now.depot (turns ++ more) now.saved.cluster
 
 -- So it is after these turns and the request that was taken and got no reply; what a stop leaves of the meta disk has the state that the turns left, or the one to which the request leads; and in a first run whoever turned available was joined.
 pub record HaveServed {D : Type 0} {G : Ghosts D} (state : D → DiskState) (first : Opening D) (now : Stage D G) (turns : List Turn) (unanswered : Option Request) : Type 0 where

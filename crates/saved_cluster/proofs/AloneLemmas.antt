@@ -47,7 +47,7 @@ pub answered_alone : {D : Type 0} {G : Ghosts D} (state : D → DiskState) (depo
 answered_alone state depot old a b new unsaved may ready did =
     let serves = serves_so state depot old.cluster a b new (unsaved_no_init a unsaved) (unsaved_no_step a unsaved) did in
     let same = state_stays state depot old.cluster a b depot new unsaved serves in
-    answered_unsaved state depot depot old (record old { cluster = new }) a b
+    answered_unsaved state depot depot old (record old { cluster = new }) a b same
     (record {
       cluster = record { owned = owned_after state depot.held old.cluster.members a b old.cluster.calls new.members (unsaved_no_bootstrap a unsaved) did.members may.cluster.owned; ready = ready };
       meta_out = serves_out state depot old.cluster a b depot new serves may.meta_out;

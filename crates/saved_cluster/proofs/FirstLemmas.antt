@@ -29,7 +29,7 @@ use Rattle.line_tracks.specs.tracks.Acts.{IsInitAnswer}
 use Rattle.line_tracks.specs.tracks.Lines.{EachMember}
 use Rattle.served_cluster.specs.Acts.{Serves}
 use Rattle.served_cluster.specs.Plans.{state_of}
-use Rattle.saved_cluster.specs.Saved.{AnswersSaved, IsSaved, Leads, MayServeSaved}
+use Rattle.saved_cluster.specs.Saved.{AnswersSaved, HasState, IsSaved, Leads, MayServeSaved}
 use Rattle.saved_cluster.specs.States.{unplanned}
 use Rattle.saved_cluster.specs.declared.lost.Lost.{Lost}
 use Rattle.saved_cluster.specs.declared.lost.Lost.TheVariants as lost
@@ -65,12 +65,12 @@ module _ {D : Type 0} {G : Ghosts D} (state : D → DiskState) (rf shards seed :
 
     -- the state of one that was made was saved; or the save failed, or memory was wanted behind it
     pub begun_answered : (r : Result Answer Lost) → (said : Answer) → IfOk r (λ b. b ≡ said) → IsInitAnswer state before None rf shards seed nodes said after new.cluster.members → EachMember new.cluster.members (λ m. IsReady m.net.state m.net.replicas m.net.bag)
-        → new.cluster.calls ≡ old.cluster.calls → OnOk r (state_of new.cluster ≡ Some next) → OnOk r ((last : Option MetaState) → IsSaved last (state mid.meta) → IsSaved (Some next) (state new.meta)) → CountsFaults (IsErrOf r lost.Meta) (state mid.meta).faults (state new.meta).faults
+        → new.cluster.calls ≡ old.cluster.calls → OnOk r (state_of new.cluster ≡ Some next) → HasState new.cluster next → OnOk r ((last : Option MetaState) → IsSaved last (state mid.meta) → IsSaved (Some next) (state new.meta)) → CountsFaults (IsErrOf r lost.Meta) (state mid.meta).faults (state new.meta).faults
         → AnswersSaved state before old (act.Init rf shards seed nodes) r after new
-    begun_answered (Ok b) said is it ready calls stands saved counts =
+    begun_answered (Ok b) said is it ready calls stands has saved counts =
         let init = subst (λ (x : Answer). IsInitAnswer state before None rf shards seed nodes x after new.cluster.members) (sym is) it in
         let serves = serves_of b calls init in
-        answered_saved state before after old mid new (act.Init rf shards seed nodes) next leads readied mid_tells mid_counts goes new_tells b
+        answered_saved state before after old mid new (act.Init rf shards seed nodes) next leads readied mid_tells mid_counts goes new_tells b has
         (record {
           cluster = init_serves state rf shards seed nodes before after b new.cluster free init ready;
           meta_out = serves_out state before old.cluster (act.Init rf shards seed nodes) b after new.cluster serves may.meta_out;
@@ -78,7 +78,7 @@ module _ {D : Type 0} {G : Ghosts D} (state : D → DiskState) (rf shards seed :
           state = subst MayBeState (sym stands) lawful;
           saved = subst (λ (o : Option MetaState). IsSaved o (state new.meta)) (sym stands) (saved (state_of old.cluster) mid_saved);
         }) serves (counts_none _ _ _ (λ no. (let clash : ◌≡◌ {A = Result Answer Lost} (Ok b) (Err lost.Meta) = no in cc)) counts)
-    begun_answered (Err e) said is it ready calls stands saved counts =
+    begun_answered (Err e) said is it ready calls stands has saved counts =
         let serves = serves_of said calls it in
-        lost_saved state before after old mid new (act.Init rf shards seed nodes) next leads readied mid_tells mid_counts goes new_tells e said
+        lost_saved state before after old mid new (act.Init rf shards seed nodes) next leads readied mid_tells mid_counts goes new_tells e said has
         (record { cluster = init_serves state rf shards seed nodes before after said new.cluster free it ready; meta_out = serves_out state before old.cluster (act.Init rf shards seed nodes) said after new.cluster serves may.meta_out }) serves counts

@@ -1,6 +1,6 @@
 -- A bootstrap: the state in which moves are over may be saved, and is the one to which the line leads that ends them; and what the line is answered.
 use Rattle.std.proofs.Common.{◌≡◌, ◌≢◌, ℕ, List, [], ◌∷◌, map, refl, sym, ap, subst, ◌∙◌, inl, inr, true}
-use Rattle.std.specs.Prelude.{Option, Some, None, Ok, Err, IsErrOf, IsTrue, option_map}
+use Rattle.std.specs.Prelude.{Option, Some, None, Ok, Err, IfSome, IsErrOf, IsTrue, option_map}
 use Rattle.std.specs.List.{cons_option}
 use Rattle.std.proofs.lemmas.List.{append-nil}
 use Rattle.std.proofs.lemmas.Option.{same_Some}
@@ -36,7 +36,7 @@ use Rattle.served_cluster.specs.Owned.{MayServeCluster, StillServes}
 use Rattle.served_cluster.specs.Plans.{state_of}
 use Rattle.served_cluster.specs.declared.cluster.Cluster.{Cluster}
 use Rattle.served_cluster.proofs.OwnLemmas.{serves_so}
-use Rattle.saved_cluster.specs.Saved.{AnswersSaved, IsSaved, Leads, MayServeSaved}
+use Rattle.saved_cluster.specs.Saved.{AnswersSaved, HasState, IsSaved, Leads, MayServeSaved}
 use Rattle.saved_cluster.specs.States.{IsMovedState, LeadsToState, kept_of, unready}
 use Rattle.saved_cluster.specs.declared.lost.Lost.{Lost}
 use Rattle.saved_cluster.specs.declared.lost.Lost.TheVariants as lost
@@ -144,13 +144,16 @@ module _ {D : Type 0} {G : Ghosts D} (state : D → DiskState) (depot : Depot D)
   -- it is answered then
   pub boot_answered : (b : Answer) → Answers state old.cluster boot b opened → AnswersSaved state depot old boot (Ok b) depot (record old { cluster = opened })
   boot_answered b answers =
-      answered_unsaved state depot depot old (record old { cluster = opened }) boot b may_opened (serves_boot b opened answers) (λ tells. elapses_same (state old.meta)) refl (counts_same ⊥ (state old.meta).faults (λ never. never))
+      answered_unsaved state depot depot old (record old { cluster = opened }) boot b same may_opened (serves_boot b opened answers) (λ tells. elapses_same (state old.meta)) refl (counts_same ⊥ (state old.meta).faults (λ never. never))
 
   module _ (mid : SavedCluster D G) (stays : mid.cluster ≡ opened) (log : MetaStands mid.log (state mid.meta)) (readied : (state old.meta).tells ≡ true → Elapses KeepsLast (state old.meta) (state mid.meta)) (tells : (state mid.meta).tells ≡ (state old.meta).tells) where
     -- its save couldn't be readied
     pub boot_unready : Answers state old.cluster boot answer.Memory opened → (why : DiskErr) → CountsFaults (IsErrOf {T = Unit} (Err why) disk_err.Failed) (state old.meta).faults (state mid.meta).faults → AnswersSaved state depot old boot (unready why) depot mid
     boot_unready left why counts = by why counts
       where
+        state_mid : state_of mid.cluster ≡ state_of old.cluster
+        state_mid = ap state_of stays ∙ same
+
         may_mid : MayServeSaved state mid depot.held
         may_mid = may_readied state depot.held (record old { cluster = opened }) mid stays log tells readied may_opened
 
@@ -158,8 +161,8 @@ module _ {D : Type 0} {G : Ghosts D} (state : D → DiskState) (depot : Depot D)
         serves = subst (λ (c : Cluster D G). Serves state depot old.cluster boot answer.Memory depot c) (sym stays) (serves_boot answer.Memory opened left)
 
         by : (e : DiskErr) → CountsFaults (IsErrOf {T = Unit} (Err e) disk_err.Failed) (state old.meta).faults (state mid.meta).faults → AnswersSaved state depot old boot (unready e) depot mid
-        by disk_err.Memory c = answered_unsaved state depot depot old mid boot answer.Memory may_mid serves readied tells (counts_none _ (state old.meta).faults (state mid.meta).faults (λ is. cc) c)
-        by disk_err.Failed c = lost_unsaved state depot depot old mid boot answer.Memory (may_close state mid depot.held may_mid) serves readied tells (counts_as _ _ (state old.meta).faults (state mid.meta).faults (λ is. refl) c)
+        by disk_err.Memory c = answered_unsaved state depot depot old mid boot answer.Memory state_mid may_mid serves readied tells (counts_none _ (state old.meta).faults (state mid.meta).faults (λ is. cc) c)
+        by disk_err.Failed c = lost_unsaved state depot depot old mid boot answer.Memory state_mid (may_close state mid depot.held may_mid) serves readied tells (counts_as _ _ (state old.meta).faults (state mid.meta).faults (λ is. refl) c)
 
     module _ (marking : Marking) (joined : HasJoined state old.cluster name asked marking opened) (counts : CountsFaults ⊥ (state old.meta).faults (state mid.meta).faults)
         (marked : Marked) (was : Cluster D G) (marks : HasMarked state mid.cluster marking marked was) (leads : state_of was ≡ option_map (by_marking marking) (state_of mid.cluster)) (still_marked : StillServes mid.cluster was)
@@ -180,9 +183,12 @@ module _ {D : Type 0} {G : Ghosts D} (state : D → DiskState) (depot : Depot D)
       state_final : state_of final.cluster ≡ Some next
       state_final = ended.stays ∙ ap state_of saved_is ∙ next_is
 
+      has_final : HasState final.cluster next
+      has_final = subst (λ o. IfSome o (λ it. it ≡ next)) (sym state_final) refl
+
       -- the state was saved, and then the tenures ended
       pub boot_saved : MetaStands final.log (state final.meta) → IsSaved (Some next) (state final.meta) → CountsFaults ⊥ (state mid.meta).faults (state final.meta).faults → AnswersSaved state depot old boot (Ok b) depot final
-      boot_saved final_log holds final_counts = answered_saved state depot depot old mid final boot next line_leads readied tells counts goes final_tells b (record {
+      boot_saved final_log holds final_counts = answered_saved state depot depot old mid final boot next line_leads readied tells counts goes final_tells b has_final (record {
         cluster = may_final;
         meta_out = may.meta_out;
         log = final_log;
@@ -192,4 +198,4 @@ module _ {D : Type 0} {G : Ghosts D} (state : D → DiskState) (depot : Depot D)
 
       -- its save failed, and the tenures ended all the same
       pub boot_lost : (e : Lost) → CountsFaults (IsErrOf {T = Answer} (Err e) lost.Meta) (state mid.meta).faults (state final.meta).faults → AnswersSaved state depot old boot (Err e) depot final
-      boot_lost e final_counts = lost_saved state depot depot old mid final boot next line_leads readied tells counts goes final_tells e b (record { cluster = may_final; meta_out = may.meta_out }) (serves_boot b final.cluster answers) final_counts
+      boot_lost e final_counts = lost_saved state depot depot old mid final boot next line_leads readied tells counts goes final_tells e b has_final (record { cluster = may_final; meta_out = may.meta_out }) (serves_boot b final.cluster answers) final_counts

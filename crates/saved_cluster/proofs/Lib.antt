@@ -11,5 +11,6 @@ mod PlanLemmas
 mod SaveLemmas
 mod ServeLemmas
 mod StateLemmas
+mod TrackLemmas
 pub mod first_cluster_proofs
 pub mod served_cluster_proofs

@@ -18,7 +18,7 @@ use Rattle.served_cluster.specs.Acts.{Serves}
 use Rattle.served_cluster.specs.Owned.{MayServeCluster}
 use Rattle.served_cluster.specs.Plans.{state_of}
 use Rattle.served_cluster.specs.declared.cluster.Cluster.{Cluster}
-use Rattle.saved_cluster.specs.Saved.{AnswersSaved, IsSaved, Leads, MayClose, MayServeSaved}
+use Rattle.saved_cluster.specs.Saved.{AnswersSaved, HasState, IsSaved, Leads, MayClose, MayServeSaved}
 use Rattle.saved_cluster.specs.declared.lost.Lost.{Lost}
 use Rattle.saved_cluster.specs.declared.lost.Lost.TheVariants as lost
 use Rattle.saved_cluster.specs.declared.saved.SavedCluster.{SavedCluster}
@@ -40,7 +40,7 @@ module _ {D : Type 0} {G : Ghosts D} (state : D → DiskState) where
     may = may;
     close = may_close c depot.held may;
     served = (b, refl, serves);
-    any_moment = λ tells. inl (elapses_same (state c.meta));
+    any_moment = λ tells. inl (refl, elapses_same (state c.meta));
     tells = refl;
     faults = counts_same (IsErrOf (Ok b) lost.Meta) (state c.meta).faults (ok_is_no_error b lost.Meta);
   }
@@ -57,25 +57,25 @@ module _ {D : Type 0} {G : Ghosts D} (state : D → DiskState) where
   }
 
   -- it is answered, and was not saved
-  pub answered_unsaved : (before after : Depot D) (old new : SavedCluster D G) (a : Act) (b : Answer) → MayServeSaved state new after.held → Serves state before old.cluster a b after new.cluster → ((state old.meta).tells ≡ true → Elapses KeepsLast (state old.meta) (state new.meta))
+  pub answered_unsaved : (before after : Depot D) (old new : SavedCluster D G) (a : Act) (b : Answer) → state_of new.cluster ≡ state_of old.cluster → MayServeSaved state new after.held → Serves state before old.cluster a b after new.cluster → ((state old.meta).tells ≡ true → Elapses KeepsLast (state old.meta) (state new.meta))
       → (state new.meta).tells ≡ (state old.meta).tells → CountsFaults ⊥ (state old.meta).faults (state new.meta).faults → AnswersSaved state before old a (Ok b) after new
-  answered_unsaved before after old new a b may serves goes tells counts = record {
+  answered_unsaved before after old new a b same may serves goes tells counts = record {
     may = may;
     close = may_close new after.held may;
     served = (b, refl, serves);
-    any_moment = λ told. inl (goes told);
+    any_moment = λ told. inl (same, goes told);
     tells = tells;
     faults = record { later = counts.later; stays = counts.stays; rose = λ is. absurd (ok_is_no_error b lost.Meta is) };
   }
 
   -- the meta disk failed before the save
-  pub lost_unsaved : (before after : Depot D) (old new : SavedCluster D G) (a : Act) (said : Answer) → MayClose new after.held → Serves state before old.cluster a said after new.cluster → ((state old.meta).tells ≡ true → Elapses KeepsLast (state old.meta) (state new.meta))
+  pub lost_unsaved : (before after : Depot D) (old new : SavedCluster D G) (a : Act) (said : Answer) → state_of new.cluster ≡ state_of old.cluster → MayClose new after.held → Serves state before old.cluster a said after new.cluster → ((state old.meta).tells ≡ true → Elapses KeepsLast (state old.meta) (state new.meta))
       → (state new.meta).tells ≡ (state old.meta).tells → CountsFaults (IsErrOf {T = Answer} (Err lost.Meta) lost.Meta) (state old.meta).faults (state new.meta).faults → AnswersSaved state before old a (Err lost.Meta) after new
-  lost_unsaved before after old new a said close serves goes tells counts = record {
+  lost_unsaved before after old new a said same close serves goes tells counts = record {
     may = tt;
     close = close;
     served = (said, tt, serves);
-    any_moment = λ told. inl (goes told);
+    any_moment = λ told. inl (same, goes told);
     tells = tells;
     faults = counts;
   }
@@ -84,24 +84,24 @@ module _ {D : Type 0} {G : Ghosts D} (state : D → DiskState) where
   module _ (before after : Depot D) (old mid new : SavedCluster D G) (a : Act) (next : MetaState) (leads : Leads old.cluster (request.One a) next)
       (readied : (state old.meta).tells ≡ true → Elapses KeepsLast (state old.meta) (state mid.meta)) (mid_tells : (state mid.meta).tells ≡ (state old.meta).tells) (mid_counts : CountsFaults ⊥ (state old.meta).faults (state mid.meta).faults)
       (goes : (state mid.meta).tells ≡ true → Elapses (MaySave next) (state mid.meta) (state new.meta)) (new_tells : (state new.meta).tells ≡ (state mid.meta).tells) where
-    pub answered_saved : (b : Answer) → MayServeSaved state new after.held → Serves state before old.cluster a b after new.cluster → CountsFaults ⊥ (state mid.meta).faults (state new.meta).faults → AnswersSaved state before old a (Ok b) after new
-    answered_saved b may serves counts =
+    pub answered_saved : (b : Answer) → HasState new.cluster next → MayServeSaved state new after.held → Serves state before old.cluster a b after new.cluster → CountsFaults ⊥ (state mid.meta).faults (state new.meta).faults → AnswersSaved state before old a (Ok b) after new
+    answered_saved b stands may serves counts =
         let all = counts_then ⊥ (state old.meta).faults (state mid.meta).faults (state new.meta).faults mid_counts counts in
         record {
           may = may;
           close = may_close new after.held may;
           served = (b, refl, serves);
-          any_moment = λ told. inr (next, leads, may_then next (state old.meta) (state mid.meta) (state new.meta) (readied told) (goes (mid_tells ∙ told)));
+          any_moment = λ told. inr (next, leads, stands, may_then next (state old.meta) (state mid.meta) (state new.meta) (readied told) (goes (mid_tells ∙ told)));
           tells = new_tells ∙ mid_tells;
           faults = record { later = all.later; stays = all.stays; rose = λ is. absurd (ok_is_no_error b lost.Meta is) };
         }
 
-    pub lost_saved : (e : Lost) (said : Answer) → MayClose new after.held → Serves state before old.cluster a said after new.cluster → CountsFaults (IsErrOf {T = Answer} (Err e) lost.Meta) (state mid.meta).faults (state new.meta).faults → AnswersSaved state before old a (Err e) after new
-    lost_saved e said close serves counts = record {
+    pub lost_saved : (e : Lost) (said : Answer) → HasState new.cluster next → MayClose new after.held → Serves state before old.cluster a said after new.cluster → CountsFaults (IsErrOf {T = Answer} (Err e) lost.Meta) (state mid.meta).faults (state new.meta).faults → AnswersSaved state before old a (Err e) after new
+    lost_saved e said stands close serves counts = record {
       may = tt;
       close = close;
       served = (said, tt, serves);
-      any_moment = λ told. inr (next, leads, may_then next (state old.meta) (state mid.meta) (state new.meta) (readied told) (goes (mid_tells ∙ told)));
+      any_moment = λ told. inr (next, leads, stands, may_then next (state old.meta) (state mid.meta) (state new.meta) (readied told) (goes (mid_tells ∙ told)));
       tells = new_tells ∙ mid_tells;
       faults = counts_then (IsErrOf {T = Answer} (Err e) lost.Meta) (state old.meta).faults (state mid.meta).faults (state new.meta).faults mid_counts counts;
     }

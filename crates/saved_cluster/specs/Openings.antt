@@ -1,5 +1,5 @@
 -- A cluster opened over the meta disk.
-use Rattle.std.specs.Prelude.{◌≡◌, ◌≢◌, ◌⊎◌, ⊤, ◌≤◌, [], Option, Some, None, Bool, true}
+use Rattle.std.specs.Prelude.{◌≡◌, ◌≢◌, ◌⊎◌, ⊤, ◌≤◌, List, [], Option, Some, None, Bool, true}
 use Rattle.m3_model.specs.declared.rules.MetaState.{MetaState}
 use Rattle.m3_outside.specs.Causes.{Rose}
 use Rattle.m3_outside.specs.Depots.{Depot, TellAll}
@@ -12,7 +12,8 @@ use Rattle.line_tracks.specs.cluster_members.declared.members.Members.{Members}
 use Rattle.line_tracks.specs.first_cluster.Lending.{IsLeftAt}
 use Rattle.line_tracks.specs.replica_exchange.declared.slot.Slot.{Slot}
 use Rattle.line_tracks.specs.first_cluster.Depots.{IsForReplicas, disk_slot_of, meta_slot}
-use Rattle.line_tracks.specs.first_cluster.Bare.{AreBare}
+use Rattle.line_tracks.specs.transcripts.Record.{Record}
+use Rattle.line_tracks.specs.tracks.Lain.{HadLain}
 use Rattle.opened_cluster.specs.Reopened.{IsReopened}
 use Rattle.placement_log.specs.Damage.{MayBeDamaged}
 use Rattle.placement_log.specs.MetaHolds.{MetaHolds}
@@ -48,7 +49,14 @@ abbrev pub OpensWith : {D : Type 0} {G : Ghosts D} → (D → DiskState) → Opt
 OpensWith disk_state None mid new members = (members ≡ None) × (new ≡ mid)
 OpensWith {D} {G} disk_state (Some state) mid new members = (m : Members D G) × (members ≡ Some m) × IsReopened disk_state state mid new m
 
--- The meta disk is out and was read; what it holds last, if anything, is the cluster's state; and replicas stand over the disks of its slots.
+-- The turns of a run are tracked from here on, by the state that it found, for whatever runs were before it: over disks that tell, what lay in the slots before the
+-- cluster's were taken stands for these runs; where no state was found it has no points.
+abbrev pub BeginsTracked : {D : Type 0} {G : Ghosts D} → (D → DiskState) → Depot D → Depot D → Cluster D G → Type 0
+BeginsTracked disk_state first now c =
+    (tells : Bool) (past : List Record) → (tells ≡ true → TellAll disk_state) → (tells ≡ true → HadLain disk_state past (state_of c) first.held) → TracksTurns disk_state tells past (state_of c) first now [] c
+
+-- The meta disk is out and was read; what it holds last, if anything, is the cluster's state; and replicas stand over the disks of its slots. The turns are tracked
+-- from here on, over what lay in the slots once the meta disk was taken.
 pub record IsOpened {D : Type 0} {G : Ghosts D} (disk_state : D → DiskState) (old new : Depot D) (c : SavedCluster D G) : Type 0 where
   pub disk : D
   pub is_meta : IsMetaDisk disk_state old disk
@@ -58,6 +66,7 @@ pub record IsOpened {D : Type 0} {G : Ghosts D} (disk_state : D → DiskState) (
   pub last : Told (disk_state disk) (MetaHolds (state_of c.cluster))
   pub opens : OpensWith disk_state (state_of c.cluster) mid new c.cluster.members
   pub calls : c.cluster.calls ≡ first_numbers  -- no call was made yet
+  pub tracks : BeginsTracked disk_state mid new c.cluster
 
 -- at the slot of the meta disk all is as it was, or its disk was read and is back
 abbrev pub IsMetaBack : {D : Type 0} → (D → DiskState) → Depot D → Depot D → Type 0
@@ -91,7 +100,3 @@ abbrev pub MayNotOpenOver : {D : Type 0} → (D → DiskState) → Depot D → D
 MayNotOpenOver disk_state old new disk read failures.Disk = Rose old.faults new.faults ⊎ Rose (disk_state disk).faults (disk_state read).faults
 MayNotOpenOver disk_state old new disk read failures.Memory = ⊤
 MayNotOpenOver disk_state old new disk read e = Told (disk_state disk) (λ files. MayBeDamaged files e)
-
--- Where nothing was saved, the turns of a run are tracked from here on: over disks that tell, these have no points.
-abbrev pub BeginsTracked : {D : Type 0} {G : Ghosts D} → (D → DiskState) → Depot D → Cluster D G → Type 0
-BeginsTracked disk_state now c = state_of c ≡ None → (tells : Bool) → (tells ≡ true → TellAll disk_state) → (tells ≡ true → AreBare disk_state now.held) → TracksTurns disk_state tells now now [] c

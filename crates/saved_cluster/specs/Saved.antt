@@ -1,5 +1,5 @@
 -- What a cluster whose state is kept needs to serve a request, and what is so of the meta disk within and after each.
-use Rattle.std.specs.Prelude.{◌≡◌, ◌⊎◌, ℕ, List, ◌∷◌, [], ◌++◌, Option, Some, None, Bool, true, false, Result, IfOk, OnOk, IsErrOf, ⊤}
+use Rattle.std.specs.Prelude.{◌≡◌, ◌⊎◌, ℕ, List, ◌∷◌, [], ◌++◌, Option, Some, None, Bool, true, false, Result, IfOk, OnOk, IfSome, IsErrOf, ⊤}
 use Rattle.m3_model.specs.declared.act.Act.{Act}
 use Rattle.m3_model.specs.declared.act.Act.TheVariants as act
 use Rattle.m3_model.specs.declared.answer.Answer.{Answer}
@@ -19,6 +19,7 @@ use Rattle.placement_log.specs.States.{MayBeState}
 use Rattle.line_tracks.specs.cluster_members.declared.members.Members.{Members}
 use Rattle.line_tracks.specs.first_cluster.Depots.{meta_slot}
 use Rattle.line_tracks.specs.node_calls.Nodes.{IsNode}
+use Rattle.line_tracks.specs.transcripts.Record.{Record}
 use Rattle.served_cluster.specs.Acts.{Serves, ServesRequest}
 use Rattle.served_cluster.specs.Owned.{MayServeCluster, TracksTurns}
 use Rattle.served_cluster.specs.Plans.{state_of}
@@ -55,9 +56,13 @@ pub record Leads {D : Type 0} {G : Ghosts D} (c : Cluster D G) (asked : Request)
   pub to : RequestLeadsTo (state_of c) (kept_of c) asked next
   pub runs : RunsOn c asked
 
--- Within a request a stop left the last state from before it; or that or the one to which the request leads.
-abbrev pub ElapsesBy : {D : Type 0} {G : Ghosts D} → Cluster D G → Request → DiskState → DiskState → Type 0
-ElapsesBy c asked old new = Elapses KeepsLast old new ⊎ ((next : MetaState) × Leads c asked next × Elapses (MaySave next) old new)
+-- where a cluster stands this is its state
+abbrev pub HasState : {D : Type 0} {G : Ghosts D} → Cluster D G → MetaState → Type 0
+HasState c state = IfSome (state_of c) (λ it. it ≡ state)
+
+-- Within a request a stop left the last state from before it, which the cluster still has; or that or the one to which the request leads, and this is the cluster's where one stands afterwards.
+abbrev pub ElapsesBy : {D : Type 0} {G : Ghosts D} → Cluster D G → Request → Cluster D G → DiskState → DiskState → Type 0
+ElapsesBy before asked after old new = ((state_of after ≡ state_of before) × Elapses KeepsLast old new) ⊎ ((next : MetaState) × Leads before asked next × HasState after next × Elapses (MaySave next) old new)
 
 -- all is there that a save of this state takes, if there is one
 abbrev pub IsReadyFor : Option MetaState → MetaEnd → DiskState → Type 0
@@ -74,7 +79,7 @@ pub record AnswersSaved {D : Type 0} {G : Ghosts D} (disk_state : D → DiskStat
   pub may : OnOk answered (MayServeSaved disk_state new after.held)
   pub close : MayClose new after.held
   pub served : ServesSome disk_state before old.cluster a answered after new.cluster
-  pub any_moment : (disk_state old.meta).tells ≡ true → ElapsesBy old.cluster (request.One a) (disk_state old.meta) (disk_state new.meta)
+  pub any_moment : (disk_state old.meta).tells ≡ true → ElapsesBy old.cluster (request.One a) new.cluster (disk_state old.meta) (disk_state new.meta)
   pub tells : (disk_state new.meta).tells ≡ (disk_state old.meta).tells
   pub faults : CountsFaults (IsErrOf answered lost.Meta) (disk_state old.meta).faults (disk_state new.meta).faults
 
@@ -90,5 +95,5 @@ pub record IsUnbegun {D : Type 0} {G : Ghosts D} (disk_state : D → DiskState) 
   pub saved : IsSaved (Some next) (disk_state new.meta)
 
 -- The turns that are tracked are so with the request, by its reply; or, where it got none, by one that it might have got.
-abbrev pub TracksRequest : {D : Type 0} {G : Ghosts D} → (D → DiskState) → Bool → Depot D → Depot D → List Turn → Request → Result Reply Lost → SavedCluster D G → Type 0
-TracksRequest disk_state tells first after turns asked answered c = (said : Reply) × IfOk answered (λ r. r ≡ said) × TracksTurns disk_state tells first after (turns ++ record { request = asked; reply = said } ∷ []) c.cluster
+abbrev pub TracksRequest : {D : Type 0} {G : Ghosts D} → (D → DiskState) → Bool → List Record → Option MetaState → Depot D → Depot D → List Turn → Request → Result Reply Lost → SavedCluster D G → Type 0
+TracksRequest disk_state tells past start first after turns asked answered c = (said : Reply) × IfOk answered (λ r. r ≡ said) × TracksTurns disk_state tells past start first after (turns ++ record { request = asked; reply = said } ∷ []) c.cluster

@@ -37,7 +37,7 @@ fn opened<D: Disk, X: Disks<D = D>>(
     ensures calls { IfOk result (λ c. c.calls ≡ first_numbers) }
     ensures may { IfOk result (λ c. MayServeCluster c (X.depot disks.new).held) }
     ensures stands { IfOk result (λ c. EachMember c.members (ClusterStands last [])) }
-    ensures tracks { IfOk result (BeginsTracked D.state (X.depot disks.new)) }
+    ensures tracks { IfOk result (BeginsTracked D.state (X.depot disks.old) (X.depot disks.new)) }
     ensures returned { OnErr result (AreAsTheyWere D.state (X.depot disks.old) (X.depot disks.new)) }
     ensures cause { IfErr result (MayNotGoOn (X.depot disks.old) (X.depot disks.new)) }
 {
@@ -66,7 +66,7 @@ fn opened_over<D: Disk, X: Disks<D = D>>(
     ensures log { IfOk result (λ made. MetaStands made.1 (D.state meta.new)) }
     ensures may { IfOk result (λ made. MayServeCluster made.0 (X.depot disks.new).held) }
     ensures stands { IfOk result (λ made. EachMember made.0.members (ClusterStands (state_of made.0) [])) }
-    ensures tracks { IfOk result (λ made. BeginsTracked D.state (X.depot disks.new) made.0) }
+    ensures tracks { IfOk result (λ made. BeginsTracked D.state (X.depot disks.old) (X.depot disks.new) made.0) }
     ensures read { IsRead D.state meta.old meta.new }
     ensures returned { OnErr result (AreAsTheyWere D.state (X.depot disks.old) (X.depot disks.new)) }
     ensures cause { IfErr result (MayNotOpenOver D.state (X.depot disks.old) (X.depot disks.new) meta.old meta.new) }
@@ -96,9 +96,6 @@ impl<D: Disk> SavedCluster<D> {
 
         // It stands by the state that was found, before the first turn.
         ensures stands { IfOk result (λ c. EachMember c.cluster.members (ClusterStands (state_of c.cluster) [])) }
-
-        // Where nothing was saved, the turns of the run are tracked from here on.
-        ensures tracks { IfOk result (λ c. BeginsTracked D.state (X.depot disks.new) c.cluster) }
 
         ensures none_out { OnErr result ((disk_slot : AtSlot) → (X.depot disks.new).held disk_slot ≢ Out) }
         ensures returned { OnErr result (IsGivenBack D.state (X.depot disks.old) (X.depot disks.new)) }

@@ -16,8 +16,8 @@ ghost use Rattle.placement_log.specs.MetaHolds.{IsReadyToSave, KeepsLast, MaySav
 ghost use Rattle.meta_bytes.specs.States.{IsMetaState};
 ghost use Rattle.m3_outside.specs.Slots.{Held, Here, Out};
 ghost use Rattle.m3_outside.specs.declared.slot.DiskSlot.{DiskSlot as AtSlot};
-ghost use Rattle.line_tracks.specs.transcripts.Placements.{placement_after};
-ghost use Rattle.line_tracks.specs.transcripts.Record.{IsAnsweredBy, inner_turns};
+ghost use Rattle.line_tracks.specs.transcripts.Placements.{placement_after, start_placement};
+ghost use Rattle.line_tracks.specs.transcripts.Record.{IsAnsweredBy, Record, inner_turns};
 ghost use Rattle.line_tracks.specs.session_net.Ready.{IsReady};
 ghost use Rattle.line_tracks.specs.tracks.Acts.{IsInitAnswer};
 ghost use Rattle.line_tracks.specs.tracks.Ends.{replica_at};
@@ -30,7 +30,7 @@ ghost use Rattle.line_tracks.specs.first_cluster.Lending.{AreAsTheyWere};
 ghost use Rattle.served_cluster.specs.Acts.{is_init};
 ghost use Rattle.served_cluster.specs.Joins.{EndsSources, MayEndSources};
 ghost use Rattle.served_cluster.specs.Plans.{changes_state, state_of};
-ghost use Rattle.saved_cluster.specs.Saved.{AnswersSaved, ElapsesBy, IsReadyFor, IsSaved, IsUnbegun, MayClose, MayServeSaved, ServesRequestSome, TracksRequest};
+ghost use Rattle.saved_cluster.specs.Saved.{AnswersSaved, ElapsesBy, HasState, IsReadyFor, IsSaved, IsUnbegun, MayClose, MayServeSaved, ServesRequestSome, TracksRequest};
 ghost use Rattle.saved_cluster.specs.States.{is_init_request, saves, saves_by, unplanned, unready};
 ghost use Rattle.saved_cluster.specs.declared.lost.Lost.TheVariants as lost;
 
@@ -76,7 +76,7 @@ impl<D: Disk> SavedCluster<D> {
     /// The placement, from `init` on: that which the turns so far left, where they are tracked.
     pub fn place(&self) -> Option<&Placement>
         ensures stands { option_copied result ≡ place_of self.now.cluster }
-        ensures left { (tells : Bool) (first now : Depot D) (turns : List Turn) → TracksTurns D.state tells first now turns self.now.cluster → placement_after None (inner_turns turns) ≡ place_of self.now.cluster }
+        ensures left { (tells : Bool) (past : List Record) (start : Option State) (first now : Depot D) (turns : List Turn) → TracksTurns D.state tells past start first now turns self.now.cluster → placement_after (start_placement start) (inner_turns turns) ≡ place_of self.now.cluster }
     {
         self.cluster.place()
     }
@@ -208,6 +208,7 @@ impl<D: Disk> SavedCluster<D> {
             → (said : Reported) × IfOk result (λ b. b ≡ said) × IsInitAnswer D.state first None rf shards seed nodes said (X.depot disks.new) self.new.cluster.members }
         ensures ready { EachMember self.new.cluster.members (λ m. IsReady m.net.state m.net.replicas m.net.bag) }
         ensures state { OnOk result (state_of self.new.cluster ≡ Some lent.members.net.state) }
+        ensures has { HasState self.new.cluster lent.members.net.state }
         ensures calls { self.new.cluster.calls ≡ self.old.cluster.calls }
         ensures untouched { IsErrOf result lost.Meta → (rf shards seed : ℕ) (nodes : List (List ℕ × List ℕ)) (first : Depot D) → IsLent D.state rf shards seed nodes first (X.depot disks.old) lent → AreAsTheyWere D.state first (X.depot disks.new) }
         ensures saved { OnOk result ((last : Option State) → IsSaved last (D.state self.old.meta) → IsSaved (Some lent.members.net.state) (D.state self.new.meta)) }
@@ -359,12 +360,12 @@ impl<D: Disk> SavedCluster<D> {
         ensures place { IfOk result (λ said. placement_after (place_of self.old.cluster) (inner_turns (record { request = request; reply = said } ∷ [])) ≡ place_of self.new.cluster) }
 
         // The turns so far that are tracked are so with this one.
-        ensures tracks { (tells : Bool) (first : Depot D) (turns : List Turn)
-            → TracksTurns D.state tells first (X.depot disks.old) turns self.old.cluster
-            → TracksRequest D.state tells first (X.depot disks.new) turns request result self.new }
+        ensures tracks { (tells : Bool) (past : List Record) (start : Option State) (first : Depot D) (turns : List Turn)
+            → TracksTurns D.state tells past start first (X.depot disks.old) turns self.old.cluster
+            → TracksRequest D.state tells past start first (X.depot disks.new) turns request result self.new }
 
-        // At any moment within the call a stop left the state from before it or the one to which it leads.
-        ensures any_moment { (D.state self.old.meta).tells ≡ true → ElapsesBy self.old.cluster request (D.state self.old.meta) (D.state self.new.meta) }
+        // At any moment within the call a stop left the state from before it or the one to which it leads, which is the cluster's own.
+        ensures any_moment { (D.state self.old.meta).tells ≡ true → ElapsesBy self.old.cluster request self.new.cluster (D.state self.old.meta) (D.state self.new.meta) }
 
         // A request that doesn't change the state leaves the meta disk as it is, and gets a reply.
         ensures others { saves request ≡ false → (self.new.meta ≡ self.old.meta) × (self.new.log ≡ self.old.log) × IsOk result }

@@ -7,6 +7,7 @@ use Rattle.m3_model.specs.declared.answer.Answer.{Answer}
 use Rattle.m3_model.specs.declared.turn.Reply.TheVariants as reply
 use Rattle.m3_model.specs.declared.turn.Request.{Request}
 use Rattle.m3_model.specs.declared.turn.Request.TheVariants as request
+use Rattle.m3_model.specs.declared.rules.MetaState.{MetaState}
 use Rattle.m3_model.specs.declared.turn.Turn.{Turn}
 use Rattle.m3_outside.specs.Depots.{Depot, TellAll}
 use Rattle.m3_outside.specs.DiskState.{DiskState, IsLawfulDisk}
@@ -15,8 +16,8 @@ use Rattle.m3_outside.specs.declared.disk.Disk.{Ghosts}
 use Rattle.m3_outside.specs.declared.slot.DiskSlot.{DiskSlot}
 use Rattle.line_tracks.specs.event_trail.Trails.{IsLegalOver}
 use Rattle.line_tracks.specs.replica_calls.Calls.{AreMembersOf}
-use Rattle.line_tracks.specs.transcripts.Placements.{placement_after}
-use Rattle.line_tracks.specs.transcripts.Record.{inner_turns, line_of}
+use Rattle.line_tracks.specs.transcripts.Placements.{placement_after, start_placement}
+use Rattle.line_tracks.specs.transcripts.Record.{Record, inner_turns, line_of}
 use Rattle.line_tracks.specs.cluster_members.declared.members.Members.{Members}
 use Rattle.line_tracks.specs.first_cluster.Depots.{OwnedBy}
 use Rattle.line_tracks.specs.cluster_placements.Steps.{MayChange}
@@ -31,11 +32,11 @@ use Rattle.served_cluster.proofs.KeptLemmas.{may_change}
 
 module _ {D : Type 0} {G : Ghosts D} (state : D → DiskState) where
   -- they left the placement that stands
-  pub place_left : (c : Cluster D G) (tells : Bool) (first now : Depot D) (turns : List Turn) → TracksTurns state tells first now turns c → placement_after None (inner_turns turns) ≡ place_of c
-  place_left c tells first now turns t = by c.members t.after
+  pub place_left : (c : Cluster D G) (tells : Bool) (past : List Record) (start : Option MetaState) (first now : Depot D) (turns : List Turn) → TracksTurns state tells past start first now turns c → placement_after (start_placement start) (inner_turns turns) ≡ place_of c
+  place_left c tells past start first now turns t = by c.members t.after
     where
-      by : (o : Option (Members D G)) → MayStandSo state tells now turns o → placement_after None (inner_turns turns) ≡ option_map (λ m. m.net.state.place) o
-      by None h = no_placement turns h.none
+      by : (o : Option (Members D G)) → MayStandSo state tells past start now turns o → placement_after (start_placement start) (inner_turns turns) ≡ option_map (λ m. m.net.state.place) o
+      by None h = subst (λ (x : Option MetaState). placement_after (start_placement x) (inner_turns turns) ≡ None) (sym h.found) (no_placement turns h.none)
       by (Some m) h = h.stands.left.place
 
   -- what is left where one stands
@@ -50,9 +51,9 @@ module _ {D : Type 0} {G : Ghosts D} (state : D → DiskState) where
 
   -- and with one more line they are tracked
   pub tracks_on : ((d : D) → IsLawfulDisk (state d)) → (old new : Cluster D G) (before after : Depot D) (asked : Request) (a : Act) (b : Answer) → asked ≡ request.One a → IsServedAct a → EachMember old.members (λ m. AreMembersOf state m.net.replicas)
-      → Serves state before old a b after new → IsLegalOver state (events_of new.members) → MayServeCluster new after.held → (tells : Bool) (first : Depot D) (turns : List Turn) → TracksTurns state tells first before turns old
-      → TracksTurns state tells first after (turns ++ record { request = asked; reply = reply.One b } ∷ []) new
-  tracks_on lawful old new before after asked a b is served are h legal may tells first turns t =
-      subst (λ (r : Request). TracksTurns state tells first after (turns ++ record { request = r; reply = reply.One b } ∷ []) new) (sym is)
-      (subst (λ (calls : List ℕ). TracksTurns state tells first after (turns ++ line_of a b ∷ []) (record { members = new.members; calls = calls })) (sym h.calls)
-      (lines_are_tracked state lawful old.members tells first before after turns old.calls a b new.members served t are (each_left tells t.tell new.members legal may.ready) (each_may after.held new.members may.owned may.ready) h.members))
+      → Serves state before old a b after new → IsLegalOver state (events_of new.members) → MayServeCluster new after.held → (tells : Bool) (past : List Record) (start : Option MetaState) (first : Depot D) (turns : List Turn) → TracksTurns state tells past start first before turns old
+      → TracksTurns state tells past start first after (turns ++ record { request = asked; reply = reply.One b } ∷ []) new
+  tracks_on lawful old new before after asked a b is served are h legal may tells past start first turns t =
+      subst (λ (r : Request). TracksTurns state tells past start first after (turns ++ record { request = r; reply = reply.One b } ∷ []) new) (sym is)
+      (subst (λ (calls : List ℕ). TracksTurns state tells past start first after (turns ++ line_of a b ∷ []) (record { members = new.members; calls = calls })) (sym h.calls)
+      (lines_are_tracked state lawful old.members tells past start first before after turns old.calls a b new.members served t are (each_left tells t.tell new.members legal may.ready) (each_may after.held new.members may.owned may.ready) h.members))

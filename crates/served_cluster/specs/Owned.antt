@@ -7,6 +7,7 @@ use Rattle.m3_outside.specs.DiskState.{DiskState}
 use Rattle.m3_outside.specs.Slots.{Held, Here}
 use Rattle.m3_outside.specs.declared.disk.Disk.{Ghosts}
 use Rattle.m3_outside.specs.declared.slot.DiskSlot.{DiskSlot}
+use Rattle.m3_model.specs.declared.rules.MetaState.{MetaState}
 use Rattle.m3_model.specs.declared.turn.Turn.{Turn}
 use Rattle.line_tracks.specs.replica_exchange.declared.member.Member.{Member}
 use Rattle.line_tracks.specs.replica_exchange.declared.slot.Slot.{Slot}
@@ -18,6 +19,7 @@ use Rattle.line_tracks.specs.node_calls.Halts.{AreManned}
 use Rattle.line_tracks.specs.first_cluster.Depots.{OwnedBy, disk_slot_of}
 use Rattle.line_tracks.specs.cluster_placements.Slots.{AreSlotsIn}
 use Rattle.line_tracks.specs.tracks.Tracks.{Tracks}
+use Rattle.line_tracks.specs.transcripts.Record.{Record}
 use Rattle.served_cluster.specs.declared.cluster.Cluster.{Cluster}
 
 -- calls may be made, and each slot has a replica
@@ -52,5 +54,5 @@ abbrev pub place_of : {D : Type 0} {G : Ghosts D} → Cluster D G → Option Pla
 place_of c = option_map (λ m. m.net.state.place) c.members
 
 -- the turns are tracked, over disks that were so when the run began and are so now
-abbrev pub TracksTurns : {D : Type 0} {G : Ghosts D} → (D → DiskState) → Bool → Depot D → Depot D → List Turn → Cluster D G → Type 0
-TracksTurns state tells first now turns c = Tracks state tells first now turns c.members c.calls
+abbrev pub TracksTurns : {D : Type 0} {G : Ghosts D} → (D → DiskState) → Bool → List Record → Option MetaState → Depot D → Depot D → List Turn → Cluster D G → Type 0
+TracksTurns state tells past start first now turns c = Tracks state tells past start first now turns c.members c.calls

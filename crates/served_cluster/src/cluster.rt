@@ -1,5 +1,6 @@
-ghost use Rattle.std.specs.Prelude.{◌≡◌, ◌≢◌, ◌<◌, ◌≤◌, [], List, Some, None, Bool, true};
+ghost use Rattle.std.specs.Prelude.{◌≡◌, ◌≢◌, ◌<◌, ◌≤◌, [], List, Option, Some, None, Bool, true};
 ghost use Rattle.std.specs.Option.{option_copied};
+ghost use Rattle.m3_model.specs.declared.rules.MetaState.{MetaState};
 ghost use Rattle.m3_model.specs.declared.turn.Turn.{Turn};
 ghost use Rattle.m3_model.specs.declared.act.Act.TheVariants as act;
 ghost use Rattle.m3_model.specs.Calls.{is_call};
@@ -12,11 +13,11 @@ ghost use Rattle.line_tracks.specs.event_trail.Trails.{IsLegalOver};
 ghost use Rattle.line_tracks.specs.replica_exchange.declared.slot.Slot.{Slot as AtSlot};
 ghost use Rattle.line_tracks.specs.replica_calls.Calls.{AreMembersOf};
 ghost use Rattle.line_tracks.specs.session_net.Ready.{IsReady};
-ghost use Rattle.line_tracks.specs.transcripts.Placements.{placement_after};
-ghost use Rattle.line_tracks.specs.transcripts.Record.{inner_turns};
-ghost use Rattle.line_tracks.specs.first_cluster.Bare.{AreBare};
+ghost use Rattle.line_tracks.specs.transcripts.Placements.{placement_after, start_placement};
+ghost use Rattle.line_tracks.specs.transcripts.Record.{Record, inner_turns};
 ghost use Rattle.line_tracks.specs.first_cluster.Depots.{RisesBy, count_at, disk_slot_of, IsForReplicas};
 ghost use Rattle.line_tracks.specs.tracks.Ends.{replica_at};
+ghost use Rattle.line_tracks.specs.tracks.Lain.{LayBare};
 ghost use Rattle.line_tracks.specs.tracks.Tracks.{events_of};
 ghost use Rattle.line_tracks.specs.tracks.Numbers.{last_number};
 ghost use Rattle.line_tracks.specs.replica_exchange.declared.call_id.CallId.{CallId as CallName};
@@ -116,7 +117,7 @@ impl<D: Disk> Cluster<D> {
     pub fn new() -> Cluster<D>
         ensures none { result.members ≡ None }
         ensures calls { result.calls ≡ first_numbers }
-        ensures tracks { (tells : Bool) (first : Depot D) → (tells ≡ true → TellAll D.state) → (tells ≡ true → AreBare D.state first.held) → TracksTurns D.state tells first first [] result }
+        ensures tracks { (tells : Bool) (past : List Record) (first : Depot D) → (tells ≡ true → TellAll D.state) → (tells ≡ true → LayBare D.state past first.held) → TracksTurns D.state tells past None first first [] result }
     {
         Cluster {
             members: None,
@@ -127,7 +128,7 @@ impl<D: Disk> Cluster<D> {
     /// The placement, from `init` on: that which the turns so far left, where they are tracked.
     pub fn place(&self) -> Option<&Placement>
         ensures stands { option_copied result ≡ place_of self.now }
-        ensures left { (tells : Bool) (first now : Depot D) (turns : List Turn) → TracksTurns D.state tells first now turns self.now → placement_after None (inner_turns turns) ≡ place_of self.now }
+        ensures left { (tells : Bool) (past : List Record) (start : Option MetaState) (first now : Depot D) (turns : List Turn) → TracksTurns D.state tells past start first now turns self.now → placement_after (start_placement start) (inner_turns turns) ≡ place_of self.now }
     {
         match &self.members {
             None => None,

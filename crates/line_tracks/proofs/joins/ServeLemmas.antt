@@ -45,6 +45,7 @@ use Rattle.line_tracks.specs.acts.Due.{BootstrapDue, IsDueNext}
 use Rattle.line_tracks.specs.acts.Opens.{IsTenureUnowned, MayOpenSlots}
 use Rattle.line_tracks.specs.acts.Settings.{LeavesNothing}
 use Rattle.line_tracks.specs.acts.Stands.{ClusterStands}
+use Rattle.line_tracks.specs.joins.Serves.{BootsServe}
 use Rattle.line_tracks.proofs.calls.ActLemmas.{damage_shown}
 use Rattle.line_tracks.proofs.acts.DueLemmas.{bootstraps_are_due}
 use Rattle.line_tracks.proofs.acts.NameLemmas.{listed_where}
@@ -61,7 +62,7 @@ use Rattle.join_bounds.specs.Bounds.{AreFew}
 use Rattle.join_bounds.proofs.FewLemmas.{held_up_few, joins_few, missed_few, part_few, unmarked_few}
 use Rattle.cluster_placements.specs.Steps.{kept_in}
 use Rattle.cluster_joins.specs.Boots.{IsBooted, IsEndedBy}
-use Rattle.line_tracks.specs.joins.Serves.{BootsServe, OpensAsLeft}
+use Rattle.life_ends.specs.Runs.{OpensAsLeft}
 use Rattle.line_tracks.proofs.joins.CameLemmas.{begins_by, came_there, joins_begin}
 
 module _ {D : Type 0} {G : Ghosts D} (state : D → DiskState) (old : Members D G) (tells : Bool) (past : List Record) (start : Option MetaState) (turns : List Turn) (unanswered later : Option Request) (taking : List Fault) (was : TurnPosition → List LateMessage) (name : List ℕ) (asked : Option ℕ)

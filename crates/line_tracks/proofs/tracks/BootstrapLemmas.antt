@@ -12,7 +12,8 @@ use Rattle.m3_outside.specs.DiskState.{DiskState, IsLawfulDisk}
 use Rattle.m3_outside.specs.declared.disk.Disk.{Ghosts}
 use Rattle.placement_plan.specs.Plans.{IsAvailable}
 use Rattle.cluster_core.specs.declared.event.Event.{Event}
-use Rattle.transcripts.specs.Record.{line_of}
+use Rattle.cluster_core.specs.Legal.{Legal}
+use Rattle.transcripts.specs.Record.{Record, line_of}
 use Rattle.node_calls.specs.session_net.Runs.{Ran}
 use Rattle.node_calls.specs.cluster_members.declared.members.Members.{Members}
 use Rattle.first_cluster.specs.Slots.{AreApart}
@@ -20,20 +21,21 @@ use Rattle.told_runs.specs.Lines.{delivered_on}
 use Rattle.node_calls.proofs.session_net_proofs.RunLemmas.{ran_nothing}
 use Rattle.line_tracks.proofs.calls.ServeLemmas.{delivered_so}
 use Rattle.told_runs.proofs.OrderLemmas.{in_order}
-use Rattle.line_tracks.specs.joins.Serves.{OpensAsLeft}
+use Rattle.life_ends.specs.Runs.{OpensAsLeft}
 use Rattle.told_joins.specs.Lines.{Leaves, joined_of}
 use Rattle.cluster_joins.specs.Boots.{IsBooted, IsEndedBy}
 use Rattle.line_tracks.proofs.joins.ServeLemmas.{bootstraps_serve}
 use Rattle.line_tracks.proofs.joins.StandLemmas.{bootstraps_stand}
 use Rattle.line_tracks.specs.tracks.Lines.{BootstrapsAreTracked, IsLeft, MayGoOn}
 use Rattle.line_tracks.specs.tracks.Numbers.{numbers_by}
-use Rattle.line_tracks.specs.tracks.Runs.{HaveRun, no_points}
+use Rattle.line_tracks.specs.tracks.Runs.{HaveRun}
 use Rattle.line_tracks.specs.tracks.Tracks.{HasTenures, StandsSo, Tracks}
 use Rattle.line_tracks.proofs.tracks.NodeLemmas.{may_begin}
 use Rattle.line_tracks.proofs.tracks.NumberLemmas.{numbers_stay}
-use Rattle.line_tracks.proofs.tracks.OpenLemmas.{run_opens_empty}
 use Rattle.line_tracks.proofs.tracks.PlacementLemmas.{low_then, tenures_over}
 use Rattle.line_tracks.proofs.tracks.RunLemmas.{run_goes_on}
+use Rattle.line_tracks.proofs.tracks.OpenLemmas.{run_opens_as_left}
+use Rattle.line_tracks.proofs.tracks.StepLemmas.{still_on}
 
 -- ---- what it leaves, whatever it is answered
 
@@ -84,39 +86,35 @@ tenures_kept place next (inr (done, over)) was = tenures_over place next done ov
 
 -- ---- the line
 
-module _ {D : Type 0} {G : Ghosts D} (state : D → DiskState) (lawful : (d : D) → IsLawfulDisk (state d)) (m : Members D G) (tells : Bool) (first now : Depot D) (turns : List Turn) (calls : List ℕ) (go : MayGoOn state tells first now turns calls m)
+module _ {D : Type 0} {G : Ghosts D} (state : D → DiskState) (lawful : (d : D) → IsLawfulDisk (state d)) (m : Members D G) (tells : Bool) (past : List Record) (start : Option MetaState) (first now : Depot D) (turns : List Turn) (calls : List ℕ) (go : MayGoOn state tells past start first now turns calls m)
     (name : List ℕ) (asked : Option ℕ) (b : Answer) (g : Members D G) (left : IsLeft tells g) (did : IsBooted state m name asked b g) where
   abbrev longer : List Turn
   longer = turns ++ line_of (act.Bootstrap name asked) b ∷ []
 
-  abbrev t : Tracks state tells first now turns (Some m) calls
+  abbrev t : Tracks state tells past start first now turns (Some m) calls
   t = go.tracks
 
-  abbrev so : StandsSo state tells now turns m
+  abbrev so : StandsSo state tells past start now turns m
   so = go.tracks.after
 
   keeps : KeepsBut state m g
   keeps = keeps_so state m g name asked b did
 
-  run : HaveRun state tells now g.net.replicas
-  run = run_goes_on state m.net.replicas tells now g.net.replicas keeps.more so.run keeps.ran keeps.ran.only
+  run : HaveRun state so.lay now g.net.replicas
+  run = run_goes_on state m.net.replicas so.lay now g.net.replicas keeps.more so.run keeps.ran keeps.ran.only
 
-  tenures : HasTenures g.net.state.place
-  tenures = tenures_kept m.net.state.place g.net.state.place keeps.place so.tenures
+  tenures : start ≡ None → HasTenures g.net.state.place
+  tenures none = tenures_kept m.net.state.place g.net.state.place keeps.place (so.tenures none)
 
-  -- where the disks tell, replicas of a first run begin with no points
-  opens : tells ≡ true → OpensAsLeft [] None g.net.replicas.events
-  opens e = record {
-    opening = no_points;
-    agrees = run_opens_empty state g.net.replicas now (t.tell e) (subst (λ (x : Bool). HaveRun state x now g.net.replicas) e run);
-    stands = record { acked = λ turn turns_of nodes i. absurd turns_of; sent = λ n s point i. absurd i };
-  }
+  -- where the disks tell, replicas begin with what earlier runs left
+  opens : tells ≡ true → OpensAsLeft past start g.net.replicas.events
+  opens e = run_opens_as_left state lawful g.net.replicas past start so.lay now (t.tell e) (so.lain e) run (subst (λ (x : Bool). Legal x g.net.replicas.events) e left.legal)
 
-  tracked : Tracks state tells first now longer (Some g) (numbers_by (act.Bootstrap name asked) b calls)
+  tracked : Tracks state tells past start first now longer (Some g) (numbers_by (act.Bootstrap name asked) b calls)
   tracked =
-      let served = bootstraps_serve state m tells [] None turns None None t.taking t.delivered name asked b g t.served t.were so.stands (may_begin state m tells first now turns calls go lawful) left.legal opens did in
-      let stands = bootstraps_stand state m None turns name asked b g so.stands left.ready did in
-      let order = in_order t.taking None longer g.net.replicas.events left.legal served.0 (served.1.answers).each served.1.order in
+      let served = bootstraps_serve state m tells past start turns None None t.taking t.delivered name asked b g t.served t.were so.stands (may_begin state m tells past start first now turns calls go lawful) left.legal opens did in
+      let stands = bootstraps_stand state m start turns name asked b g so.stands left.ready did in
+      let order = in_order t.taking start longer g.net.replicas.events left.legal served.0 (served.1.answers).each served.1.order in
       record {
         tell = t.tell;
         legal = left.legal;
@@ -129,13 +127,15 @@ module _ {D : Type 0} {G : Ghosts D} (state : D → DiskState) (lawful : (d : D)
         later = t.later;
         after = record {
           stands = stands;
+          lay = so.lay;
+          lain = so.lain;
           run = run;
+          still = still_on state so.lay m.net.replicas g.net.replicas now.held keeps.more keeps.ran so.still;
           apart = subst AreApart (sym keeps.slots) so.apart;
-          low = low_then state tells now longer g left.legal served.0 order run stands.ready.place tenures;
+          low = low_then state tells past start now longer g left.legal served.0 order so.lay so.lain run stands.ready.place tenures;
           tenures = tenures;
-          bare = so.bare;
         };
       }
 
 pub bootstraps_are_tracked : {D : Type 0} {G : Ghosts D} (state : D → DiskState) → ((d : D) → IsLawfulDisk (state d)) → (m : Members D G) → BootstrapsAreTracked state m
-bootstraps_are_tracked state lawful m name asked tells first now turns calls b g go left did = tracked state lawful m tells first now turns calls go name asked b g left did
+bootstraps_are_tracked state lawful m name asked tells past start first now turns calls b g go left did = tracked state lawful m tells past start first now turns calls go name asked b g left did

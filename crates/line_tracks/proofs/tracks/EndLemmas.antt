@@ -11,6 +11,7 @@ use Rattle.m3_model.specs.declared.reason.Damage.{Damage}
 use Rattle.m3_model.specs.declared.reason.Reason.TheVariants as reason
 use Rattle.m3_model.specs.declared.turn.Request.{Request}
 use Rattle.m3_model.specs.declared.turn.Turn.{Turn}
+use Rattle.m3_model.specs.declared.rules.MetaState.{MetaState}
 use Rattle.m3_outside.specs.Causes.{RoseBy, last_count}
 use Rattle.m3_outside.specs.Depots.{Depot, TellAll}
 use Rattle.m3_outside.specs.DiskState.{DiskState, IsLawfulDisk}
@@ -21,6 +22,7 @@ use Rattle.cluster_core.specs.declared.event.Event.{Event}
 use Rattle.cluster_core.specs.declared.event.Event.TheVariants as event
 use Rattle.cluster_core.specs.declared.event.StepCall.{StepCall}
 use Rattle.cluster_core.specs.declared.event.StepReply.TheVariants as reply
+use Rattle.cluster_core.specs.Legal.{Legal}
 use Rattle.told_runs.proofs.told_by_proofs.KeptLemmas.{told_kept}
 use Rattle.told_runs.specs.told_causes.Faults.{fault_of, faults_told, tells_of}
 use Rattle.told_runs.proofs.told_causes_proofs.FaultLemmas.{count_append, faults_steps}
@@ -30,7 +32,7 @@ use Rattle.told_runs.proofs.JoinedLemmas.{run_joined}
 use Rattle.told_runs.proofs.CountedLemmas.{few, of_run}
 use Rattle.transcripts.specs.Caused.{Caused}
 use Rattle.transcripts.specs.Faults.{Fault, FaultKind, Taking, Failing, Damaged, is_failing, is_taking}
-use Rattle.transcripts.specs.Record.{TurnPosition, IsTurnPosition}
+use Rattle.transcripts.specs.Record.{TurnPosition, IsTurnPosition, Record}
 use Rattle.node_calls.specs.replica_exchange.declared.member.Member.{Member}
 use Rattle.node_calls.specs.replica_exchange.declared.slot.Slot.{Slot}
 use Rattle.node_calls.specs.replica_calls.Slots.{MemberMap}
@@ -39,13 +41,15 @@ use Rattle.node_calls.specs.cluster_members.declared.members.Members.{Members}
 use Rattle.first_cluster.specs.Depots.{count_at, disk_slot_of, risen}
 use Rattle.line_tracks.specs.tracks.Ends.{AreGivenBack, CausedWhereTracked, JoinedWhereTracked, KeptWhereTracked, ShownWhereTracked, is_failed_at, is_fault}
 use Rattle.line_tracks.specs.tracks.Failures.{failures_in}
-use Rattle.line_tracks.specs.tracks.Runs.{HasNoDamage, RoseByFailures, no_points}
+use Rattle.line_tracks.specs.tracks.Runs.{HasNoDamage, RoseByFailures}
 use Rattle.line_tracks.proofs.tracks.DamageLemmas.{run_finds_no_damage}
+use Rattle.life_ends.specs.Runs.{OpensAsLeft}
 use Rattle.cluster_core.proofs.ListLemmas.{at_in}
 use Rattle.line_tracks.specs.tracks.Tracks.{MayStandSo, StandsSo, Tracks, events_of, faults_of}
+use Rattle.line_tracks.specs.tracks.Lain.{no_points}
 use Rattle.line_tracks.proofs.tracks.FailureLemmas.{failures_append, steps_append}
-use Rattle.line_tracks.proofs.tracks.OpenLemmas.{run_opens_empty}
 use Rattle.line_tracks.proofs.tracks.RunLemmas.{run_is_counted}
+use Rattle.line_tracks.proofs.tracks.OpenLemmas.{run_opens_as_left}
 
 -- a position in these turns is one in more of them
 position_longer : (turns more : List Turn) (p : TurnPosition) → IsTurnPosition turns p → IsTurnPosition (turns ++ more) p
@@ -56,8 +60,8 @@ position_longer turns more p at = record { after = at.after ++ more; in_run = ap
 none_agrees : AgreesWith [] no_points
 none_agrees i n s tenure fence points there none = cc
 
-caused_front : (tells : Bool) (turns more : List Turn) (unanswered : Option Request) (faults : List Fault) → Caused tells (life_of [] None (turns ++ more) None) faults → Caused tells (life_of [] None turns unanswered) faults
-caused_front tells turns more unanswered faults c = record {
+caused_front : (tells : Bool) (past : List Record) (start : Option MetaState) (turns more : List Turn) (unanswered : Option Request) (faults : List Fault) → Caused tells (life_of past start (turns ++ more) None) faults → Caused tells (life_of past start turns unanswered) faults
+caused_front tells past start turns more unanswered faults c = record {
   different = c.different;
   delivered = c.delivered;
   each = λ p at. c.each p (position_longer turns more p at);
@@ -66,25 +70,25 @@ caused_front tells turns more unanswered faults c = record {
 }
 
 module _ {D : Type 0} {G : Ghosts D} (state : D → DiskState) where
-  agrees : (members : Option (Members D G)) (now : Depot D) (turns : List Turn) → TellAll state → MayStandSo state true now turns members → AgreesWith (events_of members) no_points
-  agrees None now turns tell h = none_agrees
-  agrees (Some m) now turns tell h = run_opens_empty state m.net.replicas now tell h.run
+  opens : ((d : D) → IsLawfulDisk (state d)) → (past : List Record) (start : Option MetaState) (members : Option (Members D G)) (now : Depot D) (turns : List Turn) → TellAll state → Legal true (events_of members) → MayStandSo state true past start now turns members → OpensAsLeft past start (events_of members)
+  opens lawful past start None now turns tell legal h = subst (λ (x : Option MetaState). OpensAsLeft past x []) (sym h.found) (record { opening = no_points; agrees = none_agrees; stands = (h.lain refl).stand })
+  opens lawful past start (Some m) now turns tell legal h = run_opens_as_left state lawful m.net.replicas past start h.lay now tell (h.lain refl) h.run legal
 
-  pub kept_where_tracked : (members : Option (Members D G)) → KeptWhereTracked state members
-  kept_where_tracked members first now turns more calls unanswered t p at =
-      told_kept (life_of [] None (turns ++ more) None) (events_of members) no_points t.legal (agrees members now (turns ++ more) (t.tell refl) t.after) (record { acked = λ turn m nodes e. absurd m; sent = λ n s point m. absurd m }) t.served.0
-      p (position_longer turns more p at)
+  pub kept_where_tracked : ((d : D) → IsLawfulDisk (state d)) → (members : Option (Members D G)) → KeptWhereTracked state members
+  kept_where_tracked lawful members past start first now turns more calls unanswered t p at =
+      let left = opens lawful past start members now (turns ++ more) (t.tell refl) t.legal t.after in
+      told_kept (life_of past start (turns ++ more) None) (events_of members) left.opening t.legal left.agrees left.stands t.served.0 p (position_longer turns more p at)
 
   -- ---- caused
 
   pub caused_where_tracked : (members : Option (Members D G)) → CausedWhereTracked state members
-  caused_where_tracked members tells first now turns more calls unanswered t =
-      caused_front tells turns more unanswered (faults_of t) (told_caused (life_of [] None (turns ++ more) None) (events_of members) t.legal t.served.0 t.taking t.delivered t.served.1)
+  caused_where_tracked members tells past start first now turns more calls unanswered t =
+      caused_front tells past start turns more unanswered (faults_of t) (told_caused (life_of past start (turns ++ more) None) (events_of members) t.legal t.served.0 t.taking t.delivered t.served.1)
 
   -- ---- joined
 
   pub joined_where_tracked : (members : Option (Members D G)) → JoinedWhereTracked state members
-  joined_where_tracked members tells first now turns calls unanswered t = run_joined {tells = tells} (life_of [] None turns None) (events_of members) t.legal t.served.0 t.taking t.delivered t.served.1
+  joined_where_tracked members tells past start first now turns calls unanswered t = run_joined {tells = tells} (life_of past start turns None) (events_of members) t.legal t.served.0 t.taking t.delivered t.served.1
 
 -- ---- counts of faults
 
@@ -181,16 +185,16 @@ rose_by : (n before now : ℕ) → RoseBy n before now → now < last_count → 
 rose_by n before now rose low = omega arith
 
 module _ {D : Type 0} {G : Ghosts D} (state : D → DiskState) where
-  shown_at : (tells : Bool) (first now : Depot D) (turns : List Turn) (members : Option (Members D G)) (all : ℕ) (of_disk : DiskSlot → ℕ) → MayStandSo state tells now turns members → AreGivenBack state now members all of_disk
+  shown_at : (tells : Bool) (past : List Record) (start : Option MetaState) (first now : Depot D) (turns : List Turn) (members : Option (Members D G)) (all : ℕ) (of_disk : DiskSlot → ℕ) → MayStandSo state tells past start now turns members → AreGivenBack state now members all of_disk
       → (disk_slot : DiskSlot) → first.counted disk_slot ≤ now.counted disk_slot → (n : ℕ) → n ≤ failures_in (steps_of (slot_at disk_slot.node disk_slot.shard) (events_of members)) → RoseBy n (first.counted disk_slot) (of_disk disk_slot)
-  shown_at tells first now turns None all of_disk h back disk_slot later n few = rose_still n 0 (first.counted disk_slot) (now.counted disk_slot) (of_disk disk_slot) few refl later (back.counted (slot_at disk_slot.node disk_slot.shard))
-  shown_at tells first now turns (Some m) all of_disk h back disk_slot later n few = by (finite.get m.net.replicas.members slot) refl
+  shown_at tells past start first now turns None all of_disk h back disk_slot later n few = rose_still n 0 (first.counted disk_slot) (now.counted disk_slot) (of_disk disk_slot) few refl later (back.counted (slot_at disk_slot.node disk_slot.shard))
+  shown_at tells past start first now turns (Some m) all of_disk h back disk_slot later n few = by (finite.get m.net.replicas.members slot) refl
     where
       slot : Slot
       slot = slot_at disk_slot.node disk_slot.shard
 
       rose : RoseByFailures state now m.net.replicas
-      rose = (run_is_counted state m.net.replicas tells now h.run).1
+      rose = (run_is_counted state m.net.replicas h.lay now h.run).1
 
       by : (o : Option (Member D)) → finite.get m.net.replicas.members (slot_at disk_slot.node disk_slot.shard) ≡ o → RoseBy n (first.counted disk_slot) (of_disk disk_slot)
       by None none =
@@ -253,9 +257,9 @@ module _ {D : Type 0} (state : D → DiskState) (depot : Depot D) (members : Mem
   risen_all [] each = omega arith
   risen_all (s ∷ slots) each = omega (arith, each s, risen_all slots each)
 
-module _ {D : Type 0} {G : Ghosts D} (state : D → DiskState) (tells : Bool) (now : Depot D) (turns : List Turn) (m : Members D G) (h : StandsSo state tells now turns m) (all : ℕ) (of_disk : DiskSlot → ℕ) (back : AreGivenBack state now (Some m) all of_disk) where
+module _ {D : Type 0} {G : Ghosts D} (state : D → DiskState) (tells : Bool) (past : List Record) (start : Option MetaState) (now : Depot D) (turns : List Turn) (m : Members D G) (h : StandsSo state tells past start now turns m) (all : ℕ) (of_disk : DiskSlot → ℕ) (back : AreGivenBack state now (Some m) all of_disk) where
   abbrev rise : RoseByFailures state now m.net.replicas
-  rise = (run_is_counted state m.net.replicas tells now h.run).1
+  rise = (run_is_counted state m.net.replicas h.lay now h.run).1
 
   -- the failures are of the cluster's slots
   of_slots : AreOf m.slots.items m.net.replicas.events
@@ -288,35 +292,35 @@ module _ {D : Type 0} {G : Ghosts D} (state : D → DiskState) (tells : Bool) (n
       sum before told at_all rise all first next rose low = omega arith
 
 module _ {D : Type 0} {G : Ghosts D} (state : D → DiskState) where
-  told_by_all : (tells : Bool) (now : Depot D) (turns : List Turn) (members : Option (Members D G)) → MayStandSo state tells now turns members → (all : ℕ) (of_disk : DiskSlot → ℕ) → AreGivenBack state now members all of_disk
+  told_by_all : (tells : Bool) (past : List Record) (start : Option MetaState) (now : Depot D) (turns : List Turn) (members : Option (Members D G)) → MayStandSo state tells past start now turns members → (all : ℕ) (of_disk : DiskSlot → ℕ) → AreGivenBack state now members all of_disk
       → all < last_count → ((disk_slot : DiskSlot) → of_disk disk_slot < last_count) → now.faults + count_by (tells_of failing) (events_of members) ≤ all
-  told_by_all tells now turns None h all of_disk back low each = let later = back.later in omega (arith, later)
-  told_by_all tells now turns (Some m) h all of_disk back low each = all_of state tells now turns m h all of_disk back low each
+  told_by_all tells past start now turns None h all of_disk back low each = let later = back.later in omega (arith, later)
+  told_by_all tells past start now turns (Some m) h all of_disk back low each = all_of state tells past start now turns m h all of_disk back low each
 
-  none_damaged : ((d : D) → IsLawfulDisk (state d)) → (members : Option (Members D G)) (now : Depot D) (turns : List Turn) → TellAll state → MayStandSo state true now turns members → HasNoDamage (events_of members)
-  none_damaged lawful None now turns tell h = λ n s c damage i. i
-  none_damaged lawful (Some m) now turns tell h = run_finds_no_damage state lawful m.net.replicas now tell h.run
+  none_damaged : ((d : D) → IsLawfulDisk (state d)) → (past : List Record) (start : Option MetaState) (members : Option (Members D G)) (now : Depot D) (turns : List Turn) → TellAll state → MayStandSo state true past start now turns members → HasNoDamage (events_of members)
+  none_damaged lawful past start None now turns tell h = λ n s c damage i. i
+  none_damaged lawful past start (Some m) now turns tell h = run_finds_no_damage state lawful m.net.replicas past start h.lay now tell (h.lain refl) h.run
 
-  undamaged_all : ((d : D) → IsLawfulDisk (state d)) → (tells : Bool) (first now : Depot D) (turns : List Turn) (members : Option (Members D G)) (calls : List ℕ) (t : Tracks state tells first now turns members calls) → tells ≡ true → (f : Fault) → IsIn (faults_of t) f → ¬ (f.kind ≡ Damaged)
-  undamaged_all lawful tells first now turns members calls t e f i kind =
+  undamaged_all : ((d : D) → IsLawfulDisk (state d)) → (tells : Bool) (past : List Record) (start : Option MetaState) (first now : Depot D) (turns : List Turn) (members : Option (Members D G)) (calls : List ℕ) (t : Tracks state tells past start first now turns members calls) → tells ≡ true → (f : Fault) → IsIn (faults_of t) f → ¬ (f.kind ≡ Damaged)
+  undamaged_all lawful tells past start first now turns members calls t e f i kind =
       elim (IsIn-append_cases t.taking (faults_told (t.served.0).ends (events_of members) (length turns)) f i) as (λ _. ⊥) [
         | inl untaken ↦ (let clash : Taking ≡ Damaged = sym (((t.served.1).answers).untaken f untaken).0 ∙ kind in cc)
-        | inr told ↦ undamaged_told (t.served.0).ends (events_of members) (length turns) (none_damaged lawful members now turns (t.tell e) (subst (λ b. MayStandSo state b now turns members) e t.after)) f told kind
+        | inr told ↦ undamaged_told (t.served.0).ends (events_of members) (length turns) (none_damaged lawful past start members now turns (t.tell e) (subst (λ b. MayStandSo state b past start now turns members) e t.after)) f told kind
       ]
 
   pub shown_where_tracked : ((d : D) → IsLawfulDisk (state d)) → (members : Option (Members D G)) → ShownWhereTracked state members
-  shown_where_tracked lawful members tells first now turns calls all of_disk t back = record {
-    undamaged = undamaged_all lawful tells first now turns members calls t;
-    of_lines = of_run (life_of [] None turns None) (events_of members) t.served.0 t.taking t.delivered t.served.1;
+  shown_where_tracked lawful members tells past start first now turns calls all of_disk t back = record {
+    undamaged = undamaged_all lawful tells past start first now turns members calls t;
+    of_lines = of_run (life_of past start turns None) (events_of members) t.served.0 t.taking t.delivered t.served.1;
     of_taking = taken first.faults now.faults all (length t.taking) (count_by (λ f. is_taking f.kind) (faults_of t)) t.untaken back.later (taken_few t.taking (t.served.0).ends (events_of members) (length turns));
-    of_disks = λ disk_slot. shown_at state tells first now turns members all of_disk t.after back disk_slot (t.later disk_slot) (count_by (is_failed_at disk_slot) (faults_of t))
+    of_disks = λ disk_slot. shown_at state tells past start first now turns members all of_disk t.after back disk_slot (t.later disk_slot) (count_by (is_failed_at disk_slot) (faults_of t))
         (subst (λ n. count_by (is_failed_at disk_slot) (faults_of t) ≤ n) (at_slot disk_slot (events_of members))
-        (few (life_of [] None turns None) (events_of members) t.served.0 t.taking t.delivered t.served.1 (is_failed_at disk_slot) (λ f. refl) (λ f is. ap (λ k. is_failing k && (nat_eq f.node disk_slot.node && nat_eq f.shard disk_slot.shard)) is)));
+        (few (life_of past start turns None) (events_of members) t.served.0 t.taking t.delivered t.served.1 (is_failed_at disk_slot) (λ f. refl) (λ f is. ap (λ k. is_failing k && (nat_eq f.node disk_slot.node && nat_eq f.shard disk_slot.shard)) is)));
     of_all = λ low each.
         whole first.faults now.faults all (length t.taking) (count_by (λ f. is_taking f.kind) (faults_of t)) (count_by failing (faults_of t)) (count_by is_fault (faults_of t)) (count_by (tells_of failing) (events_of members)) t.untaken
         (taken_few t.taking (t.served.0).ends (events_of members) (length turns))
-        (few (life_of [] None turns None) (events_of members) t.served.0 t.taking t.delivered t.served.1 failing (λ f. refl) (λ f is. ap is_failing is))
-        (faults_sum (faults_of t)) (told_by_all tells now turns members t.after all of_disk back low each) low;
+        (few (life_of past start turns None) (events_of members) t.served.0 t.taking t.delivered t.served.1 failing (λ f. refl) (λ f is. ap is_failing is))
+        (faults_sum (faults_of t)) (told_by_all tells past start now turns members t.after all of_disk back low each) low;
   }
     where
       taken : (before mid all many n : ℕ) → RoseBy many before mid → mid ≤ all → n ≤ many → RoseBy n before all

@@ -3,7 +3,6 @@ use Rattle.std.proofs.Common.{◌≡◌, ◌+◌, ℕ, zero, suc, List, [], ◌�
 use Rattle.std.specs.Prelude.{Some, None}
 use Rattle.std.specs.FinMap as finite
 use Rattle.std.proofs.lemmas.Option.{same_Some}
-use Rattle.m3_model.specs.Members.{IsIn}
 use Rattle.m3_model.specs.declared.act.Act.TheVariants as act
 use Rattle.m3_model.specs.declared.answer.Answer.TheVariants as answer
 use Rattle.m3_model.specs.declared.placement.Assignment.{Assignment}
@@ -25,9 +24,8 @@ use Rattle.cluster_core.proofs.ListLemmas.{at_in, in_at}
 use Rattle.node_calls.specs.replica_exchange.declared.member.Member.{Member}
 use Rattle.node_calls.specs.replica_exchange.declared.slot.Slot.{Slot}
 use Rattle.node_calls.specs.replica_calls.Calls.{first_member}
-use Rattle.node_calls.specs.session_net.Runs.{slot_at, steps_of}
+use Rattle.node_calls.specs.session_net.Runs.{steps_of}
 use Rattle.node_calls.specs.cluster_members.declared.members.Members.{Members}
-use Rattle.first_cluster.specs.Bare.{AreBare, IsBare}
 use Rattle.first_cluster.specs.Begins.{begins_of}
 use Rattle.first_cluster.specs.Depots.{disk_slot_of}
 use Rattle.first_cluster.specs.First.{IsFirst}
@@ -36,7 +34,7 @@ use Rattle.first_cluster.proofs.BareLemmas.{given_bare}
 use Rattle.first_cluster.proofs.PlacedSlots.{from_start, tenure_first}
 use Rattle.first_cluster.proofs.SlotLists.{in_or_out, slots_apart}
 use Rattle.told_runs.specs.told_by.Makes.{IsAssigned}
-use Rattle.transcripts.specs.Record.{line_of}
+use Rattle.transcripts.specs.Record.{Record, line_of}
 use Rattle.line_tracks.specs.acts.Stands.{NoneStands, ClusterStands}
 use Rattle.line_tracks.specs.acts.Opens.{IsGivenNow, IsLow, OpensLow}
 use Rattle.line_tracks.proofs.acts.BeginEvents.{step_among}
@@ -44,6 +42,7 @@ use Rattle.line_tracks.proofs.acts.InitStands.{first_stands}
 use Rattle.line_tracks.specs.tracks.Runs.{HasRun, HaveRun, IsMadeOver}
 use Rattle.line_tracks.specs.tracks.Steps.{FirstStandsSo}
 use Rattle.line_tracks.specs.tracks.Tracks.{HasTenures}
+use Rattle.line_tracks.specs.tracks.Lain.{AreStillThere, IsStillThere, LayBare}
 use Rattle.line_tracks.proofs.tracks.FailureLemmas.{stepped_from, stepped_none}
 use Rattle.told_runs.proofs.told_moves_proofs.SlotLemmas.{Tries, tried_began}
 
@@ -54,7 +53,7 @@ first_unstepped state rf shards seed nodes old now m first s nobody =
     ap (steps_of s) begun.ran.grew
     ∙ begun.ran.only s (stepped_none state (steps_of s (begins_of begun.said (starts_of m.net.state.place))) (finite.get first.opened.made s) (finite.get m.net.replicas.members s) (begun.ran.stepped s) nobody)
 
-module _ {D : Type 0} {G : Ghosts D} (state : D → DiskState) (m : Members D G) (tells : Bool) (turns : List Turn) (rf shards seed : ℕ) (nodes : List (List ℕ × List ℕ)) (old now : Depot D) (bare : tells ≡ true → AreBare state old.held) (none : NoneStands turns)
+module _ {D : Type 0} {G : Ghosts D} (state : D → DiskState) (m : Members D G) (tells : Bool) (past : List Record) (turns : List Turn) (rf shards seed : ℕ) (nodes : List (List ℕ × List ℕ)) (old now : Depot D) (lain : tells ≡ true → LayBare state past old.held) (none : NoneStands turns)
     (first : IsFirst state rf shards seed nodes old now m) (legal : Legal tells m.net.replicas.events) where
   abbrev place : Placement
   place = m.net.state.place
@@ -79,16 +78,16 @@ module _ {D : Type 0} {G : Ghosts D} (state : D → DiskState) (m : Members D G)
 
   -- ---- what the replicas did
 
-  each_made : (s : Slot) (r : Member D) → finite.get first.opened.made s ≡ Some r → IsMadeOver state tells now s r
-  each_made s r is = elim (in_or_out m.slots.items s) as (λ _. IsMadeOver state tells now s r) [
+  each_made : (s : Slot) (r : Member D) → finite.get first.opened.made s ≡ Some r → IsMadeOver state old.held now s r
+  each_made s r is = elim (in_or_out m.slots.items s) as (λ _. IsMadeOver state old.held now s r) [
     | inl i ↦
         (let t = first.opened.taken.taken s i in
         let same : first_member t.disk ≡ r = same_Some (first_member t.disk) r (sym t.stands ∙ is) in
-        record { disk = t.disk; is_first = sym same; counted = t.disk_faults ∙ sym t.counted; bare = λ e. given_bare state (old.held (disk_slot_of s)) t.disk (bare e (disk_slot_of s)) t.given })
+        record { disk = t.disk; is_first = sym same; counted = t.disk_faults ∙ sym t.counted; given = t.given })
     | inr out ↦ (let clash : None ≡ Some r = sym (first.opened.taken.others s out).no_member ∙ is in cc)
   ]
 
-  run : HaveRun state tells now m.net.replicas
+  run : HaveRun state old.held now m.net.replicas
   run = record {
     place = place;
     rules = m.net.state.rules;
@@ -96,7 +95,7 @@ module _ {D : Type 0} {G : Ghosts D} (state : D → DiskState) (m : Members D G)
     opened = list_is;
     each = λ s r is.
         let from = stepped_from state (steps_of s begins) (finite.get first.opened.made s) (finite.get m.net.replicas.members s) r (first.opened.begun.ran.stepped s) is in
-        subst (λ es. HasRun state tells now s (steps_of s es) r) (sym list_is) (record { made = from.before; over = each_made s from.before from.was; stepped = (r, refl, from.first, from.takes) });
+        subst (λ es. HasRun state old.held now s (steps_of s es) r) (sym list_is) (record { made = from.before; over = each_made s from.before from.was; stepped = (r, refl, from.first, from.takes) });
     others = first_unstepped state rf shards seed nodes old now m first;
   }
 
@@ -126,7 +125,7 @@ module _ {D : Type 0} {G : Ghosts D} (state : D → DiskState) (m : Members D G)
         let made = each_made s from.before from.was in
         let disk : (r.first).value ≡ made.disk = ap (λ f. f.value) from.first ∙ ap (λ (x : Member D). (x.first).value) made.is_first in
         subst (λ d. EachImage (state d) (IsLow None tenure)) (sym disk) (λ told c image.
-        let b = made.bare e told c image in
+        let b = given_bare state (old.held (disk_slot_of s)) made.disk ((lain e).bare (disk_slot_of s)) made.given told c image in
         let one = given_one s.node s.shard tenure g in
         let order = b.order in
         let fence = b.first in
@@ -147,20 +146,24 @@ module _ {D : Type 0} {G : Ghosts D} (state : D → DiskState) (m : Members D G)
       let one = tenure_first place rf shards nodes first.place (start_at (0 + at.0) a) (from_start 0 place.shards at.0 shard a at.1 among) in
       omega (arith, one)
 
-  still_bare : tells ≡ true → AreBare state now.held
-  still_bare e disk_slot =
-      let s : Slot = slot_at disk_slot.node disk_slot.shard in
-      elim (in_or_out m.slots.items s) as (λ _. IsBare state (now.held disk_slot)) [
-        | inl i ↦ subst (IsBare state) (sym (first.opened.taken.taken s i).held) tt
-        | inr out ↦ subst (IsBare state) (sym (first.opened.taken.others s out).held) (bare e disk_slot)
-      ]
+  still : AreStillThere state old.held m.net.replicas.members now.held
+  still s nobody = elim (in_or_out m.slots.items s) as (λ _. IsStillThere state (old.held (disk_slot_of s)) (now.held (disk_slot_of s))) [
+    | inl i ↦
+        (let gone = stepped_none state (steps_of s begins) (finite.get first.opened.made s) (finite.get m.net.replicas.members s) (first.opened.begun.ran.stepped s) nobody in
+        let t = first.opened.taken.taken s i in
+        let clash : None ≡ Some (first_member t.disk) = sym gone ∙ t.stands in
+        cc)
+    | inr out ↦ inl (first.opened.taken.others s out).held
+  ]
 
 pub first_stands_so : {D : Type 0} {G : Ghosts D} (state : D → DiskState) (m : Members D G) → FirstStandsSo state m
-first_stands_so {D} {G} state m tells turns rf shards seed nodes old now tell bare none first legal = record {
-  stands = stands state m tells turns rf shards seed nodes old now bare none first legal;
-  run = run state m tells turns rf shards seed nodes old now bare none first legal;
+first_stands_so {D} {G} state m tells past turns rf shards seed nodes old now tell lain none first legal = record {
+  stands = stands state m tells past turns rf shards seed nodes old now lain none first legal;
+  run = run state m tells past turns rf shards seed nodes old now lain none first legal;
   apart = subst AreApart (sym first.slots) (slots_apart m.net.state.place first.lawful);
-  low = low state m tells turns rf shards seed nodes old now bare none first legal;
-  tenures = tenures state m tells turns rf shards seed nodes old now bare none first legal;
-  bare = still_bare state m tells turns rf shards seed nodes old now bare none first legal;
+  low = low state m tells past turns rf shards seed nodes old now lain none first legal;
+  lay = old.held;
+  lain = lain;
+  tenures = λ _. tenures state m tells past turns rf shards seed nodes old now lain none first legal;
+  still = still state m tells past turns rf shards seed nodes old now lain none first legal;
 }

@@ -1,10 +1,8 @@
 -- A call may go by each placement that a cluster keeps.
-use Rattle.std.proofs.Common.{◌≡◌, ◌<◌, ℕ, List, [], ◌++◌, length, refl, sym, ap, ◌∙◌, subst, arith, inl, inr, Bool}
-use Rattle.std.specs.Prelude.{Option, Some, None, slice_get}
-use Rattle.m3_model.specs.Members.{IsIn}
+use Rattle.std.proofs.Common.{◌≡◌, ◌<◌, ℕ, List, [], ◌++◌, length, sym, ap, ◌∙◌, subst, arith, inl, inr}
+use Rattle.std.specs.Prelude.{Option, Some, None}
 use Rattle.m3_model.specs.declared.act.Act.{Act}
 use Rattle.m3_model.specs.declared.answer.Answer.{Answer}
-use Rattle.m3_model.specs.declared.placement.Instance.{Instance}
 use Rattle.m3_model.specs.declared.placement.Placement.{Placement}
 use Rattle.m3_model.specs.declared.rules.MetaState.{MetaState}
 use Rattle.m3_model.specs.declared.turn.Turn.{Turn}
@@ -12,7 +10,6 @@ use Rattle.m3_outside.specs.DiskState.{DiskState}
 use Rattle.m3_outside.specs.declared.disk.Disk.{Ghosts}
 use Rattle.cluster_core.specs.declared.event.Event.{Event}
 use Rattle.cluster_core.proofs.ListLemmas.{at_some, at_within}
-use Rattle.net_plan.specs.Fates.{FateMap, fate_of}
 use Rattle.node_calls.specs.session_net.Calls.{Tracked}
 use Rattle.node_calls.specs.session_net.Ready.{IsCallable}
 use Rattle.node_calls.specs.session_net.Runs.{Ran}
@@ -20,18 +17,16 @@ use Rattle.node_calls.specs.session_net.declared.net.Net.{Net}
 use Rattle.node_calls.proofs.session_net_proofs.ReadyLemmas.{may_call}
 use Rattle.transcripts.specs.Deliveries.{LateMessage}
 use Rattle.transcripts.specs.Fates.{fate_in, numbering_after}
-use Rattle.transcripts.specs.Placements.{placements}
-use Rattle.transcripts.specs.Record.{Record, TurnPosition, inner_turns}
 use Rattle.told_runs.specs.Lines.{ServesOne}
-use Rattle.line_tracks.specs.calls.Laws.{IsNotRefused, Kind, LeavesLine, LeavesServed}
-use Rattle.line_tracks.specs.calls.Left.{FareAsSet, HoldsBack, MayUseAfter, NetIsUsable, WereDelivered}
+use Rattle.line_tracks.specs.calls.Laws.{Kind, LeavesLine, LeavesServed}
+use Rattle.line_tracks.specs.calls.Left.{FareAsSet, HoldsBack, MayUseAfter, NetIsUsable}
 use Rattle.line_tracks.proofs.calls.WriteLemmas.{placed_in}
 use Rattle.node_calls.specs.cluster_members.Kept.{IsBy, IsKept, Uses}
 use Rattle.node_calls.specs.cluster_members.declared.members.Members.{Members}
 use Rattle.line_tracks.specs.acts.Due.{IsKnown}
 use Rattle.line_tracks.specs.acts.Stands.{ClusterStands}
 
-module _ {D : Type 0} {G : Ghosts D} (m : Members D G) (turns : List Turn) (stands : ClusterStands None turns m) (version : Option ℕ) (place : Placement) (uses : Uses m.net.state.place m.past.items version place) where
+module _ {D : Type 0} {G : Ghosts D} (m : Members D G) (start : Option MetaState) (turns : List Turn) (stands : ClusterStands start turns m) (version : Option ℕ) (place : Placement) (uses : Uses m.net.state.place m.past.items version place) where
   -- it is kept
   is_kept : IsKept m.net.state.place m.past.items place
   is_kept = by version uses
@@ -41,17 +36,17 @@ module _ {D : Type 0} {G : Ghosts D} (m : Members D G) (turns : List Turn) (stan
       by (Some v) kept = kept.0
 
   -- the turns printed it
-  pub is_known : IsKnown None turns version
+  pub is_known : IsKnown start turns version
   is_known = by version uses
     where
-      by : (v : Option ℕ) → Uses m.net.state.place m.past.items v place → IsKnown None turns v
+      by : (v : Option ℕ) → Uses m.net.state.place m.past.items v place → IsKnown start turns v
       by None is = tt
       by (Some v) kept = (place, (stands.kept.are place).1 kept.0, kept.1)
 
-  may_use_after : MayUseAfter None turns version place
+  may_use_after : MayUseAfter start turns version place
   may_use_after = by version uses
     where
-      by : (v : Option ℕ) → Uses m.net.state.place m.past.items v place → MayUseAfter None turns v place
+      by : (v : Option ℕ) → Uses m.net.state.place m.past.items v place → MayUseAfter start turns v place
       by None is = stands.left.place ∙ ap Some (sym is)
       by (Some v) kept = ((stands.kept.are place).1 kept.0, kept.1)
 
@@ -83,13 +78,13 @@ module _ {D : Type 0} {G : Ghosts D} (m : Members D G) (turns : List Turn) (stan
     state_by = began.state
 
     -- so a call may go by the fields
-    pub usable_so : NetIsUsable None turns version before
+    pub usable_so : NetIsUsable start turns version before
     usable_so = record {
       rules = stands.left.rules ∙ ap (λ (s : MetaState). s.rules) (sym state_by);
-      place = subst (λ (s : MetaState). MayUseAfter None turns version s.place) (sym state_by) may_use_after;
+      place = subst (λ (s : MetaState). MayUseAfter start turns version s.place) (sym state_by) may_use_after;
       seed = stands.left.seed ∙ ap (λ (s : MetaState). s.seed) (sym state_by);
       fates = subst (λ (s : MetaState). FareAsSet turns s.place before.fates) (sym state_by) (subst (FareAsSet turns place) (sym began.fates) fare_by);
-      late = subst (HoldsBack None turns) (sym began.bag) stands.left.late;
+      late = subst (HoldsBack start turns) (sym began.bag) stands.left.late;
     }
 
     pub callable_so : IsCallable before.state before.replicas before.bag

@@ -1,4 +1,4 @@
--- With what replicas over disks without points first begin.
+-- With what replicas first begin, by what lay in their slots.
 use Rattle.std.proofs.Common.{◌≡◌, ℕ, zero, suc, List, [], ◌∷◌, ◌++◌, take, Bool, true, false, refl, sym, ap, subst, ◌∙◌, append_assoc, inl, inr}
 use Rattle.std.specs.Prelude.{◌⊎◌, Option, Some, None, nat_eq, ◌&&◌, if◌then◌else◌}
 use Rattle.std.specs.FinMap as finite
@@ -9,8 +9,15 @@ use Rattle.std.proofs.lemmas.List.{append-nil}
 use Rattle.std.proofs.lemmas.Option.{same_Some}
 use Rattle.m3_model.specs.Members.{IsIn}
 use Rattle.m3_model.specs.declared.point.Point.{Point}
+use Rattle.m3_model.specs.declared.rules.MetaState.{MetaState}
 use Rattle.m3_outside.specs.Depots.{Depot, TellAll}
-use Rattle.m3_outside.specs.DiskState.{DiskState, EachImage}
+use Rattle.m3_outside.specs.DiskState.{DiskState, EachImage, IsEmpty, IsLawfulDisk}
+use Rattle.m3_outside.specs.Slots.{Held, MayGive}
+use Rattle.m3_outside.specs.declared.slot.DiskSlot.{DiskSlot}
+use Rattle.transcripts.specs.Record.{Record}
+use Rattle.life_ends.specs.Lies.{MayLie}
+use Rattle.life_ends.specs.Runs.{BeginWithThese}
+use Rattle.life_ends.proofs.EndLemmas.{run_opens_standing}
 use Rattle.shard_files.specs.Once.{HaveSamePoints}
 use Rattle.shard_files.proofs.FilesHoldLemmas.{files_hold_one}
 use Rattle.cluster_core.specs.Lists.{At}
@@ -25,7 +32,7 @@ use Rattle.cluster_core.specs.declared.replica_state.ReplicaState.{ReplicaState}
 use Rattle.cluster_core.proofs.ListLemmas.{at_in}
 use Rattle.m3_model.proofs.MemberLemmas.{filter_map-IsIn}
 use Rattle.node_calls.specs.replica_machine.Machines.{MachineState, IsMachineOf, first_machine}
-use Rattle.node_calls.specs.replica_machine.Openings.{AllSound}
+use Rattle.node_calls.specs.replica_machine.Openings.{AllSound, BeginsAsMade}
 use Rattle.node_calls.specs.replica_machine.Steps.{IsStep}
 use Rattle.node_calls.proofs.replica_machine_proofs.OpeningLemmas.{first_begin_is_as_made}
 use Rattle.node_calls.proofs.replica_machine_proofs.OtherLemmas.{first_follows}
@@ -33,26 +40,30 @@ use Rattle.node_calls.specs.replica_exchange.declared.member.Member.{Member}
 use Rattle.node_calls.specs.replica_calls.Calls.{Tracked}
 use Rattle.node_calls.specs.session_net.Runs.{Step, TakesSteps, slot_at, step_in, steps_of}
 use Rattle.first_cluster.specs.Bare.{HasNoPoints}
-use Rattle.line_tracks.specs.tracks.Runs.{HaveRun, RunOpensEmpty}
+use Rattle.first_cluster.specs.Depots.{disk_slot_of}
+use Rattle.first_cluster.proofs.BareLemmas.{given_bare}
+use Rattle.line_tracks.specs.tracks.Runs.{HaveRun, RunOpensAsLeft, RunOpensEmpty}
+use Rattle.line_tracks.specs.tracks.Lain.{HadLain, lain_at, no_points}
+use Rattle.line_tracks.proofs.tracks.LainLemmas.{given_sound, lies, some_lie}
 
 -- ---- one event
 
 module _ (n s : ℕ) where
   -- the event is no step of the slot
-  record IsOther (e : Event) : Type 0 where
-    none : step_in (slot_at n s) e ≡ None
-    stays : (r : ReplicaState) → step_of n s r e ≡ r
+  pub record IsOther (e : Event) : Type 0 where
+    pub none : step_in (slot_at n s) e ≡ None
+    pub stays : (r : ReplicaState) → step_of n s r e ≡ r
 
   itself : (nat_eq n n && nat_eq s s) ≡ true
   itself = and_from (nat_eq n n) (nat_eq s s) (eq-eqb n n refl) (eq-eqb s s refl)
 
-  own_step : (c : StepCall) (a : StepReply) → step_in (slot_at n s) (event.Step n s c a) ≡ Some (record { call = c; reply = a })
+  pub own_step : (c : StepCall) (a : StepReply) → step_in (slot_at n s) (event.Step n s c a) ≡ Some (record { call = c; reply = a })
   own_step c a = ap (λ b. if b then Some (record { call = c; reply = a }) else None) itself
 
   own_after : (c : StepCall) (a : StepReply) (r : ReplicaState) → step_of n s r (event.Step n s c a) ≡ after r c a
   own_after c a r = ap (λ b. if b then after r c a else r) itself
 
-  own_or : (e : Event) → ((c : StepCall) × (a : StepReply) × (e ≡ event.Step n s c a)) ⊎ IsOther e
+  pub own_or : (e : Event) → ((c : StepCall) × (a : StepReply) × (e ≡ event.Step n s c a)) ⊎ IsOther e
   own_or (event.Step m t c a) = by (nat_eq m n && nat_eq t s) refl
     where
       by : (b : Bool) → (nat_eq m n && nat_eq t s) ≡ b → ((d : StepCall) × (x : StepReply) × (event.Step m t c a ≡ event.Step n s d x)) ⊎ IsOther (event.Step m t c a)
@@ -120,8 +131,8 @@ module _ (n s : ℕ) where
 
   -- ---- over a whole run
 
-  module _ {D : Type 0} (state : D → DiskState) (depot : Depot D) (tell : TellAll state) (t : Tracked D) (h : HaveRun state true depot t) (Holds : List Event → StepCall → StepReply → Type 0)
-      (each : (first : D) → EachImage (state first) HasNoPoints → (past : List Event) (old new : MachineState D) (c : StepCall) (a : StepReply) → IsMachineOf state (state first).images (replica n s past) old → IsStep state old c a new → Holds past c a) where
+  module _ {D : Type 0} (state : D → DiskState) (lay : DiskSlot → Held D) (depot : Depot D) (tell : TellAll state) (t : Tracked D) (h : HaveRun state lay depot t) (Holds : List Event → StepCall → StepReply → Type 0)
+      (each : (first : D) → MayGive (λ d. IsEmpty (state d)) (lain_at lay n s) first → (past : List Event) (old new : MachineState D) (c : StepCall) (a : StepReply) → IsMachineOf state (state first).images (replica n s past) old → IsStep state old c a new → Holds past c a) where
     pub in_run : (i : ℕ) (c : StepCall) (a : StepReply) → At t.events i (event.Step n s c a) → Holds (take i t.events) c a
     in_run i c a there = by (finite.get t.members (slot_at n s)) refl
       where
@@ -132,7 +143,7 @@ module _ (n s : ℕ) where
             let disk = (r.over).disk in
             let machine : (r.made).machine ≡ first_machine disk = ap (λ (x : Member D). x.machine) (r.over).is_first in
             let takes : TakesSteps state (steps_of (slot_at n s) t.events) (first_machine disk) ((r.stepped).0).machine = subst (λ y. TakesSteps state (steps_of (slot_at n s) t.events) y ((r.stepped).0).machine) machine (r.stepped).3 in
-            along state disk Holds (λ past old new d x is_of tells step. each disk ((r.over).bare refl) past old new d x is_of step) t.events [] (first_machine disk) ((r.stepped).0).machine
+            along state disk Holds (λ past old new d x is_of tells step. each disk (r.over).given past old new d x is_of step) t.events [] (first_machine disk) ((r.stepped).0).machine
             (first_follows state disk) (tell disk) takes i c a there
 
 -- ---- first begins
@@ -153,8 +164,38 @@ first_none {D} state first tell bare r tenure fence points old new is step none 
     none_in points same
 
 pub run_opens_empty : {D : Type 0} (state : D → DiskState) (t : Tracked D) → RunOpensEmpty state t
-run_opens_empty {D} state t depot tell h i n s tenure fence points there none =
-    in_run n s state depot tell t h (λ past c a. (tenure fence : ℕ) (points : List Point) → c ≡ call.Begin tenure → a ≡ reply.Began fence points → (replica n s past).begun ≡ [] → points ≡ [])
-    (λ first bare past old new c a is step tenure fence points is_c is_a none.
-    first_none state first tell bare (replica n s past) tenure fence points old new is (subst (λ y. IsStep state old (call.Begin tenure) y new) is_a (subst (λ y. IsStep state old y a new) is_c step)) none)
+run_opens_empty {D} state t lay depot tell bare h i n s tenure fence points there none =
+    in_run n s state lay depot tell t h (λ past c a. (tenure fence : ℕ) (points : List Point) → c ≡ call.Begin tenure → a ≡ reply.Began fence points → (replica n s past).begun ≡ [] → points ≡ [])
+    (λ first given past old new c a is step tenure fence points is_c is_a none.
+    first_none state first tell (given_bare state (lain_at lay n s) first (bare (disk_slot_of (slot_at n s))) given) (replica n s past) tenure fence points old new is (subst (λ y. IsStep state old (call.Begin tenure) y new) is_a (subst (λ y. IsStep state old y a new) is_c step)) none)
     i (call.Begin tenure) (reply.Began fence points) there tenure fence points refl refl none
+
+-- ---- first begins by what lay there
+
+module _ {D : Type 0} (state : D → DiskState) (past : List Record) (start : Option MetaState) (lay : DiskSlot → Held D) (tell : TellAll state) (lain : HadLain state past start lay) (n s : ℕ) (first : D) (given : MayGive (λ d. IsEmpty (state d)) (lain_at lay n s) first) where
+  begins : (r : ReplicaState) (tenure fence : ℕ) (points : List Point) (old new : MachineState D) → IsMachineOf state (state first).images r old → IsStep state old (call.Begin tenure) (reply.Began fence points) new → r.begun ≡ [] → (tried : List ℕ) × BeginsAsMade (MayLie state (lain_at lay n s)) tried fence points
+  begins r tenure fence points old new is step none =
+      let b = first_begin_is_as_made state first r tenure fence points old new (given_sound state past start lay tell lain n s first given) (tell old.disk) is none step in
+      (r.tried ++ tenure ∷ [], record {
+        before = b.before;
+        was = lies state tell (lain_at lay n s) first given b.before b.was;
+        points_before = b.points_before;
+        tenure_before = b.tenure_before;
+        fence_before = b.fence_before;
+        held_before = b.held_before;
+        once = b.once;
+        fence_up = b.fence_up;
+      })
+
+pub begins_so : {D : Type 0} (state : D → DiskState) (t : Tracked D) (past : List Record) (start : Option MetaState) (lay : DiskSlot → Held D) (depot : Depot D) → TellAll state → HadLain state past start lay → HaveRun state lay depot t → BeginWithThese state (lain_at lay) t.events
+begins_so {D} state t past start lay depot tell lain h i n s tenure fence points there none =
+    in_run n s state lay depot tell t h (λ before c a. (tenure fence : ℕ) (points : List Point) → c ≡ call.Begin tenure → a ≡ reply.Began fence points → (replica n s before).begun ≡ [] → (tried : List ℕ) × BeginsAsMade (MayLie state (lain_at lay n s)) tried fence points)
+    (λ first given before old new c a is step tenure fence points is_c is_a none.
+    begins state past start lay tell lain n s first given (replica n s before) tenure fence points old new is (subst (λ y. IsStep state old (call.Begin tenure) y new) is_a (subst (λ y. IsStep state old y a new) is_c step)) none)
+    i (call.Begin tenure) (reply.Began fence points) there tenure fence points refl refl none
+
+pub run_opens_as_left : {D : Type 0} (state : D → DiskState) → ((d : D) → IsLawfulDisk (state d)) → (t : Tracked D) → RunOpensAsLeft state t
+run_opens_as_left state lawful t past None lay depot tell lain h legal = record { opening = no_points; agrees = run_opens_empty state t lay depot tell lain.bare h; stands = lain.stand }
+run_opens_as_left state lawful t past (Some found) lay depot tell lain h legal =
+    let some = λ (n s : ℕ). some_lie state lawful tell (lain_at lay n s) in
+    run_opens_standing state past (Some found) t.events (lain_at lay) (λ n s. (some n s).0) legal lain.stand (λ n s. (some n s).1) (begins_so state t past (Some found) lay depot tell lain h)

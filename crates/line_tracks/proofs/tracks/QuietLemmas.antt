@@ -1,13 +1,16 @@
 -- Lines that print no placement, begin no replica, and neither stop nor restart a node.
-use Rattle.std.proofs.Common.{◌≡◌, ◌≤◌, ◌+◌, ℕ, List, ◌++◌, length, take, sym, ap, subst, ◌∙◌, arith, Bool}
-use Rattle.std.specs.Prelude.{Some, None}
 use Rattle.std.proofs.lemmas.List.{append_cancel_left}
+use Rattle.std.proofs.Common.{◌≡◌, ◌≤◌, ◌+◌, ℕ, List, ◌++◌, length, take, sym, ap, subst, ◌∙◌, arith}
+use Rattle.std.specs.Prelude.{Option, Some, None}
 use Rattle.m3_model.specs.Members.{IsIn}
 use Rattle.m3_model.specs.declared.act.Act.{Act}
 use Rattle.m3_model.specs.declared.answer.Answer.{Answer}
+use Rattle.m3_model.specs.declared.rules.MetaState.{MetaState}
 use Rattle.m3_model.specs.declared.turn.Turn.{Turn}
 use Rattle.m3_outside.specs.Depots.{Depot}
 use Rattle.m3_outside.specs.DiskState.{DiskState, IsLawfulDisk}
+use Rattle.m3_outside.specs.Slots.{Held}
+use Rattle.m3_outside.specs.declared.slot.DiskSlot.{DiskSlot}
 use Rattle.m3_outside.specs.declared.disk.Disk.{Ghosts}
 use Rattle.cluster_core.specs.declared.event.Event.{Event}
 use Rattle.cluster_core.specs.declared.event.Event.TheVariants as event
@@ -28,15 +31,15 @@ use Rattle.line_tracks.specs.tracks.Quiet.{QuietLinesStandOn, QuietTurnsMakeNone
 use Rattle.line_tracks.specs.tracks.Runs.{HaveRun}
 use Rattle.line_tracks.proofs.tracks.AddLemmas.{steps_are_of_slots}
 
-module _ (turns : List Turn) (events : List Event) (a : Act) (b : Answer) (more : List Event) (opened : 2 ≤ length events) (makes : MakesAndHears None turns events a b more) (prints : printed b ≡ None) (opens : OpensReplicas a → ⊥) where
+module _ (start : Option MetaState) (turns : List Turn) (events : List Event) (a : Act) (b : Answer) (more : List Event) (opened : 2 ≤ length events) (makes : MakesAndHears start turns events a b more) (prints : printed b ≡ None) (opens : OpensReplicas a → ⊥) where
   -- the turn may make each event that came
-  may_make : (e : Event) → (i : IsIn more e) → MayMake None (take (length events + (in_at more e i).0) (events ++ more)) (position_after turns a b) e
+  may_make : (e : Event) → (i : IsIn more e) → MayMake start (take (length events + (in_at more e i).0) (events ++ more)) (position_after turns a b) e
   may_make e i = let at = in_at more e i in makes.makes (length events + at.0) e (omega arith) (omega (arith, opened)) (back_at events more at.0 e at.1)
 
   no_place : HaveNoPlace more
   no_place e i = by e (in_at more e i).0 (may_make e i)
     where
-      by : (e : Event) (j : ℕ) → MayMake None (take (length events + j) (events ++ more)) (position_after turns a b) e → IsNoPlace e
+      by : (e : Event) (j : ℕ) → MayMake start (take (length events + j) (events ++ more)) (position_after turns a b) e → IsNoPlace e
       by (event.Place place done) j h = (let clash : None ≡ Some h.stood = sym prints ∙ h.prints in cc)
       by _ j h = tt
 
@@ -44,19 +47,19 @@ module _ (turns : List Turn) (events : List Event) (a : Act) (b : Answer) (more 
   no_begin n s tenure r i = absurd (opens ((may_make (event.Step n s (call.Begin tenure) r) i).0).opens)
 
 pub quiet_turns_make_none : QuietTurnsMakeNone
-quiet_turns_make_none turns events a b more opened makes prints opens = (no_place turns events a b more opened makes prints opens, no_begin turns events a b more opened makes prints opens)
+quiet_turns_make_none start turns events a b more opened makes prints opens = (no_place start turns events a b more opened makes prints opens, no_begin start turns events a b more opened makes prints opens)
 
 -- a list that was opened has two events
-pub two_events : {D : Type 0} (state : D → DiskState) (tells : Bool) (depot : Depot D) (t : Tracked D) → HaveRun state tells depot t → 2 ≤ length t.events
-two_events state tells depot t h = let long = ap length h.opened in omega (arith, long)
+pub two_events : {D : Type 0} (state : D → DiskState) (lay : DiskSlot → Held D) (depot : Depot D) (t : Tracked D) → HaveRun state lay depot t → 2 ≤ length t.events
+two_events state lay depot t h = let long = ap length h.opened in omega (arith, long)
 
 pub quiet_lines_stand_on : {D : Type 0} {G : Ghosts D} (state : D → DiskState) → ((d : D) → IsLawfulDisk (state d)) → (old : Members D G) → QuietLinesStandOn state old
-quiet_lines_stand_on {D} {G} state lawful old tells now turns a b new tell are h q =
+quiet_lines_stand_on {D} {G} state lawful old tells past start now turns a b new tell are h q =
     let same : q.told ≡ q.more = append_cancel_left old.net.replicas.events q.told q.more (sym q.grew ∙ q.ran.grew) in
-    let none = quiet_turns_make_none turns old.net.replicas.events a b q.told (two_events state tells now old.net.replicas h.run) q.makes q.prints q.opens in
+    let none = quiet_turns_make_none start turns old.net.replicas.events a b q.told (two_events state h.lay now old.net.replicas h.run) q.makes q.prints q.opens in
     let no_place = subst HaveNoPlace same none.0 in
     let given = subst (BeginsGiven old.net.replicas.events) same none.1 in
-    let may : MayOpenSlots state tells None old.net.replicas = record { disks = lawful; tell = tell; members = are; low = h.low } in
+    let may : MayOpenSlots state tells start old.net.replicas = record { disks = lawful; tell = tell; members = are; low = h.low } in
     record {
       more = q.more;
       ran = q.ran;
@@ -64,7 +67,7 @@ quiet_lines_stand_on {D} {G} state lawful old tells now turns a b new tell are h
       slots = q.slots;
       past = q.past;
       place = q.place;
-      stands = stands_still state old None turns new a b h.stands (record {
+      stands = stands_still state old start turns new a b h.stands (record {
         left = q.left;
         ready = q.ready;
         place = q.place;
@@ -79,5 +82,5 @@ quiet_lines_stand_on {D} {G} state lawful old tells now turns a b new tell are h
         halts = q.halts;
         known = q.known;
       });
-      low = (begins_still state old tells None new.net.replicas q.more h.stands.ready may q.ran no_place given).low;
+      low = (begins_still state old tells start new.net.replicas q.more h.stands.ready may q.ran no_place given).low;
     }

@@ -29,7 +29,7 @@ use Rattle.node_calls.specs.session_net.declared.net.Net.{Net}
 use Rattle.told_runs.specs.told_by.Lines.{ReadLine}
 use Rattle.told_runs.specs.told_by.Makes.{OpensReplicas}
 use Rattle.transcripts.specs.Calls.{call_of}
-use Rattle.transcripts.specs.Record.{line_of}
+use Rattle.transcripts.specs.Record.{Record, line_of}
 use Rattle.line_tracks.specs.calls.Laws.{IsNotRefused, LeavesLine}
 use Rattle.line_tracks.specs.calls.ReadLaws.{IsReadTurn}
 use Rattle.line_tracks.proofs.calls.FoundLemmas.{found_tells}
@@ -57,12 +57,12 @@ record Reads (a : Act) (ns : List ℕ) (pick : ℕ → Pick) (range : Range) (le
   calm : OpensReplicas a → ⊥
 
 module _ {D : Type 0} {G : Ghosts D} (state : D → DiskState) (lawful : (d : D) → IsLawfulDisk (state d)) (m : Members D G) (a : Act) (ns : List ℕ) (pick : ℕ → Pick) (range : Range) (level : ReadLevel) (version : Option ℕ) (reads : Reads a ns pick range level version)
-    (tells : Bool) (first now : Depot D) (turns : List Turn) (calls : List ℕ) (on : MayGoOn state tells first now turns calls m) (due : (b : Answer) → SpaceDue None turns m.net.state.rules ns version a b) (g : Members D G) (is_left : IsLeft tells g) where
+    (tells : Bool) (past : List Record) (start : Option MetaState) (first now : Depot D) (turns : List Turn) (calls : List ℕ) (on : MayGoOn state tells past start first now turns calls m) (due : (b : Answer) → SpaceDue start turns m.net.state.rules ns version a b) (g : Members D G) (is_left : IsLeft tells g) where
   abbrev call : CallId
   call = next_call calls
 
   abbrev IsTracked : Answer → Type 0
-  IsTracked b = Tracks state tells first now (turns ++ line_of a b ∷ []) (Some g) (numbers_by a b calls)
+  IsTracked b = Tracks state tells past start first now (turns ++ line_of a b ∷ []) (Some g) (numbers_by a b calls)
 
   module _ (position : ℕ) (found : namespace_position ns (spaces_in m) ≡ Some position) (low : call.number < last_number) (keeps : KeepsCluster m g) (bag : g.net.bag ≡ m.net.bag)
       (place : Placement) (uses : Uses m.net.state.place m.past.items version place) (before after : Net D G) (began : IsBy place m.net before) (ended : IsBy place g.net after) where
@@ -72,19 +72,19 @@ module _ {D : Type 0} {G : Ghosts D} (state : D → DiskState) (lawful : (d : D)
     abbrev enough : ℕ
     enough = needed_read level before.state.place.rf
 
-    is_read : IsReadTurn None turns before call a w level
+    is_read : IsReadTurn start turns before call a w level
     is_read = record {
       version = version;
-      left = usable_so m turns on.tracks.after.stands version place uses before began;
-      ready = callable_so m turns on.tracks.after.stands version place uses before began;
-      next = next_is state m tells first now turns calls on low;
+      left = usable_so m start turns on.tracks.after.stands version place uses before began;
+      ready = callable_so m start turns on.tracks.after.stands version place uses before began;
+      next = next_is state m tells past start first now turns calls on low;
       name = reads.name;
       of_call = reads.of_call;
       of_act = reads.of_act before.state.rules.spaces position (ap (λ (s : MetaState). namespace_position ns s.rules.spaces) began.state ∙ found);
     }
 
-    free : (b : Answer) → IsNotRefused None turns a b
-    free b = (due b).free position found (is_known m turns on.tracks.after.stands version place uses)
+    free : (b : Answer) → IsNotRefused start turns a b
+    free b = (due b).free position found (is_known m start turns on.tracks.after.stands version place uses)
 
     ran_here : (more : List Event) → Ran state before.replicas more after.replicas → Ran state m.net.replicas more g.net.replicas
     ran_here more ran = ran_so m.net before after g.net began.replicas ended.replicas state more ran
@@ -93,26 +93,26 @@ module _ {D : Type 0} {G : Ghosts D} (state : D → DiskState) (lawful : (d : D)
     legal_after = subst (Legal tells) (ap (λ (t : Tracked D). t.events) (sym ended.replicas)) is_left.legal
 
     -- what came tells of the line
-    told : (b : Answer) → SetsNone b → DeliversNone b → LeavesLine ReadLine None turns [] before a b after → (more : List Event) → Ran state before.replicas more after.replicas → IsTracked b
+    told : (b : Answer) → SetsNone b → DeliversNone b → LeavesLine ReadLine start turns [] before a b after → (more : List Event) → Ran state before.replicas more after.replicas → IsTracked b
     told b sets delivers line more ran =
-        told_on state m tells first now turns calls on lawful a b g is_left sets reads.calm keeps ReadLine (read_on state (Some m)) (λ more made. made.makes)
-        (line_so m.net before after g.net began.replicas ended.replicas ReadLine None turns [] a b line) (free b) more (ran_here more ran) (same_bag state m tells first now turns calls on lawful a b g is_left sets reads.calm keeps delivers bag)
+        told_on state m tells past start first now turns calls on lawful a b g is_left sets reads.calm keeps ReadLine (read_on state (Some m)) (λ more made. made.makes)
+        (line_so m.net before after g.net began.replicas ended.replicas ReadLine start turns [] a b line) (free b) more (ran_here more ran) (same_bag state m tells past start first now turns calls on lawful a b g is_left sets reads.calm keeps delivers bag)
 
     answered : (series : List Series) (short : Bool) → IsReadFound state before call w level series short after → IsTracked (answer.Found series short)
-    answered series short h = told (answer.Found series short) tt tt (found_tells state before tells None turns after call a w level series short is_read legal_after h) h.events h.ran
+    answered series short h = told (answer.Found series short) tt tt (found_tells state before tells start turns after call a w level series short is_read legal_after h) h.events h.ran
 
     fell_short : (got needed : ℕ) (reasons : List (ℕ × Reason)) (shard : ℕ) → IsFirstShort state before.state before.fates call w enough before.replicas after.replicas shard needed got reasons → IsTracked (answer.Consistency got needed reasons shard)
-    fell_short got needed reasons shard h = told (answer.Consistency got needed reasons shard) tt tt (first_short_tells state before tells None turns after call a w level shard needed got reasons is_read legal_after h) _ h.ran
+    fell_short got needed reasons shard h = told (answer.Consistency got needed reasons shard) tt tt (first_short_tells state before tells start turns after call a w level shard needed got reasons is_read legal_after h) _ h.ran
 
     ended_early : IsStopped state before.state before.fates call w enough before.replicas after.replicas ⊎ IsCutShort state before.state before.fates call w enough before.replicas after.replicas → IsTracked answer.Memory
-    ended_early (inl h) = told answer.Memory tt tt (ended_tells state before None turns after call a w level is_read (inl h)) h.events h.ran
-    ended_early (inr h) = told answer.Memory tt tt (ended_tells state before None turns after call a w level is_read (inr h)) _ h.ran
+    ended_early (inl h) = told answer.Memory tt tt (ended_tells state before start turns after call a w level is_read (inl h)) h.events h.ran
+    ended_early (inr h) = told answer.Memory tt tt (ended_tells state before start turns after call a w level is_read (inr h)) _ h.ran
 
     full : IsFull state before.state before.fates call w enough before.replicas after.replicas → IsTracked answer.Full
     full h =
-        let line = served_so m.net before after g.net began.replicas ended.replicas ReadLine None turns [] a answer.Full (full_tells state before None turns after call a w level is_read h) in
-        served_on state m tells first now turns calls on lawful a answer.Full g is_left tt reads.calm keeps ReadLine (read_on state (Some m)) (λ more made. made.makes) line h.events (ran_here h.events h.ran)
-        (same_bag state m tells first now turns calls on lawful a answer.Full g is_left tt reads.calm keeps tt bag)
+        let line = served_so m.net before after g.net began.replicas ended.replicas ReadLine start turns [] a answer.Full (full_tells state before start turns after call a w level is_read h) in
+        served_on state m tells past start first now turns calls on lawful a answer.Full g is_left tt reads.calm keeps ReadLine (read_on state (Some m)) (λ more made. made.makes) line h.events (ran_here h.events h.ran)
+        (same_bag state m tells past start first now turns calls on lawful a answer.Full g is_left tt reads.calm keeps tt bag)
 
     asked : (b : Answer) → IsReadAnswer state before call w level b after → IsTracked b
     asked (answer.Found series short) h = answered series short h
@@ -122,23 +122,23 @@ module _ {D : Type 0} {G : Ghosts D} (state : D → DiskState) (lawful : (d : D)
     asked _ h = absurd h
 
   fetched : (b : Answer) → call.number < last_number → IsFetchAnswer state m call ns pick range level version b g → IsTracked b
-  fetched b low (inl missing) = missing_on state m tells first now turns calls on a b g ns version (due b) missing
+  fetched b low (inl missing) = missing_on state m tells past start first now turns calls on a b g ns version (due b) missing
   fetched b low (inr h) = let went = h.answers in asked h.position h.found low h.keeps h.bag went.place went.uses went.before went.after went.began went.ended b went.made
 
   does : (b : Answer) → MayCall call.number (IsFetchAnswer state m call ns pick range level version b g) b m g → IsTracked b
   does b (inl h) = fetched b h.0 h.1
-  does b (inr none) = wanted_on state m tells first now turns calls on a b g none.2 none.1
+  does b (inr none) = wanted_on state m tells past start first now turns calls on a b g none.2 none.1
 
 pub fetches_are_tracked : {D : Type 0} {G : Ghosts D} (state : D → DiskState) → ((d : D) → IsLawfulDisk (state d)) → (m : Members D G) → FetchesAreTracked state m
-fetches_are_tracked state lawful m ns id from to level version tells first now turns calls b g on is_left h =
+fetches_are_tracked state lawful m ns id from to level version tells past start first now turns calls b g on is_left h =
     let range : Range = record { from = from; to = to } in
     does state lawful m (act.Fetch ns id from to level version) ns (λ k. pick.One k id) range level version
     (record { name = Some id; of_call = refl; of_act = λ spaces k found. ap (option_map (λ j. record { pick = pick.One j id; from = from; to = to; level = level })) found; calm = λ opens. opens })
-    tells first now turns calls on ((left_due state m tells first now turns calls on).fetch ns id from to level version) g is_left b h
+    tells past start first now turns calls on ((left_due state m tells past start first now turns calls on).fetch ns id from to level version) g is_left b h
 
 pub matches_are_tracked : {D : Type 0} {G : Ghosts D} (state : D → DiskState) → ((d : D) → IsLawfulDisk (state d)) → (m : Members D G) → MatchesAreTracked state m
-matches_are_tracked state lawful m ns wanted from to level version tells first now turns calls b g on is_left h =
+matches_are_tracked state lawful m ns wanted from to level version tells past start first now turns calls b g on is_left h =
     let range : Range = record { from = from; to = to } in
     does state lawful m (act.Match ns wanted from to level version) ns (λ k. pick.Match k wanted) range level version
     (record { name = None; of_call = refl; of_act = λ spaces k found. ap (option_map (λ j. record { pick = pick.Match j wanted; from = from; to = to; level = level })) found; calm = λ opens. opens })
-    tells first now turns calls on ((left_due state m tells first now turns calls on).find ns wanted from to level version) g is_left b h
+    tells past start first now turns calls on ((left_due state m tells past start first now turns calls on).find ns wanted from to level version) g is_left b h

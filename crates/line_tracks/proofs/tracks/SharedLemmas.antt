@@ -1,11 +1,12 @@
 -- What lines of several kinds share: from what each leaves to the turns tracked with it.
 use Rattle.std.proofs.Common.{◌≡◌, ℕ, List, [], ◌∷◌, ◌++◌, refl, sym, subst, arith, Bool}
-use Rattle.std.specs.Prelude.{Some, None}
 use Rattle.std.proofs.lemmas.List.{append-nil}
+use Rattle.std.specs.Prelude.{Option, Some}
 use Rattle.m3_model.specs.declared.act.Act.{Act}
 use Rattle.m3_model.specs.declared.answer.Answer.{Answer}
 use Rattle.m3_model.specs.declared.answer.Answer.TheVariants as answer
 use Rattle.m3_model.specs.declared.turn.Turn.{Turn}
+use Rattle.m3_model.specs.declared.rules.MetaState.{MetaState}
 use Rattle.m3_outside.specs.Depots.{Depot}
 use Rattle.m3_outside.specs.DiskState.{DiskState, IsLawfulDisk}
 use Rattle.m3_outside.specs.declared.disk.Disk.{Ghosts}
@@ -14,7 +15,7 @@ use Rattle.cluster_core.specs.declared.event.Event.{Event}
 use Rattle.node_calls.proofs.session_net_proofs.RunLemmas.{ran_nothing}
 use Rattle.told_runs.specs.told_by.Lines.{PlainLine}
 use Rattle.transcripts.specs.Deliveries.{LateMessage}
-use Rattle.transcripts.specs.Record.{line_of}
+use Rattle.transcripts.specs.Record.{Record, line_of}
 use Rattle.line_tracks.specs.calls.Laws.{Kind}
 use Rattle.line_tracks.proofs.calls.DeliverLemmas.{nothing_serves, nothing_tells}
 use Rattle.line_tracks.proofs.calls.ServeLemmas.{delivered_so}
@@ -35,19 +36,19 @@ use Rattle.line_tracks.specs.tracks.Lines.{MayGoOn}
 
 -- ---- the placement and the rules that the turns left of a cluster that stands
 
-pub have_left : {D : Type 0} {G : Ghosts D} (turns : List Turn) (m : Members D G) → ClusterStands None turns m → HaveLeft None turns (Some m.net.state.place) m.net.state.rules
-have_left turns m h = record { rules_are = h.left.rules; place_is = h.left.place }
+pub have_left : {D : Type 0} {G : Ghosts D} (start : Option MetaState) (turns : List Turn) (m : Members D G) → ClusterStands start turns m → HaveLeft start turns (Some m.net.state.place) m.net.state.rules
+have_left start turns m h = record { rules_are = h.left.rules; place_is = h.left.place }
 
 -- ---- memory
 
 -- nothing came to the list of a line that wanted memory
-pub memory_tells : (turns : List Turn) (events : List Event) (a : Act) → LeavesNothing None turns events a answer.Memory
-memory_tells turns events a = record {
+pub memory_tells : (start : Option MetaState) (turns : List Turn) (events : List Event) (a : Act) → LeavesNothing start turns events a answer.Memory
+memory_tells start turns events a = record {
   line = record {
     more = [];
     grew = sym (append-nil events);
-    line = nothing_tells None turns events a answer.Memory tt;
-    serves = λ tells was past were. nothing_serves tells was past None turns events a were;
+    line = nothing_tells start turns events a answer.Memory tt;
+    serves = λ tells was past were. nothing_serves tells was past start turns events a were;
     delivered = delivered_so turns a answer.Memory [] (λ m i. absurd i);
   };
   sets_none = tt;
@@ -56,40 +57,40 @@ memory_tells turns events a = record {
 
 -- ---- one more line of a cluster that stands
 
-module _ {D : Type 0} {G : Ghosts D} (state : D → DiskState) (m : Members D G) (tells : Bool) (first now : Depot D) (turns : List Turn) (calls : List ℕ) (a : Act) (b : Answer) where
+module _ {D : Type 0} {G : Ghosts D} (state : D → DiskState) (m : Members D G) (tells : Bool) (past : List Record) (start : Option MetaState) (first now : Depot D) (turns : List Turn) (calls : List ℕ) (a : Act) (b : Answer) where
   -- the disks that the cluster doesn't have are as before
-  pub goes_on : (Line : Kind) → TracksOn Line state (Some m) → (g : Members D G) (messages : List LateMessage) (t : Tracks state tells first now turns (Some m) calls) → AddsLine Line tells [] messages t.delivered turns m.net.replicas.events a b g.net.replicas.events
-      → Legal tells g.net.replicas.events → StandsOn state tells turns m a b g → Tracks state tells first now (turns ++ line_of a b ∷ []) (Some g) (numbers_by a b calls)
-  goes_on Line on g messages t adds legal stands = on tells first now now turns calls a b (Some g) t (record {
+  pub goes_on : (Line : Kind) → TracksOn Line state (Some m) → (g : Members D G) (messages : List LateMessage) (t : Tracks state tells past start first now turns (Some m) calls) → AddsLine Line tells past start [] messages t.delivered turns m.net.replicas.events a b g.net.replicas.events
+      → Legal tells g.net.replicas.events → StandsOn state tells start turns m a b g → Tracks state tells past start first now (turns ++ line_of a b ∷ []) (Some g) (numbers_by a b calls)
+  goes_on Line on g messages t adds legal stands = on tells past start first now now turns calls a b (Some g) t (record {
     untaken = [];
     messages = messages;
     adds = adds;
     legal = legal;
     rose = rose_none now.faults now.faults (omega arith);
     later = λ disk_slot. omega arith;
-    after = stands_after_line state m tells now turns a b g t.after stands;
+    after = stands_after_line state m tells past start now turns a b g t.after stands;
   })
 
   -- nothing came to the list, and the cluster is as it was
-  pub stays : Tracks state tells first now turns (Some m) calls → LeavesNothing None turns m.net.replicas.events a b → Tracks state tells first now (turns ++ line_of a b ∷ []) (Some m) (numbers_by a b calls)
+  pub stays : Tracks state tells past start first now turns (Some m) calls → LeavesNothing start turns m.net.replicas.events a b → Tracks state tells past start first now (turns ++ line_of a b ∷ []) (Some m) (numbers_by a b calls)
   stays t h =
-      let before : StandsSo state tells now turns m = t.after in
-      goes_on PlainLine (plain_on state (Some m)) m [] t (served_adds PlainLine tells turns [] t.delivered m.net.replicas.events a b m.net.replicas.events t.were h.line) t.legal (record {
+      let before : StandsSo state tells past start now turns m = t.after in
+      goes_on PlainLine (plain_on state (Some m)) m [] t (served_adds PlainLine tells past start turns [] t.delivered m.net.replicas.events a b m.net.replicas.events t.were h.line) t.legal (record {
         more = [];
         ran = ran_nothing state m.net.replicas;
         others = λ s none. refl;
         slots = refl;
         past = refl;
         place = refl;
-        stands = stands_unchanged m None turns a b before.stands h.sets_none h.delivers_none;
+        stands = stands_unchanged m start turns a b before.stands h.sets_none h.delivers_none;
         low = before.low;
       })
 
   -- the same of what is left, which is the cluster as it was
-  pub stays_same : (g : Members D G) → g ≡ m → Tracks state tells first now turns (Some m) calls → LeavesNothing None turns m.net.replicas.events a b → Tracks state tells first now (turns ++ line_of a b ∷ []) (Some g) (numbers_by a b calls)
-  stays_same g same t h = subst (λ (x : Members D G). Tracks state tells first now (turns ++ line_of a b ∷ []) (Some x) (numbers_by a b calls)) (sym same) (stays t h)
+  pub stays_same : (g : Members D G) → g ≡ m → Tracks state tells past start first now turns (Some m) calls → LeavesNothing start turns m.net.replicas.events a b → Tracks state tells past start first now (turns ++ line_of a b ∷ []) (Some g) (numbers_by a b calls)
+  stays_same g same t h = subst (λ (x : Members D G). Tracks state tells past start first now (turns ++ line_of a b ∷ []) (Some x) (numbers_by a b calls)) (sym same) (stays t h)
 
   -- no placement was printed and no replica begun, and neither was a node stopped or restarted
-  pub goes_quietly : (Line : Kind) → TracksOn Line state (Some m) → ((d : D) → IsLawfulDisk (state d)) → (g : Members D G) (messages : List LateMessage) (on : MayGoOn state tells first now turns calls m)
-      → AddsLine Line tells [] messages on.tracks.delivered turns m.net.replicas.events a b g.net.replicas.events → Legal tells g.net.replicas.events → GoesQuietly state turns m a b g → Tracks state tells first now (turns ++ line_of a b ∷ []) (Some g) (numbers_by a b calls)
-  goes_quietly Line line_on lawful g messages on adds legal quiet = goes_on Line line_on g messages on.tracks adds legal (quiet_lines_stand_on state lawful m tells now turns a b g on.tracks.tell on.members on.tracks.after quiet)
+  pub goes_quietly : (Line : Kind) → TracksOn Line state (Some m) → ((d : D) → IsLawfulDisk (state d)) → (g : Members D G) (messages : List LateMessage) (on : MayGoOn state tells past start first now turns calls m)
+      → AddsLine Line tells past start [] messages on.tracks.delivered turns m.net.replicas.events a b g.net.replicas.events → Legal tells g.net.replicas.events → GoesQuietly state start turns m a b g → Tracks state tells past start first now (turns ++ line_of a b ∷ []) (Some g) (numbers_by a b calls)
+  goes_quietly Line line_on lawful g messages on adds legal quiet = goes_on Line line_on g messages on.tracks adds legal (quiet_lines_stand_on state lawful m tells past start now turns a b g on.tracks.tell on.members on.tracks.after quiet)

@@ -7,10 +7,8 @@ use Rattle.m3_model.specs.declared.turn.Request.{Request}
 use Rattle.m3_model.specs.declared.turn.Turn.{Turn}
 use Rattle.m3_outside.specs.DiskState.{DiskState}
 use Rattle.m3_outside.specs.declared.disk.Disk.{Ghosts}
-use Rattle.cluster_core.specs.Core.{AgreesWith, Opening}
 use Rattle.cluster_core.specs.Legal.{Legal}
 use Rattle.cluster_core.specs.declared.event.Event.{Event}
-use Rattle.transcripts.specs.Left.{OpeningStands}
 use Rattle.told_runs.specs.Lines.{IsToldAndServed, delivered_on}
 use Rattle.transcripts.specs.Deliveries.{LateMessage}
 use Rattle.transcripts.specs.Faults.{Fault}
@@ -20,12 +18,7 @@ use Rattle.node_calls.specs.cluster_members.declared.members.Members.{Members}
 use Rattle.line_tracks.specs.acts.Opens.{MayOpenSlots}
 use Rattle.line_tracks.specs.acts.Stands.{ClusterStands}
 use Rattle.cluster_joins.specs.Boots.{IsBooted}
-
--- replicas first begin with what earlier runs left, which is nothing that they didn't send
-pub record OpensAsLeft (past : List Record) (start : Option MetaState) (events : List Event) : Type 0 where
-  pub opening : Opening
-  pub agrees : AgreesWith events opening
-  pub stands : OpeningStands past start opening
+use Rattle.life_ends.specs.Runs.{OpensAsLeft}
 
 -- So it does, whatever the bootstrap is answered; it delivers no late message.
 abbrev pub BootsServe : {D : Type 0} {G : Ghosts D} → (D → DiskState) → Members D G → Type 0

@@ -1,8 +1,9 @@
 -- From what each line's law says to what is tracked: what came to the list tells of the line and serves it.
-use Rattle.std.specs.Prelude.{ℕ, List, [], Bool, None}
+use Rattle.std.specs.Prelude.{ℕ, List, [], Bool, Option, None}
 use Rattle.m3_model.specs.Members.{IsIn}
 use Rattle.m3_model.specs.declared.act.Act.{Act}
 use Rattle.m3_model.specs.declared.answer.Answer.{Answer}
+use Rattle.m3_model.specs.declared.rules.MetaState.{MetaState}
 use Rattle.m3_model.specs.declared.turn.Turn.{Turn}
 use Rattle.m3_outside.specs.declared.disk.Disk.{Ghosts}
 use Rattle.cluster_core.specs.declared.event.Event.{Event}
@@ -13,7 +14,7 @@ use Rattle.node_calls.specs.session_net.Runs.{slot_at}
 use Rattle.node_calls.specs.session_net.declared.net.Net.{Net}
 use Rattle.transcripts.specs.Deliveries.{LateMessage}
 use Rattle.transcripts.specs.Faults.{Fault}
-use Rattle.transcripts.specs.Record.{TurnPosition}
+use Rattle.transcripts.specs.Record.{Record, TurnPosition}
 use Rattle.line_tracks.specs.calls.Laws.{IsNotRefused, Kind, LeavesLine, LeavesServed}
 use Rattle.line_tracks.specs.calls.Left.{WereDelivered}
 use Rattle.node_calls.specs.cluster_members.declared.members.Members.{Members}
@@ -25,19 +26,19 @@ use Rattle.line_tracks.specs.tracks.Steps.{AddsLine}
 -- where no refusal was due
 abbrev pub CallAdds : {D : Type 0} {G : Ghosts D} → Kind → Net D G → Type 0
 CallAdds {D} {G} Line old =
-    (tells : Bool) (turns : List Turn) (messages : List LateMessage) (was : TurnPosition → List LateMessage) (a : Act) (b : Answer) (new : Net D G) → WereDelivered turns was → IsNotRefused None turns a b → LeavesLine Line None turns messages old a b new
-    → AddsLine Line tells [] messages was turns old.replicas.events a b new.replicas.events
+    (tells : Bool) (past : List Record) (start : Option MetaState) (turns : List Turn) (messages : List LateMessage) (was : TurnPosition → List LateMessage) (a : Act) (b : Answer) (new : Net D G) → WereDelivered turns was → IsNotRefused start turns a b → LeavesLine Line start turns messages old a b new
+    → AddsLine Line tells past start [] messages was turns old.replicas.events a b new.replicas.events
 
 -- whatever refusal was due
 abbrev pub ServedAdds : Kind → Type 0
 ServedAdds Line =
-    (tells : Bool) (turns : List Turn) (messages : List LateMessage) (was : TurnPosition → List LateMessage) (events : List Event) (a : Act) (b : Answer) (later : List Event) → WereDelivered turns was → LeavesServed Line None turns messages events a b later
-    → AddsLine Line tells [] messages was turns events a b later
+    (tells : Bool) (past : List Record) (start : Option MetaState) (turns : List Turn) (messages : List LateMessage) (was : TurnPosition → List LateMessage) (events : List Event) (a : Act) (b : Answer) (later : List Event) → WereDelivered turns was → LeavesServed Line start turns messages events a b later
+    → AddsLine Line tells past start [] messages was turns events a b later
 
 -- of an `init` where no list was
 abbrev pub AnewAdds : Kind → Type 0
 AnewAdds Line =
-    (tells : Bool) (untaken : List Fault) (turns : List Turn) (was : TurnPosition → List LateMessage) (a : Act) (b : Answer) (more : List Event) → WereDelivered turns was → LeavesAnew Line tells untaken turns a b more → AddsLine Line tells untaken [] was turns [] a b more
+    (tells : Bool) (past : List Record) (untaken : List Fault) (turns : List Turn) (was : TurnPosition → List LateMessage) (a : Act) (b : Answer) (more : List Event) → WereDelivered turns was → LeavesAnew Line tells untaken turns a b more → AddsLine Line tells past None untaken [] was turns [] a b more
 
 -- Each step that came is of one of the cluster's slots.
 abbrev pub StepsAreOfSlots : {D : Type 0} {G : Ghosts D} → Members D G → Type 0

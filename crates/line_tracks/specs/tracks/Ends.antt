@@ -1,9 +1,10 @@
 -- What a run that is tracked promises at its end: its reads kept what they had to, its answers have their causes, whoever turned available was joined, and the counts of the disks show all faults.
-use Rattle.std.specs.Prelude.{◌≡◌, ◌≤◌, ◌<◌, ℕ, ◌+◌, List, [], ◌++◌, length, Option, Some, None, Bool, true, ◌&&◌, ◌||◌, nat_eq, count_by}
+use Rattle.std.specs.Prelude.{◌≡◌, ◌≤◌, ◌<◌, ℕ, ◌+◌, List, ◌++◌, length, Option, Some, None, Bool, true, ◌&&◌, ◌||◌, nat_eq, count_by}
 use Rattle.std.specs.FinMap as finite
 use Rattle.m3_model.specs.Members.{IsIn}
 use Rattle.m3_model.specs.declared.turn.Request.{Request}
 use Rattle.m3_model.specs.declared.turn.Turn.{Turn}
+use Rattle.m3_model.specs.declared.rules.MetaState.{MetaState}
 use Rattle.m3_outside.specs.Causes.{RoseBy, last_count}
 use Rattle.m3_outside.specs.Depots.{Depot}
 use Rattle.m3_outside.specs.DiskState.{DiskState}
@@ -14,6 +15,7 @@ use Rattle.transcripts.specs.Caused.{Caused}
 use Rattle.transcripts.specs.Faults.{Fault, Damaged, is_failing, is_taking}
 use Rattle.transcripts.specs.Joined.{Joined}
 use Rattle.transcripts.specs.Kept.{Kept}
+use Rattle.transcripts.specs.Record.{Record}
 use Rattle.node_calls.specs.replica_exchange.declared.member.Member.{Member}
 use Rattle.node_calls.specs.replica_exchange.declared.slot.Slot.{Slot}
 use Rattle.node_calls.specs.cluster_members.declared.members.Members.{Members}
@@ -50,24 +52,24 @@ pub record AreShown {D : Type 0} (tells : Bool) (lines : ℕ) (first : Depot D) 
 
 -- ---- laws
 
--- Over disks that tell and had no points, the run's reads kept what they had to, also where some last turns got no reply.
+-- Over disks that tell and stood for the life, the run's reads kept what they had to, also where some last turns got no reply.
 abbrev pub KeptWhereTracked : {D : Type 0} {G : Ghosts D} → (D → DiskState) → Option (Members D G) → Type 0
 KeptWhereTracked {D} {G} state members =
-    (first now : Depot D) (turns more : List Turn) (calls : List ℕ) (unanswered : Option Request) → Tracks state true first now (turns ++ more) members calls → Kept (life_of [] None turns unanswered)
+    (past : List Record) (start : Option MetaState) (first now : Depot D) (turns more : List Turn) (calls : List ℕ) (unanswered : Option Request) → Tracks state true past start first now (turns ++ more) members calls → Kept (life_of past start turns unanswered)
 
 -- Its answers have their causes.
 abbrev pub CausedWhereTracked : {D : Type 0} {G : Ghosts D} → (D → DiskState) → Option (Members D G) → Type 0
 CausedWhereTracked {D} {G} state members =
-    (tells : Bool) (first now : Depot D) (turns more : List Turn) (calls : List ℕ) (unanswered : Option Request) → (t : Tracks state tells first now (turns ++ more) members calls)
-    → Caused tells (life_of [] None turns unanswered) (faults_of t)
+    (tells : Bool) (past : List Record) (start : Option MetaState) (first now : Depot D) (turns more : List Turn) (calls : List ℕ) (unanswered : Option Request) → (t : Tracks state tells past start first now (turns ++ more) members calls)
+    → Caused tells (life_of past start turns unanswered) (faults_of t)
 
 -- Each node that turned available was joined by a bootstrap that prints a majority of the former replicas, whatever the disks tell.
 abbrev pub JoinedWhereTracked : {D : Type 0} {G : Ghosts D} → (D → DiskState) → Option (Members D G) → Type 0
 JoinedWhereTracked {D} {G} state members =
-    (tells : Bool) (first now : Depot D) (turns : List Turn) (calls : List ℕ) (unanswered : Option Request) → Tracks state tells first now turns members calls → Joined (life_of [] None turns unanswered)
+    (tells : Bool) (past : List Record) (start : Option MetaState) (first now : Depot D) (turns : List Turn) (calls : List ℕ) (unanswered : Option Request) → Tracks state tells past start first now turns members calls → Joined (life_of past start turns unanswered)
 
 -- And the faults are shown by the counts, once the disks are given back.
 abbrev pub ShownWhereTracked : {D : Type 0} {G : Ghosts D} → (D → DiskState) → Option (Members D G) → Type 0
 ShownWhereTracked {D} {G} state members =
-    (tells : Bool) (first now : Depot D) (turns : List Turn) (calls : List ℕ) (all : ℕ) (of_disk : DiskSlot → ℕ) → (t : Tracks state tells first now turns members calls)
+    (tells : Bool) (past : List Record) (start : Option MetaState) (first now : Depot D) (turns : List Turn) (calls : List ℕ) (all : ℕ) (of_disk : DiskSlot → ℕ) → (t : Tracks state tells past start first now turns members calls)
     → AreGivenBack state now members all of_disk → AreShown tells (length turns) first all of_disk (faults_of t)

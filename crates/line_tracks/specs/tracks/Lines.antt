@@ -10,6 +10,7 @@ use Rattle.m3_model.specs.declared.answer.Answer.{Answer}
 use Rattle.m3_model.specs.declared.answer.Answer.TheVariants as answer
 use Rattle.m3_model.specs.declared.point.Matcher.{Matcher}
 use Rattle.m3_model.specs.declared.turn.Turn.{Turn}
+use Rattle.m3_model.specs.declared.rules.MetaState.{MetaState}
 use Rattle.m3_outside.specs.Depots.{Depot}
 use Rattle.m3_outside.specs.DiskState.{DiskState}
 use Rattle.m3_outside.specs.declared.disk.Disk.{Ghosts}
@@ -17,7 +18,7 @@ use Rattle.told_runs.specs.placement_acts.Acts.{is_step_act}
 use Rattle.cluster_core.specs.Legal.{Legal}
 use Rattle.node_calls.specs.replica_calls.Calls.{AreMembersOf}
 use Rattle.node_calls.specs.session_net.Ready.{IsReady}
-use Rattle.transcripts.specs.Record.{line_of}
+use Rattle.transcripts.specs.Record.{Record, line_of}
 use Rattle.told_runs.specs.told_moves.Order.{IsInitAct}
 use Rattle.node_calls.specs.cluster_members.declared.members.Members.{Members}
 use Rattle.cluster_placements.specs.Steps.{MayChange}
@@ -28,8 +29,8 @@ use Rattle.line_tracks.specs.tracks.Acts.{Does, IsInitAnswer, IsServedBy, IsStep
 -- ---- a cluster that stands
 
 -- the turns before the line are tracked, and each replica is what the list says
-pub record MayGoOn {D : Type 0} {G : Ghosts D} (state : D → DiskState) (tells : Bool) (first now : Depot D) (turns : List Turn) (calls : List ℕ) (m : Members D G) : Type 0 where
-  pub tracks : Tracks state tells first now turns (Some m) calls
+pub record MayGoOn {D : Type 0} {G : Ghosts D} (state : D → DiskState) (tells : Bool) (past : List Record) (start : Option MetaState) (first now : Depot D) (turns : List Turn) (calls : List ℕ) (m : Members D G) : Type 0 where
+  pub tracks : Tracks state tells past start first now turns (Some m) calls
   pub members : AreMembersOf state m.net.replicas
 
 -- what an act leaves: the list is legal, and calls may be made
@@ -40,9 +41,9 @@ pub record IsLeft {D : Type 0} {G : Ghosts D} (tells : Bool) (g : Members D G) :
 -- The line of an act, whatever it is answered.
 abbrev pub IsTrackedLine : {D : Type 0} {G : Ghosts D} → (D → DiskState) → Members D G → Act → Type 0
 IsTrackedLine {D} {G} state m a =
-    (tells : Bool) (first now : Depot D) (turns : List Turn) (calls : List ℕ) (b : Answer) (g : Members D G)
-    → MayGoOn state tells first now turns calls m → IsLeft tells g → Does state (next_call calls) m a b g
-    → Tracks state tells first now (turns ++ line_of a b ∷ []) (Some g) (numbers_by a b calls)
+    (tells : Bool) (past : List Record) (start : Option MetaState) (first now : Depot D) (turns : List Turn) (calls : List ℕ) (b : Answer) (g : Members D G)
+    → MayGoOn state tells past start first now turns calls m → IsLeft tells g → Does state (next_call calls) m a b g
+    → Tracks state tells past start first now (turns ++ line_of a b ∷ []) (Some g) (numbers_by a b calls)
 
 -- ---- acts of it
 
@@ -102,30 +103,30 @@ EachMember (Some m) Holds = Holds m
 -- where none stands, each other act is out of order
 abbrev pub OrdersAreTracked : {D : Type 0} {G : Ghosts D} → (D → DiskState) → Option (Members D G) → Type 0
 OrdersAreTracked {D} state none =
-    (tells : Bool) (first now : Depot D) (turns : List Turn) (calls : List ℕ) (a : Act) → none ≡ None → ¬ IsInitAct a → Tracks state tells first now turns none calls
-    → Tracks state tells first now (turns ++ line_of a answer.Order ∷ []) none (numbers_by a answer.Order calls)
+    (tells : Bool) (past : List Record) (start : Option MetaState) (first now : Depot D) (turns : List Turn) (calls : List ℕ) (a : Act) → none ≡ None → ¬ IsInitAct a → Tracks state tells past start first now turns none calls
+    → Tracks state tells past start first now (turns ++ line_of a answer.Order ∷ []) none (numbers_by a answer.Order calls)
 
 -- an `init`, by which a cluster was made or none; what it made is left so
 abbrev pub InitsAreTracked : {D : Type 0} {G : Ghosts D} → (D → DiskState) → Option (Members D G) → Type 0
 InitsAreTracked {D} {G} state old =
-    (tells : Bool) (first before after : Depot D) (turns : List Turn) (calls : List ℕ) (rf shards seed : ℕ) (nodes : List (List ℕ × List ℕ)) (b : Answer) (new : Option (Members D G))
-    → Tracks state tells first before turns old calls → ((m : Members D G) → new ≡ Some m → IsLeft tells m) → IsInitAnswer state before old rf shards seed nodes b after new
-    → Tracks state tells first after (turns ++ line_of (act.Init rf shards seed nodes) b ∷ []) new (numbers_by (act.Init rf shards seed nodes) b calls)
+    (tells : Bool) (past : List Record) (start : Option MetaState) (first before after : Depot D) (turns : List Turn) (calls : List ℕ) (rf shards seed : ℕ) (nodes : List (List ℕ × List ℕ)) (b : Answer) (new : Option (Members D G))
+    → Tracks state tells past start first before turns old calls → ((m : Members D G) → new ≡ Some m → IsLeft tells m) → IsInitAnswer state before old rf shards seed nodes b after new
+    → Tracks state tells past start first after (turns ++ line_of (act.Init rf shards seed nodes) b ∷ []) new (numbers_by (act.Init rf shards seed nodes) b calls)
 
 -- ---- lines that make a placement
 
 -- Such a line, whatever it is answered; and what is left of the cluster has what the next one needs.
 abbrev pub StepsAreTracked : {D : Type 0} {G : Ghosts D} → (D → DiskState) → Option (Members D G) → Type 0
 StepsAreTracked {D} {G} state old =
-    (tells : Bool) (first before after : Depot D) (turns : List Turn) (calls : List ℕ) (a : Act) (b : Answer) (new : Option (Members D G))
-    → is_step_act a ≡ true → Tracks state tells first before turns old calls → EachMember new (λ m. IsLeft tells m) → EachMember new (λ m. MayChange m after.held) → IsStepAnswer state before old a b after new
-    → Tracks state tells first after (turns ++ line_of a b ∷ []) new (numbers_by a b calls)
+    (tells : Bool) (past : List Record) (start : Option MetaState) (first before after : Depot D) (turns : List Turn) (calls : List ℕ) (a : Act) (b : Answer) (new : Option (Members D G))
+    → is_step_act a ≡ true → Tracks state tells past start first before turns old calls → EachMember new (λ m. IsLeft tells m) → EachMember new (λ m. MayChange m after.held) → IsStepAnswer state before old a b after new
+    → Tracks state tells past start first after (turns ++ line_of a b ∷ []) new (numbers_by a b calls)
 
 -- ---- all acts
 
 -- The line of an act that is served, whatever it is answered.
 abbrev pub LinesAreTracked : {D : Type 0} {G : Ghosts D} → (D → DiskState) → Option (Members D G) → Type 0
 LinesAreTracked {D} {G} state old =
-    (tells : Bool) (first before after : Depot D) (turns : List Turn) (calls : List ℕ) (a : Act) (b : Answer) (new : Option (Members D G))
-    → IsServedAct a → Tracks state tells first before turns old calls → EachMember old (λ m. AreMembersOf state m.net.replicas) → EachMember new (λ m. IsLeft tells m)
-    → EachMember new (λ m. MayChange m after.held) → IsServedBy state calls before old a b after new → Tracks state tells first after (turns ++ line_of a b ∷ []) new (numbers_by a b calls)
+    (tells : Bool) (past : List Record) (start : Option MetaState) (first before after : Depot D) (turns : List Turn) (calls : List ℕ) (a : Act) (b : Answer) (new : Option (Members D G))
+    → IsServedAct a → Tracks state tells past start first before turns old calls → EachMember old (λ m. AreMembersOf state m.net.replicas) → EachMember new (λ m. IsLeft tells m)
+    → EachMember new (λ m. MayChange m after.held) → IsServedBy state calls before old a b after new → Tracks state tells past start first after (turns ++ line_of a b ∷ []) new (numbers_by a b calls)

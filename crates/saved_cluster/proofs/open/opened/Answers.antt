@@ -8,6 +8,7 @@ use Rattle.line_tracks.specs.tracks.Lines.{EachMember}
 use Rattle.served_cluster.specs.Owned.{AreReady}
 use Rattle.served_cluster.proofs.OwnLemmas.{not_some}
 use Rattle.saved_cluster.specs.Openings.{OpensWith}
+use Rattle.saved_cluster.proofs.TrackLemmas.{begins_afresh, begins_bare}
 use Rattle.saved_cluster.proofs.OpenLemmas.{all_left, may_serve}
 use Rattle.saved_cluster.proofs.open.opened.Goals as goal
 
@@ -21,7 +22,7 @@ returns-in_default g c =
       calls = c.new.ensures.calls;
       may = record { owned = subst (λ o. OwnedBy o (g.X.Disks.depot c.args.disks.now).held) (sym c.new.ensures.none) c.requires.free; ready = subst AreReady (sym c.new.ensures.none) tt };
       stands = subst (λ o. EachMember o (ClusterStands c.args.last [])) (sym c.new.ensures.none) tt;
-      tracks = λ initial tells tell bare. c.new.ensures.tracks tells before tell bare;
+      tracks = begins_bare g.D.Disk.state before c.new.result c.new.ensures.none (λ tells past tell lain. c.new.ensures.tracks tells past before tell lain);
       returned = tt;
       cause = tt;
     }
@@ -40,7 +41,7 @@ returns-in-Ok g c =
       calls = c.of.ensures.calls;
       may = may_serve c.of.result m (g.X.Disks.depot c.open_members.new.disks).held c.of.ensures.members c.in-Ok.ensures.may;
       stands = subst (λ o. EachMember o (ClusterStands c.args.last [])) (sym c.of.ensures.members) (subst (λ last. ClusterStands last [] m) (sym c.in-Some.is) c.in-Ok.ensures.stands);
-      tracks = λ initial. absurd (let clash : Some m.net.state ≡ None = sym (ap (option_map (λ x. x.net.state)) c.of.ensures.members) ∙ initial in cc);
+      tracks = begins_afresh g.D.Disk.state before c.of.result after c.in-Some.state m (subst MayBeState c.in-Some.is c.requires.state).place c.of.ensures.members c.of.ensures.calls c.in-Ok.ensures.opened c.in-Ok.ensures.stands;
       returned = tt;
       cause = tt;
     }

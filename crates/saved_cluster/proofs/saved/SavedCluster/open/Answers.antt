@@ -12,7 +12,7 @@ returns-in-Err-Failed g c =
     let after = g.X.Disks.depot c.take.new.self in
     let take = c.take.ensures in
     let back = not_taken g.D.Disk.state before after c.in-Err-Failed.ensures.refused take.others take.counted take.cause.later in
-    record { opened = tt; may = tt; stands = tt; tracks = tt; none_out = back_none_out g.D.Disk.state before after back c.requires.none_out; returned = back; cause = inl (c.in-Err-Failed.ensures.cause.rose (ap Err c.in-Err-Failed.field-0-is)) }
+    record { opened = tt; may = tt; stands = tt; none_out = back_none_out g.D.Disk.state before after back c.requires.none_out; returned = back; cause = inl (c.in-Err-Failed.ensures.cause.rose (ap Err c.in-Err-Failed.field-0-is)) }
 
 pub returns-in-Err-Memory : goal.returns-in-Err-Memory
 returns-in-Err-Memory g c =
@@ -20,7 +20,7 @@ returns-in-Err-Memory g c =
     let after = g.X.Disks.depot c.take.new.self in
     let take = c.take.ensures in
     let back = not_taken g.D.Disk.state before after c.in-Err-Memory.ensures.refused take.others take.counted take.cause.later in
-    record { opened = tt; may = tt; stands = tt; tracks = tt; none_out = back_none_out g.D.Disk.state before after back c.requires.none_out; returned = back; cause = tt }
+    record { opened = tt; may = tt; stands = tt; none_out = back_none_out g.D.Disk.state before after back c.requires.none_out; returned = back; cause = tt }
 
 -- Those of nodes are where they were.
 pub opened_over-requires : goal.opened_over-requires
@@ -43,10 +43,10 @@ returns-in-Ok-opened_over g c =
         last = over.last;
         opens = over.opened;
         calls = over.calls;
+        tracks = over.tracks;
       };
       may = record { cluster = over.may; meta_out = opens_out g.D.Disk.state _ mid new c.in-Ok-opened_over.cluster.members over.opened c.in-Ok.ensures.out; log = over.log; state = over.state; saved = over.saved };
       stands = over.stands;
-      tracks = over.tracks;
       none_out = tt;
       returned = tt;
       cause = tt;
@@ -74,7 +74,6 @@ returns-in-Err g c =
       opened = tt;
       may = tt;
       stands = tt;
-      tracks = tt;
       none_out = back_none_out g.D.Disk.state before new back c.requires.none_out;
       returned = back;
       cause = not_opened_so g.D.Disk.state before mid after new disk read c.in-Err.why is_meta take.cause.later give.cause.later give.counted c.in-Err.ensures.cause;

@@ -41,7 +41,7 @@ returns-in-Ok-clause-place g c =
     subst (λ r. placement_after (place_of old) (inner_turns (record { request = r; reply = reply.One c.in-Ok.answer } ∷ [])) ≡ place_of act.new.self.cluster) (sym c.in-One.is) (serves_place g.D.Disk.state before old c.in-One.act c.in-Ok.answer after act.new.self.cluster serves)
 
 pub returns-in-Ok-clause-tracks : goal.returns-in-Ok-clause-tracks
-returns-in-Ok-clause-tracks g c = λ tells first turns t.
+returns-in-Ok-clause-tracks g c = λ tells past start first turns t.
     let act = c.serve_act-answered in
     let before = g.X.Disks.depot c.args.disks.now in
     let after = g.X.Disks.depot act.new.disks in
@@ -51,11 +51,11 @@ returns-in-Ok-clause-tracks g c = λ tells first turns t.
       _,
       refl,
       tracks_on g.D.Disk.state g.met.D.Disk.lawful old act.new.self.cluster before after c.args.request c.in-One.act c.in-Ok.answer c.in-One.is (subst IsServed c.in-One.is c.requires.served)
-          c.know.ensures.members serves c.know-in-One.ensures.legal answered.close.cluster tells first turns t,
+          c.know.ensures.members serves c.know-in-One.ensures.legal answered.close.cluster tells past start first turns t,
     )
 
 pub returns-in-Err-clause-tracks : goal.returns-in-Err-clause-tracks
-returns-in-Err-clause-tracks g c = λ tells first turns t.
+returns-in-Err-clause-tracks g c = λ tells past start first turns t.
     let act = c.serve_act-answered in
     let before = g.X.Disks.depot c.args.disks.now in
     let after = g.X.Disks.depot act.new.disks in
@@ -64,7 +64,7 @@ returns-in-Err-clause-tracks g c = λ tells first turns t.
       reply.One said.0,
       tt,
       tracks_on g.D.Disk.state g.met.D.Disk.lawful old act.new.self.cluster before after c.args.request c.in-One.act said.0 c.in-One.is (subst IsServed c.in-One.is c.requires.served)
-          c.know.ensures.members said.2 c.know-in-One.ensures.legal act.ensures.answered.close.cluster tells first turns t,
+          c.know.ensures.members said.2 c.know-in-One.ensures.legal act.ensures.answered.close.cluster tells past start first turns t,
     )
 
 pub returns-in-Err-clause-served : goal.returns-in-Err-clause-served
@@ -78,12 +78,12 @@ returns-in-Err-clause-served g c =
 pub returns-in-Ok-clause-any_moment : goal.returns-in-Ok-clause-any_moment
 returns-in-Ok-clause-any_moment g c = λ tells.
     let old = c.args.self.now in
-    subst (λ r. ElapsesBy old.cluster r (g.D.Disk.state old.meta) (g.D.Disk.state c.serve_act-answered.new.self.meta)) (sym c.in-One.is) (c.serve_act-answered.ensures.answered.any_moment tells)
+    subst (λ r. ElapsesBy old.cluster r c.serve_act-answered.new.self.cluster (g.D.Disk.state old.meta) (g.D.Disk.state c.serve_act-answered.new.self.meta)) (sym c.in-One.is) (c.serve_act-answered.ensures.answered.any_moment tells)
 
 pub returns-in-Err-clause-any_moment : goal.returns-in-Err-clause-any_moment
 returns-in-Err-clause-any_moment g c = λ tells.
     let old = c.args.self.now in
-    subst (λ r. ElapsesBy old.cluster r (g.D.Disk.state old.meta) (g.D.Disk.state c.serve_act-answered.new.self.meta)) (sym c.in-One.is) (c.serve_act-answered.ensures.answered.any_moment tells)
+    subst (λ r. ElapsesBy old.cluster r c.serve_act-answered.new.self.cluster (g.D.Disk.state old.meta) (g.D.Disk.state c.serve_act-answered.new.self.meta)) (sym c.in-One.is) (c.serve_act-answered.ensures.answered.any_moment tells)
 
 -- Why it got no reply is why the act got no answer.
 

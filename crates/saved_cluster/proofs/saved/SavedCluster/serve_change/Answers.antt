@@ -36,7 +36,7 @@ returns-in-Err-Memory-clause-answered g c =
     let depot = g.X.Disks.depot c.args.disks.now in
     let old = c.args.self.now in
     let readied = c.ready.ensures in
-    answered_unsaved g.D.Disk.state depot depot old c.ready.new.self c.args.act answer.Memory (may_readied g.D.Disk.state depot.held old c.ready.new.self readied.cluster readied.log readied.tells readied.any_moment c.requires.may)
+    answered_unsaved g.D.Disk.state depot depot old c.ready.new.self c.args.act answer.Memory (ap state_of readied.cluster) (may_readied g.D.Disk.state depot.held old c.ready.new.self readied.cluster readied.log readied.tells readied.any_moment c.requires.may)
     (subst (λ x. Serves g.D.Disk.state depot old.cluster c.args.act answer.Memory depot x) (sym readied.cluster) (wanted_serves g.D.Disk.state old.cluster c.args.act c.in-Ok.plan c.in-Ok.ensures.planned depot)) readied.any_moment readied.tells
     (counts_none _ _ _ (λ is. (let clash = sym (ap Err c.in-Err-Memory.field-0-is) ∙ is in cc)) c.in-Err-Memory.ensures.faults)
 
@@ -45,7 +45,7 @@ returns-in-Err-Failed-clause-answered g c =
     let depot = g.X.Disks.depot c.args.disks.now in
     let old = c.args.self.now in
     let readied = c.ready.ensures in
-    lost_unsaved g.D.Disk.state depot depot old c.ready.new.self c.args.act answer.Memory (may_close g.D.Disk.state c.ready.new.self depot.held (may_readied g.D.Disk.state depot.held old c.ready.new.self readied.cluster readied.log readied.tells readied.any_moment c.requires.may))
+    lost_unsaved g.D.Disk.state depot depot old c.ready.new.self c.args.act answer.Memory (ap state_of readied.cluster) (may_close g.D.Disk.state c.ready.new.self depot.held (may_readied g.D.Disk.state depot.held old c.ready.new.self readied.cluster readied.log readied.tells readied.any_moment c.requires.may))
     (subst (λ x. Serves g.D.Disk.state depot old.cluster c.args.act answer.Memory depot x) (sym readied.cluster) (wanted_serves g.D.Disk.state old.cluster c.args.act c.in-Ok.plan c.in-Ok.ensures.planned depot)) readied.any_moment readied.tells
     (counts_as _ _ _ _ (λ is. ap Err c.in-Err-Failed.field-0-is) c.in-Err-Failed.ensures.faults)
 
@@ -68,7 +68,7 @@ returns-then-not-made-clause-answered g c =
     let planned = subst (λ x. IsPlannedBy x c.args.act c.in-Ok.plan) (sym readied.cluster) c.in-Ok.ensures.planned in
     let serves = subst (λ x. Serves g.D.Disk.state before x c.args.act c.make-answer.result.0 after c.make-answer.new.self) readied.cluster (made.served c.args.act planned) in
     let same = made.state ∙ state_unmade c.make-answer.result.1 c.in-Ok.plan (state_of c.ready.new.self.cluster) c.if-not-made.true in
-    answered_unsaved g.D.Disk.state before after old _ c.args.act c.make-answer.result.0
+    answered_unsaved g.D.Disk.state before after old _ c.args.act c.make-answer.result.0 (same ∙ ap state_of readied.cluster)
     (record {
       cluster = made.owned;
       meta_out = serves_out g.D.Disk.state before old.cluster c.args.act c.make-answer.result.0 after c.make-answer.new.self serves c.requires.may.meta_out;
@@ -103,7 +103,7 @@ returns-in-Ok-save-clause-answered g c =
     let same = made.state ∙ state_made c.make-answer.result.1 c.in-Ok.plan (state_of mid.cluster) c.if-not-made.false ∙ ap (λ x. option_map (by_plan c.in-Ok.plan) (state_of x)) readied.cluster in
     let leads = sym saved.any_moment.1 ∙ same in
     let stands = ap state_of saved.cluster ∙ saved.any_moment.1 in
-    answered_saved g.D.Disk.state before after old mid final c.args.act next (plan_leads old.cluster c.args.act c.in-Ok.plan c.in-Ok.ensures.planned next leads) readied.any_moment readied.tells (counts_none _ _ _ (λ is. cc) c.in-Ok-ready.ensures.faults) saved.any_moment.2 saved.tells c.make-answer.result.0
+    answered_saved g.D.Disk.state before after old mid final c.args.act next (plan_leads old.cluster c.args.act c.in-Ok.plan c.in-Ok.ensures.planned next leads) readied.any_moment readied.tells (counts_none _ _ _ (λ is. cc) c.in-Ok-ready.ensures.faults) saved.any_moment.2 saved.tells c.make-answer.result.0 (subst (λ o. IfSome o (λ it. it ≡ next)) (sym stands) refl)
     (record {
       cluster = subst (λ x. MayServeCluster x after.held) (sym saved.cluster) made.owned;
       meta_out = serves_out g.D.Disk.state before old.cluster c.args.act c.make-answer.result.0 after final.cluster serves c.requires.may.meta_out;
@@ -127,5 +127,5 @@ returns-in-Err-save-clause-answered g c =
     let next = saved.any_moment.0 in
     let same = made.state ∙ state_made c.make-answer.result.1 c.in-Ok.plan (state_of mid.cluster) c.if-not-made.false ∙ ap (λ x. option_map (by_plan c.in-Ok.plan) (state_of x)) readied.cluster in
     let leads = sym saved.any_moment.1 ∙ same in
-    lost_saved g.D.Disk.state before after old mid final c.args.act next (plan_leads old.cluster c.args.act c.in-Ok.plan c.in-Ok.ensures.planned next leads) readied.any_moment readied.tells (counts_none _ _ _ (λ is. cc) c.in-Ok-ready.ensures.faults) saved.any_moment.2 saved.tells c.in-Err-save.lost c.make-answer.result.0
+    lost_saved g.D.Disk.state before after old mid final c.args.act next (plan_leads old.cluster c.args.act c.in-Ok.plan c.in-Ok.ensures.planned next leads) readied.any_moment readied.tells (counts_none _ _ _ (λ is. cc) c.in-Ok-ready.ensures.faults) saved.any_moment.2 saved.tells c.in-Err-save.lost c.make-answer.result.0 (subst (λ o. IfSome o (λ it. it ≡ next)) (sym (ap state_of saved.cluster ∙ saved.any_moment.1)) refl)
     (record { cluster = subst (λ x. MayServeCluster x after.held) (sym saved.cluster) made.owned; meta_out = serves_out g.D.Disk.state before old.cluster c.args.act c.make-answer.result.0 after final.cluster serves c.requires.may.meta_out }) serves (counts_as _ _ _ _ (λ is. refl) c.in-Err-save.ensures.faults)

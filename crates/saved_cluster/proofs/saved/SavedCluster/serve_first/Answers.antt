@@ -46,7 +46,7 @@ returns-in-Err-Memory-clause-answered g c =
     let depot = g.X.Disks.depot c.args.disks.now in
     let old = c.args.self.now in
     let ready = c.ready.ensures in
-    answered_unsaved g.D.Disk.state depot depot old _ (act.Init c.args.rf c.args.shards c.args.seed c.args.nodes) answer.Memory (may_readied g.D.Disk.state depot.held old _ refl ready.stands ready.tells ready.any_moment c.requires.may)
+    answered_unsaved g.D.Disk.state depot depot old _ (act.Init c.args.rf c.args.shards c.args.seed c.args.nodes) answer.Memory refl (may_readied g.D.Disk.state depot.held old _ refl ready.stands ready.tells ready.any_moment c.requires.may)
     (record { members = (c.requires.none, c.requires.none, returned_none g.D.Disk.state depot); calls = refl }) ready.any_moment ready.tells (counts_none _ _ _ (λ is. (let clash = sym (ap Err c.in-Err-Memory.field-0-is) ∙ is in cc)) c.in-Err-Memory.ensures.faults)
 
 pub returns-in-Err-Failed-clause-answered : goal.returns-in-Err-Failed-clause-answered
@@ -54,7 +54,7 @@ returns-in-Err-Failed-clause-answered g c =
     let depot = g.X.Disks.depot c.args.disks.now in
     let old = c.args.self.now in
     let ready = c.ready.ensures in
-    lost_unsaved g.D.Disk.state depot depot old _ (act.Init c.args.rf c.args.shards c.args.seed c.args.nodes) answer.Memory (may_close g.D.Disk.state _ depot.held (may_readied g.D.Disk.state depot.held old _ refl ready.stands ready.tells ready.any_moment c.requires.may))
+    lost_unsaved g.D.Disk.state depot depot old _ (act.Init c.args.rf c.args.shards c.args.seed c.args.nodes) answer.Memory refl (may_close g.D.Disk.state _ depot.held (may_readied g.D.Disk.state depot.held old _ refl ready.stands ready.tells ready.any_moment c.requires.may))
     (record { members = (c.requires.none, c.requires.none, returned_none g.D.Disk.state depot); calls = refl }) ready.any_moment ready.tells (counts_as _ _ _ _ (λ is. ap Err c.in-Err-Failed.field-0-is) c.in-Err-Failed.ensures.faults)
 
 pub returns-in-Err-Failed-clause-untouched : goal.returns-in-Err-Failed-clause-untouched
@@ -80,7 +80,7 @@ returns-in-Err-lend_first-clause-answered g c =
     let refused = refused_init g.D.Disk g.D.Disk.state c.args.rf c.args.shards c.args.seed c.args.nodes before after b (c.in-Err-lend_first.ensures.refused c.args.rf c.args.shards c.args.seed c.args.nodes c.in-Ok.ensures.plan) in
     let here = subst (λ o. IsInitAnswer g.D.Disk.state before None c.args.rf c.args.shards c.args.seed c.args.nodes b after o) (sym none) refused in
     let serves : Serves g.D.Disk.state before old.cluster asked b after old.cluster = record { members = subst (λ o. IsInitAnswer g.D.Disk.state before o c.args.rf c.args.shards c.args.seed c.args.nodes b after old.cluster.members) (sym none) here; calls = refl } in
-    answered_unsaved g.D.Disk.state before after old _ asked b
+    answered_unsaved g.D.Disk.state before after old _ asked b refl
     (record {
       cluster = init_serves g.D.Disk.state c.args.rf c.args.shards c.args.seed c.args.nodes before after b old.cluster (subst (λ o. OwnedBy o before.held) none c.requires.may.cluster.owned) here (subst (λ o. EachMember o (λ m. IsReady m.net.state m.net.replicas m.net.bag)) (sym none) tt);
       meta_out = serves_out g.D.Disk.state before old.cluster asked b after old.cluster serves may.meta_out;
@@ -120,7 +120,7 @@ returns-in-Ok-lend_first-clause-answered g c =
     let served = begun.served c.args.rf c.args.shards c.args.seed c.args.nodes before lent in
     let may = may_readied g.D.Disk.state before.held old mid refl ready.stands ready.tells ready.any_moment c.requires.may in
     begun_answered g.D.Disk.state c.args.rf c.args.shards c.args.seed c.args.nodes before after old mid new next none c.requires.may (record { to = leads; runs = tt }) (first_lawful c.args.rf c.args.shards c.args.seed c.args.nodes next c.requires.limits lent.lawful lent.rules lent.seed_is) ready.any_moment ready.tells
-    (counts_none _ _ _ (λ is. cc) c.in-Ok-ready.ensures.faults) begun.any_moment begun.tells begun.log may.saved c.begin.result served.0 served.1 served.2 begun.ready begun.calls begun.state begun.saved begun.faults
+    (counts_none _ _ _ (λ is. cc) c.in-Ok-ready.ensures.faults) begun.any_moment begun.tells begun.log may.saved c.begin.result served.0 served.1 served.2 begun.ready begun.calls begun.state begun.has begun.saved begun.faults
 
 pub returns-in-Ok-lend_first-clause-untouched : goal.returns-in-Ok-lend_first-clause-untouched
 returns-in-Ok-lend_first-clause-untouched g c = λ is.
