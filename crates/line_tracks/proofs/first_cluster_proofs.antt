@@ -1,4 +1,3 @@
-pub use Rattle.first_cluster.proofs.BareLemmas
 pub use Rattle.first_cluster.proofs.FirstLemmas
 pub use Rattle.first_cluster.proofs.GiveAll
 pub use Rattle.first_cluster.proofs.ListLemmas

@@ -32,12 +32,12 @@ pub turns_of-push : (xs : List Exchange) (x : Exchange) → turns_of (xs ++ x �
 turns_of-push xs x = flat_map-append (λ y. turns_by y.outcome) xs (x ∷ []) ∙ ap (λ ts. turns_of xs ++ ts) (append-nil (turns_by x.outcome))
 
 -- the turns of a run's exchanges left the placement that stands
-known : {D : Type 0} {G : Ghosts D} (state : D → DiskState) (now : Stage D G) (first : Opening D) (xs : List Exchange) → Progress state first xs now → known_place first.start (turns_of xs) ≡ place_of now.saved.cluster
+known : {D : Type 0} {G : Ghosts D} (state : D → DiskState) (now : Stage D G) (first : Opening D G) (xs : List Exchange) → Progress state first xs now → known_place first.start (turns_of xs) ≡ place_of now.saved.cluster
 known state now first xs p = place_led first.start (turns_of xs) now.saved.cluster p.stands.leave
 
 -- a line that makes no turn
 still : {D : Type 0} {G : Ghosts D} (state : D → DiskState) (now : Stage D G) (line text : List ℕ) (outcome : Outcome) → turns_by outcome ≡ []
-    → ((first : Opening D) (xs : List Exchange) → Progress state first xs now → IsOutcome first.start (turns_of xs) line outcome text) → Advances state now line text now
+    → ((first : Opening D G) (xs : List Exchange) → Progress state first xs now → IsOutcome first.start (turns_of xs) line outcome text) → Advances state now line text now
 still state now line text outcome none said = λ first xs p.
     let x : Exchange = record { line = line; outcome = outcome; text = text } in
     let same : turns_of xs ≡ turns_of (xs ++ x ∷ []) = sym (turns_of-push xs x ∙ ap (λ ts. turns_of xs ++ ts) none ∙ append-nil (turns_of xs)) in
@@ -56,7 +56,7 @@ refuses state now line text refusal some why printed =
 
 -- the turns that a run comes after are so with one more
 abbrev pub Follows : {D : Type 0} {G : Ghosts D} → (D → DiskState) → Stage D G → Turn → Stage D G → Type 0
-Follows {D} state old turn new = (first : Opening D) (turns : List Turn) → StandsAfter state first turns old → StandsAfter state first (turns ++ turn ∷ []) new
+Follows {D} {G} state old turn new = (first : Opening D G) (turns : List Turn) → StandsAfter state first turns old → StandsAfter state first (turns ++ turn ∷ []) new
 
 -- a line that makes a turn
 pub answers : {D : Type 0} {G : Ghosts D} (state : D → DiskState) (old new : Stage D G) (line text : List ℕ) (request : Request) (r : Reply) → is_blank line ≡ false → LineMeans line (Ok request) → text ≡ reply_line (place_of new.saved.cluster) r

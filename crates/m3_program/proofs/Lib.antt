@@ -7,6 +7,8 @@ pub mod StateLemmas
 pub mod MetaLemmas
 pub mod PromiseLemmas
 pub mod FreshLemmas
+pub mod LifeLemmas
+pub mod StandLemmas
 pub mod CloseLemmas
 pub mod ExchangeLemmas
 pub mod StreamLemmas

@@ -100,7 +100,7 @@ saved_leaves d start last turns unanswered leave saved tells c image = record { 
 
 -- within a request, or after it
 pub lost_leaves : {D : Type 0} {G : Ghosts D} (old new : DiskState) (start : Option MetaState) (turns : List Turn) (cluster after : Cluster D G) (asked : Request) → new.tells ≡ old.tells → LeaveState start turns (state_of cluster) → IsSaved (state_of cluster) old
-    → (start ≡ None → kept_of cluster ≡ kept_by turns (state_of cluster)) → (start ≡ None → RunsOn cluster asked → IsOnRunning (is_stopped (inner_turns turns)) asked)
+    → kept_of cluster ≡ kept_by start turns (state_of cluster) → (RunsOn cluster asked → IsOnRunning (is_stopped (inner_turns turns)) asked)
     → (old.tells ≡ true → ElapsesBy cluster asked after old new) → StopsLeave new start turns (Some asked)
 lost_leaves old new start turns cluster after asked same leave saved kept runs goes tells c image = by (goes told)
   where
@@ -111,7 +111,7 @@ lost_leaves old new start turns cluster after asked same leave saved kept runs g
     is_last holds = record { last = state_of cluster; may = record { state = state_of cluster; leave = leave; is = inl refl }; holds = holds }
 
     leads_on : (next : MetaState) → Leads cluster asked next → LeadsUnanswered start turns (state_of cluster) asked next
-    leads_on next leads = record { kept = kept_of cluster; leads = leads.to; kept_is = kept; running = λ none. runs none leads.runs }
+    leads_on next leads = record { kept = kept_of cluster; leads = leads.to; kept_is = kept; running = runs leads.runs }
 
     by : ElapsesBy cluster asked after old new → HoldsLast start turns (Some asked) c
     by (inl (same, keeps)) = let step = keeps.images c image in is_last (step.stepped.last (state_of cluster) (saved told step.before step.was))

@@ -19,11 +19,11 @@ use Rattle.m3_program.specs.Openings.{IsUnopened, Opened, Unopened, ended_for}
 use Rattle.m3_program.specs.Passing.{Outflow, Takes}
 use Rattle.m3_program.specs.Rounds.{Goes, HasPlayed, Stopped}
 use Rattle.m3_program.specs.Scripts.{Generates, PlayedTo, reply_of, turns_of_parts}
-use Rattle.m3_program.specs.Streams.{Opening, Stage}
+use Rattle.m3_program.specs.Streams.{Opening, Stage, opening_at, stage}
 use Rattle.m3_program.specs.declared.status.Status.{Status}
 use Rattle.m3_program.specs.declared.status.Status.TheVariants as status
-use Rattle.m3_program.proofs.CloseLemmas.{causes_of_first, kept_of_first}
-use Rattle.m3_program.proofs.FreshLemmas.{is_found, none_found}
+use Rattle.m3_program.proofs.CloseLemmas.{causes_over, kept_over}
+use Rattle.m3_program.proofs.FreshLemmas.{is_found}
 use Rattle.m3_program.proofs.PromiseLemmas.{Closes}
 use Rattle.m3_program.proofs.ScriptLemmas.{stopped_fewer, stops_here}
 use Rattle.m3_program.proofs.WrittenLemmas.{appends_nothing}
@@ -31,23 +31,23 @@ use Rattle.m3_program.proofs.WrittenLemmas.{appends_nothing}
 -- ---- how it ends
 
 -- what a run of a script tells at its end, before its disks are given back
-abbrev pub Tells : {D : Type 0} {G : Ghosts D} → (D → DiskState) → Opening D → ℕ → Stage D G → Status → Outflow → Outflow → Type 0
+abbrev pub Tells : {D : Type 0} {G : Ghosts D} → (D → DiskState) → Opening D G → ℕ → Stage D G → Status → Outflow → Outflow → Type 0
 Tells state first number now s sink0 sink = (text : List ℕ) × Takes sink0 sink text × HasPlayed state first number s text now
 
 -- it came to the end of the script
-pub played_whole : {D : Type 0} {G : Ghosts D} (state : D → DiskState) (first : Opening D) (number : ℕ) (now : Stage D G) (summary : Summary) (s : Status) (text : List ℕ) → (goes : Goes state first number [] summary now)
+pub played_whole : {D : Type 0} {G : Ghosts D} (state : D → DiskState) (first : Opening D G) (number : ℕ) (now : Stage D G) (summary : Summary) (s : Status) (text : List ℕ) → (goes : Goes state first number [] summary now)
     → (s ≡ status.DiskFault → ⊥) → PlayedTo s goes.parts [] None text → HasPlayed state first number s text now
 played_whole state first number now summary s text goes never played = record { stopped = stops_here state first number goes.parts [] now (s ≡ status.DiskFault) never goes.within; played_to = played }
 
 -- its line was written
-pub tells_all : {D : Type 0} {G : Ghosts D} (state : D → DiskState) (first : Opening D) (number : ℕ) (now : Stage D G) (summary : Summary) (line bytes : List ℕ) → Goes state first number [] summary now
+pub tells_all : {D : Type 0} {G : Ghosts D} (state : D → DiskState) (first : Opening D G) (number : ℕ) (now : Stage D G) (summary : Summary) (line bytes : List ℕ) → Goes state first number [] summary now
     → ((replies : List Reply) → Counts replies summary → line ≡ summary_line replies) → bytes ≡ line
     → (sink sink2 : Outflow) → Takes sink sink2 bytes → Tells state first number now status.Done sink sink2
 tells_all state first number now summary line bytes goes spells same sink sink2 added =
     (bytes, added, played_whole state first number now summary status.Done bytes goes (λ is. (let clash : status.Done ≡ status.DiskFault = is in cc)) (refl, same ∙ spells (map reply_of goes.parts) goes.counts))
 
 -- a front of its line was written
-pub tells_front : {D : Type 0} {G : Ghosts D} (state : D → DiskState) (first : Opening D) (number : ℕ) (now : Stage D G) (summary : Summary) (line bytes : List ℕ) (n : ℕ) (s : Status) → Goes state first number [] summary now
+pub tells_front : {D : Type 0} {G : Ghosts D} (state : D → DiskState) (first : Opening D G) (number : ℕ) (now : Stage D G) (summary : Summary) (line bytes : List ℕ) (n : ℕ) (s : Status) → Goes state first number [] summary now
     → ((replies : List Reply) → Counts replies summary → line ≡ summary_line replies) → bytes ≡ line → s ≡ status.WriteFault
     → (sink sink2 : Outflow) → Takes sink sink2 (take n bytes) → Tells state first number now s sink sink2
 tells_front state first number now summary line bytes n s goes spells same ended sink sink2 added =
@@ -56,12 +56,12 @@ tells_front state first number now summary line bytes n s goes spells same ended
     (take n bytes, added, played_whole state first number now summary status.WriteFault (take n bytes) goes (λ is. (let clash : status.WriteFault ≡ status.DiskFault = is in cc)) (refl, drop n bytes, whole))
 
 -- memory was wanted for its line
-pub tells_none : {D : Type 0} {G : Ghosts D} (state : D → DiskState) (first : Opening D) (number : ℕ) (now : Stage D G) (summary : Summary) → Goes state first number [] summary now
+pub tells_none : {D : Type 0} {G : Ghosts D} (state : D → DiskState) (first : Opening D G) (number : ℕ) (now : Stage D G) (summary : Summary) → Goes state first number [] summary now
     → (sink : Outflow) → Tells state first number now status.Memory sink sink
 tells_none state first number now summary goes sink = ([], appends_nothing sink, played_whole state first number now summary status.Memory [] goes (λ is. (let clash : status.Memory ≡ status.DiskFault = is in cc)) refl)
 
 -- it couldn't go on
-pub tells_lost : {D : Type 0} {G : Ghosts D} (state : D → DiskState) (first : Opening D) (number : ℕ) (now : Stage D G) (why : Lost) → Stopped state first number now (why ≡ lost.Meta)
+pub tells_lost : {D : Type 0} {G : Ghosts D} (state : D → DiskState) (first : Opening D G) (number : ℕ) (now : Stage D G) (why : Lost) → Stopped state first number now (why ≡ lost.Meta)
     → (sink : Outflow) → Tells state first number now (ended_for why) sink sink
 tells_lost state first number now lost.Meta stopped sink =
     ([], appends_nothing sink, record { stopped = stopped_fewer state first number now (lost.Meta ≡ lost.Meta) (status.DiskFault ≡ status.DiskFault) stopped (λ ended. refl); played_to = (refl, stopped.was_taken refl) })
@@ -71,14 +71,14 @@ tells_lost state first number now lost.Memory stopped sink =
 -- ---- what it promises
 
 -- the words couldn't be read, or the cluster wasn't opened, and nothing was served
-pub generated_unopened : {D : Type 0} (state : D → DiskState) (first now : Depot D) (number : ℕ) (s : Status) → IsUnopened state first now s → (sink : Outflow) → (text : List ℕ) × Takes sink sink text × Generates state first now [] number s text
+pub generated_unopened : {D : Type 0} (state : D → DiskState) (first now : Depot D) (number : ℕ) (s : Status) → IsUnopened state first now s → (sink : Outflow) → (text : List ℕ) × Takes sink sink text × Generates state first now number s text
 generated_unopened state first now number s unopened sink = ([], appends_nothing sink, Unopened unopened refl)
 
 -- the disks are given back
-pub generated_closes : {D : Type 0} {G : Ghosts D} (state : D → DiskState) → ((d : D) → IsLawfulDisk (state d)) → (before now : Depot D) (c : SavedCluster D G) → IsOpened state before now c → (number : ℕ) (mid : Stage D G) (last : Depot D) (s : Status)
-    → (state_of c.cluster ≡ None → Closes state before (record { start = state_of c.cluster; depot = now }) mid last) → last.held meta_slot ≡ Here mid.saved.meta
-    → (sink0 sink : Outflow) → Tells state (record { start = state_of c.cluster; depot = now }) number mid s sink0 sink
-    → (text : List ℕ) × Takes sink0 sink text × Generates state before last [] number s text
+pub generated_closes : {D : Type 0} {G : Ghosts D} (state : D → DiskState) → ((d : D) → IsLawfulDisk (state d)) → (before now : Depot D) (c : SavedCluster D G) (opened : IsOpened state before now c) (number : ℕ) (mid : Stage D G) (last : Depot D) (s : Status)
+    → Closes state before opened.mid mid last → last.held meta_slot ≡ Here mid.saved.meta
+    → (sink0 sink : Outflow) → Tells state (opening_at (stage c now)) number mid s sink0 sink
+    → (text : List ℕ) × Takes sink0 sink text × Generates state before last number s text
 generated_closes state lawful before now c opened number mid last s closes back sink0 sink (text, is, played) =
     let stopped = played.stopped in
     let turns = turns_of_parts stopped.parts in (
@@ -86,12 +86,11 @@ generated_closes state lawful before now c opened number mid last s closes back 
       is,
       Opened (state_of c.cluster) (record {
         found = is_found state before now c opened;
-        none_found = none_found state before now c opened;
         course = record { parts = stopped.parts; later = stopped.later; unanswered = stopped.unanswered; of_script = stopped.of_script; taken = stopped.taken; each = stopped.each };
         played_to = played.played_to;
         meta = record { disk = mid.saved.meta; back = back; leaves = stopped.served.leaves };
-        kept = λ empty. kept_of_first state lawful before now c opened mid turns stopped.unanswered stopped.served empty;
         joined = stopped.served.joined;
-        causes = λ tells is_first. causes_of_first state lawful before now c opened mid last closes turns stopped.unanswered stopped.served tells is_first;
+        kept = kept_over state lawful before now c opened mid turns stopped.unanswered stopped.served;
+        causes = causes_over state lawful before now c opened mid turns stopped.unanswered stopped.served last closes;
       }),
     )

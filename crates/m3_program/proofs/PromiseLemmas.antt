@@ -11,7 +11,6 @@ use Rattle.m3_model.proofs.Lists.{All-from_each}
 use Rattle.transcripts.specs.Fates.{is_stopped}
 use Rattle.transcripts.specs.Faults.{is_taking}
 use Rattle.transcripts.specs.Joined.{Joined}
-use Rattle.transcripts.specs.Kept.{Kept}
 use Rattle.transcripts.specs.Placements.{placement_after}
 use Rattle.transcripts.specs.Record.{Life, Record, inner_turns}
 use Rattle.m3_outside.specs.Causes.{RoseBy}
@@ -28,7 +27,6 @@ use Rattle.saved_cluster.specs.replica_exchange.declared.slot.Slot.{Slot}
 use Rattle.saved_cluster.specs.session_net.Runs.{slot_at}
 use Rattle.saved_cluster.specs.served_cluster.Ends.{AreGivenBack, is_failed_at, replica_at}
 use Rattle.saved_cluster.specs.served_cluster.Tracks.{faults_of}
-use Rattle.saved_cluster.proofs.served_cluster_proofs.EndLemmas.{caused_where_tracked, joined_where_tracked, kept_where_tracked, shown_where_tracked}
 use Rattle.saved_cluster.specs.served_cluster.Acts.{ServesRequest}
 use Rattle.saved_cluster.specs.served_cluster.Owned.{TracksTurns, place_of}
 use Rattle.saved_cluster.specs.served_cluster.Plans.{state_of}
@@ -38,6 +36,7 @@ use Rattle.saved_cluster.specs.States.{IsOnRunning, kept_of}
 use Rattle.saved_cluster.proofs.BesideLemmas.{kept_left, running_left}
 use Rattle.saved_cluster.specs.declared.lost.Lost.{Lost}
 use Rattle.saved_cluster.proofs.OutLemmas.{meta_at}
+use Rattle.saved_cluster.proofs.served_cluster_proofs.EndLemmas.{caused_where_tracked, joined_where_tracked, shown_where_tracked}
 use Rattle.m3_program.specs.Exchanges.{Exchange, turns_of}
 use Rattle.m3_program.specs.Faults.{IsOfRun, counts_of, one_for}
 use Rattle.m3_program.specs.Runs.{HasCauses}
@@ -54,27 +53,29 @@ may_close state c held may = record { cluster = may.cluster; meta_out = may.meta
 
 -- before the first turn
 pub begins_so : {D : Type 0} {G : Ghosts D} (state : D → DiskState) (now : Stage D G) → IsFresh state now → StandsAfter state (opening_at now) [] now
-begins_so state now fresh = record { leave = leave_nothing (state_of now.saved.cluster); saved = fresh.saved; counted = refl; tracks = fresh.tracks }
+begins_so state now fresh = record { leave = leave_nothing (state_of now.saved.cluster); saved = fresh.saved; counted = refl; untold = fresh.untold; tracks = λ tells past lay begins. begins }
 
--- in a first run of these turns, whatever the disks tell, whoever turned available was joined
-joined_so : {D : Type 0} {G : Ghosts D} (state : D → DiskState) (first : Opening D) (now : Stage D G) (turns : List Turn) (unanswered : Option Request) → StandsAfter state first turns now → first.start ≡ None
-    → Joined (record { past = []; present = record { start = first.start; turns = turns; unanswered = unanswered } })
-joined_so state first now turns unanswered s none =
-    let tracks = s.tracks false (record { none = none; tell = λ e. (let clash : false ≡ true = e in cc); bare = λ e. (let clash : false ≡ true = e in cc) }) in
-    subst (λ (o : Option MetaState). Joined (record { past = []; present = record { start = o; turns = turns; unanswered = unanswered } })) (sym none)
-    (joined_where_tracked state now.saved.cluster.members false [] None first.depot now.depot turns now.saved.cluster.calls unanswered tracks)
+-- so the turns are tracked, whatever the disks tell and whatever runs were before
+untold_so : {D : Type 0} {G : Ghosts D} (state : D → DiskState) (first : Opening D G) (now : Stage D G) (turns : List Turn) (s : StandsAfter state first turns now) (past : List Record) → TracksTurns state false past first.start (s.untold).lay now.depot turns now.saved.cluster
+untold_so state first now turns s past = s.tracks false past (s.untold).lay ((s.untold).each past)
+
+-- and whoever turned available was joined
+joined_so : {D : Type 0} {G : Ghosts D} (state : D → DiskState) (first : Opening D G) (now : Stage D G) (turns : List Turn) (unanswered : Option Request) → StandsAfter state first turns now → (past : List Record)
+    → Joined (record { past = past; present = record { start = first.start; turns = turns; unanswered = unanswered } })
+joined_so state first now turns unanswered s past =
+    joined_where_tracked state now.saved.cluster.members false past first.start (s.untold).lay now.depot turns now.saved.cluster.calls unanswered (untold_so state first now turns s past)
 
 -- nothing more was served after these turns
-pub stood : {D : Type 0} {G : Ghosts D} (state : D → DiskState) (first : Opening D) (now : Stage D G) (turns : List Turn) (unanswered : Option Request) → StandsAfter state first turns now → HaveServed state first now turns unanswered
+pub stood : {D : Type 0} {G : Ghosts D} (state : D → DiskState) (first : Opening D G) (now : Stage D G) (turns : List Turn) (unanswered : Option Request) → StandsAfter state first turns now → HaveServed state first now turns unanswered
 stood state first now turns unanswered s = record {
   leaves = saved_leaves (state now.saved.meta) first.start (state_of now.saved.cluster) turns unanswered s.leave s.saved;
   counted = s.counted;
-  tracked = λ tells may. record { more = []; few = omega arith; tracks = subst (λ ts. TracksTurns state tells [] None first.depot now.depot ts now.saved.cluster) (sym (append-nil turns)) (s.tracks tells may) };
+  tracked = λ tells past lay begins. record { more = []; few = omega arith; tracks = subst (λ ts. TracksTurns state tells past first.start lay now.depot ts now.saved.cluster) (sym (append-nil turns)) (s.tracks tells past lay begins) };
   joined = joined_so state first now turns unanswered s;
 }
 
 -- after these exchanges, whatever request was taken and not served
-pub promised : {D : Type 0} {G : Ghosts D} (state : D → DiskState) (first : Opening D) (now : Stage D G) (xs : List Exchange) (unanswered : Option Request) → Progress state first xs now → PromisesSo state first now xs unanswered
+pub promised : {D : Type 0} {G : Ghosts D} (state : D → DiskState) (first : Opening D G) (now : Stage D G) (xs : List Exchange) (unanswered : Option Request) → Progress state first xs now → PromisesSo state first now xs unanswered
 promised state first now xs unanswered p = stood state first now (turns_of xs) unanswered p.stands
 
 -- what came of a request that was served, whether or not it got a reply
@@ -90,23 +91,19 @@ module _ {D : Type 0} {G : Ghosts D} (state : D → DiskState) (old new : Stage 
   counted_so (request.One a) (reply.One b) out h = counted_stays state old.depot old.saved.cluster a b new.depot new.saved.cluster h out
   counted_so _ _ out h = absurd h
 
-  -- in a first run, whatever the disks tell, the turns are tracked
-  tracked_so : (first : Opening D) (turns : List Turn) → StandsAfter state first turns old → first.start ≡ None → TracksTurns state false [] None first.depot old.depot turns old.saved.cluster
-  tracked_so first turns was none = was.tracks false (record { none = none; tell = λ e. (let clash : false ≡ true = e in cc); bare = λ e. (let clash : false ≡ true = e in cc) })
+  kept_so : (first : Opening D G) (turns : List Turn) → StandsAfter state first turns old → kept_of old.saved.cluster ≡ kept_by first.start turns (state_of old.saved.cluster)
+  kept_so first turns was = kept_left state false [] first.start (was.untold).lay old.depot turns old.saved.cluster (untold_so state first old turns was [])
 
-  kept_so : (first : Opening D) (turns : List Turn) → StandsAfter state first turns old → first.start ≡ None → kept_of old.saved.cluster ≡ kept_by turns (state_of old.saved.cluster)
-  kept_so first turns was none = kept_left state false [] None first.depot old.depot turns old.saved.cluster (tracked_so first turns was none)
-
-  running_so : (first : Opening D) (turns : List Turn) (asked : Request) → StandsAfter state first turns old → first.start ≡ None → RunsOn old.saved.cluster asked → IsOnRunning (is_stopped (inner_turns turns)) asked
-  running_so first turns asked was none runs = running_left state false [] None first.depot old.depot turns old.saved.cluster asked (tracked_so first turns was none) runs
+  running_so : (first : Opening D G) (turns : List Turn) (asked : Request) → StandsAfter state first turns old → RunsOn old.saved.cluster asked → IsOnRunning (is_stopped (inner_turns turns)) asked
+  running_so first turns asked was runs = running_left state false [] first.start (was.untold).lay old.depot turns old.saved.cluster asked (untold_so state first old turns was []) runs
 
   -- it may have been served, and got no reply
-  pub lost_so : (first : Opening D) (turns : List Turn) (asked : Request) (answered : Result Reply Lost) → StandsAfter state first turns old → Serving state old asked answered new → HaveServed state first new turns (Some asked)
+  pub lost_so : (first : Opening D G) (turns : List Turn) (asked : Request) (answered : Result Reply Lost) → StandsAfter state first turns old → Serving state old asked answered new → HaveServed state first new turns (Some asked)
   lost_so first turns asked answered was s = record {
     leaves = lost_leaves (state old.saved.meta) (state new.saved.meta) first.start turns old.saved.cluster new.saved.cluster asked s.tells was.leave was.saved (kept_so first turns was) (running_so first turns asked was) s.any_moment;
     counted = counted_so asked s.served.0 s.out s.served.2 ∙ was.counted;
-    tracked = λ tells may.
-        let next = s.tracks tells [] None first.depot turns (was.tracks tells may) in
+    tracked = λ tells past lay begins.
+        let next = s.tracks tells past first.start lay turns (was.tracks tells past lay begins) in
         record { more = record { request = asked; reply = next.0 } ∷ []; few = omega arith; tracks = next.2 };
     joined = joined_so state first old turns (Some asked) was;
   }
@@ -117,40 +114,36 @@ module _ {D : Type 0} {G : Ghosts D} (state : D → DiskState) (old new : Stage 
   led_so start turns _ _ leave h stands = absurd h
 
   -- it was served, and got this reply
-  pub served_so : (first : Opening D) (turns : List Turn) (asked : Request) (said : Reply) → StandsAfter state first turns old → Serving state old asked (Ok said) new
+  pub served_so : (first : Opening D G) (turns : List Turn) (asked : Request) (said : Reply) → StandsAfter state first turns old → Serving state old asked (Ok said) new
       → placement_after (place_of old.saved.cluster) (inner_turns (record { request = asked; reply = said } ∷ [])) ≡ place_of new.saved.cluster → IsSaved (state_of new.saved.cluster) (state new.saved.meta)
       → StandsAfter state first (turns ++ record { request = asked; reply = said } ∷ []) new
   served_so first turns asked said was s stands saved = record {
     leave = led_so first.start turns asked said was.leave (subst (λ r. ServesRequest state old.depot old.saved.cluster asked r new.depot new.saved.cluster) (sym s.served.1) s.served.2) stands;
     saved = saved;
     counted = counted_so asked s.served.0 s.out s.served.2 ∙ was.counted;
-    tracks = λ tells may.
-        let next = s.tracks tells [] None first.depot turns (was.tracks tells may) in
-        subst (λ r. TracksTurns state tells [] None first.depot new.depot (turns ++ record { request = asked; reply = r } ∷ []) new.saved.cluster) (sym next.1) next.2;
+    untold = was.untold;
+    tracks = λ tells past lay begins.
+        let next = s.tracks tells past first.start lay turns (was.tracks tells past lay begins) in
+        subst (λ r. TracksTurns state tells past first.start lay new.depot (turns ++ record { request = asked; reply = r } ∷ []) new.saved.cluster) (sym next.1) next.2;
   }
 
 -- ---- when the disks are given back
 
--- the life of a first run of these turns, and of the request that was taken and not answered, if there is one
-abbrev pub first_life : List Turn → Option Request → Life
-first_life turns unanswered = record { past = []; present = record { start = None; turns = turns; unanswered = unanswered } }
-
--- what the reads had to keep, also where a turn more was served
-pub kept_closed : {D : Type 0} {G : Ghosts D} (state : D → DiskState) → ((d : D) → IsLawfulDisk (state d)) → (first : Depot D) (mid : Stage D G) (turns more : List Turn) (unanswered : Option Request) → TracksTurns state true [] None first mid.depot (turns ++ more) mid.saved.cluster
-    → Kept (first_life turns unanswered)
-kept_closed state lawful first mid turns more unanswered tracks = kept_where_tracked state lawful mid.saved.cluster.members [] None first mid.depot turns more mid.saved.cluster.calls unanswered tracks
+-- the life of a run of these turns behind others, and of the request that was taken and not answered, if there is one
+abbrev pub life_after : List Record → Option MetaState → List Turn → Option Request → Life
+life_after past start turns unanswered = record { past = past; present = record { start = start; turns = turns; unanswered = unanswered } }
 
 -- a line of these turns is one of a request that was taken
 line_taken : (turns more : List Turn) (unanswered : Option Request) (line : ℕ) → length more ≤ one_for unanswered → line < length (turns ++ more) → line < length turns + one_for unanswered
 line_taken turns more unanswered line few low = let all = length-append turns more in omega (arith, few, low, all)
 
 -- What is counted at the end of a run that began so: of the disks of replicas what these did, and of the meta disk, which was out, no less than before.
-pub record Closes {D : Type 0} {G : Ghosts D} (state : D → DiskState) (before : Depot D) (first : Opening D) (mid : Stage D G) (last : Depot D) : Type 0 where
-  pub same : (disk_slot : DiskSlot) → first.depot.counted disk_slot ≡ before.counted disk_slot
-  pub opened : before.faults ≤ first.depot.faults
+pub record Closes {D : Type 0} {G : Ghosts D} (state : D → DiskState) (before lay : Depot D) (mid : Stage D G) (last : Depot D) : Type 0 where
+  pub same : (disk_slot : DiskSlot) → lay.counted disk_slot ≡ before.counted disk_slot
+  pub opened : before.faults ≤ lay.faults
   pub no_replica : replica_at mid.saved.cluster.members meta_at ≡ None
   pub counted : (s : Slot) → IsForReplicas (disk_slot_of s) → last.counted (disk_slot_of s) ≡ count_at state mid.depot (replica_at mid.saved.cluster.members s) s
-  pub meta_later : first.depot.counted meta_slot ≤ last.counted meta_slot
+  pub meta_later : lay.counted meta_slot ≤ last.counted meta_slot
   pub rose : RisesBy state mid.depot mid.saved.cluster.members last.faults
   pub later : mid.depot.faults ≤ last.faults
 
@@ -169,7 +162,7 @@ pub rises_on : {D : Type 0} {G : Ghosts D} (state : D → DiskState) (depot : De
 rises_on state depot None between more last rises rose = tt
 rises_on state depot (Some m) between more last rises rose = λ apart. rose_between (risen state depot m.net.replicas.members m.slots.items) more depot.faults between last (rises apart) rose
 
-module _ {D : Type 0} {G : Ghosts D} (state : D → DiskState) (before : Depot D) (first : Opening D) (mid : Stage D G) (last : Depot D) (c : Closes state before first mid last) (kept : mid.depot.counted meta_slot ≡ first.depot.counted meta_slot) where
+module _ {D : Type 0} {G : Ghosts D} (state : D → DiskState) (before lay : Depot D) (mid : Stage D G) (last : Depot D) (c : Closes state before lay mid last) (kept : mid.depot.counted meta_slot ≡ lay.counted meta_slot) where
   -- what the disk of the slot counts, be it a replica's or not
   abbrev count_in : DiskSlot → ℕ
   count_in disk_slot = count_at state mid.depot (replica_at mid.saved.cluster.members (slot_at disk_slot.node disk_slot.shard)) (slot_at disk_slot.node disk_slot.shard)
@@ -178,7 +171,7 @@ module _ {D : Type 0} {G : Ghosts D} (state : D → DiskState) (before : Depot D
   given_back = record { later = c.later; counted = λ s. refl; rose = c.rose }
 
   -- that of the meta disk is what it was
-  meta_in : count_in meta_slot ≡ first.depot.counted meta_slot
+  meta_in : count_in meta_slot ≡ lay.counted meta_slot
   meta_in = ap (λ o. count_at state mid.depot o meta_at) c.no_replica ∙ kept
 
   counts_on : (disk_slot : DiskSlot) → count_in disk_slot ≤ last.counted disk_slot
@@ -189,25 +182,25 @@ module _ {D : Type 0} {G : Ghosts D} (state : D → DiskState) (before : Depot D
       by (inr other) = let is = c.counted (slot_at disk_slot.node disk_slot.shard) (other_disk_slot (slot_at disk_slot.node disk_slot.shard) meta_at other) in omega (arith, is)
 
   -- the causes, shown by the counts
-  pub causes_closed : ((d : D) → IsLawfulDisk (state d)) → (tells : Bool) (turns more : List Turn) (unanswered : Option Request) → length more ≤ one_for unanswered → TracksTurns state tells [] None first.depot mid.depot (turns ++ more) mid.saved.cluster
-      → HasCauses tells (counts_of before) (counts_of last) (first_life turns unanswered)
-  causes_closed lawful tells turns more unanswered few tracks =
+  pub causes_closed : ((d : D) → IsLawfulDisk (state d)) → (tells : Bool) (past : List Record) (start : Option MetaState) (turns more : List Turn) (unanswered : Option Request) → length more ≤ one_for unanswered → TracksTurns state tells past start lay mid.depot (turns ++ more) mid.saved.cluster
+      → HasCauses tells (counts_of before) (counts_of last) (life_after past start turns unanswered)
+  causes_closed lawful tells past start turns more unanswered few tracks =
       let members = mid.saved.cluster.members in
       let calls = mid.saved.cluster.calls in
-      let shown = shown_where_tracked state lawful members tells [] None first.depot mid.depot (turns ++ more) calls last.faults count_in tracks given_back in
+      let shown = shown_where_tracked state lawful members tells past start lay mid.depot (turns ++ more) calls last.faults count_in tracks given_back in
       record {
         faults = faults_of tracks;
         counted = record {
-          of_run = All-from_each (IsOfRun tells (first_life turns unanswered).present) (faults_of tracks)
+          of_run = All-from_each (IsOfRun tells (life_after past start turns unanswered).present) (faults_of tracks)
               (λ f i. record { in_run = line_taken turns more unanswered f.line few (shown.of_lines f i); undamaged = λ e. shown.undamaged e f i });
-          of_taking = rose_before (count_by (λ f. is_taking f.kind) (faults_of tracks)) before.faults first.depot.faults last.faults c.opened shown.of_taking;
+          of_taking = rose_before (count_by (λ f. is_taking f.kind) (faults_of tracks)) before.faults lay.faults last.faults c.opened shown.of_taking;
           of_disks = λ disk_slot.
               let n = count_by (is_failed_at disk_slot) (faults_of tracks) in
-              subst (λ k. RoseBy n k (last.counted disk_slot)) (c.same disk_slot) (rose_later n (first.depot.counted disk_slot) (count_in disk_slot) (last.counted disk_slot) (shown.of_disks disk_slot) (counts_on disk_slot));
+              subst (λ k. RoseBy n k (last.counted disk_slot)) (c.same disk_slot) (rose_later n (lay.counted disk_slot) (count_in disk_slot) (last.counted disk_slot) (shown.of_disks disk_slot) (counts_on disk_slot));
           of_all = λ low each.
               let all = shown.of_all low (λ disk_slot. let on = counts_on disk_slot in let below = each disk_slot in omega (arith, on, below)) in
               let opened = c.opened in
               omega (arith, all, opened);
         };
-        caused = caused_where_tracked state members tells [] None first.depot mid.depot turns more calls unanswered tracks;
+        caused = caused_where_tracked state members tells past start lay mid.depot turns more calls unanswered tracks;
       }

@@ -19,16 +19,16 @@ use Rattle.m3_program.specs.Exchanges.{Exchange, replies_text, turns_of}
 use Rattle.m3_program.specs.Openings.{IsUnopened, Opened, Unopened}
 use Rattle.m3_program.specs.Passing.{Gives, Outflow, Takes, left_in}
 use Rattle.m3_program.specs.Runs.{GotTo, AreWholeLines, Course, IsCutOff, Runs, lines_of}
-use Rattle.m3_program.specs.Streams.{Opening, Stage, IsFresh, opening_at, StreamState, TakesOn, Cuts, Finishes, Halted, HaltsLast, HasServed}
+use Rattle.m3_program.specs.Streams.{Opening, Stage, IsFresh, opening_at, stage, StreamState, TakesOn, Cuts, Finishes, Halted, HaltsLast, HasServed}
 use Rattle.m3_program.specs.Writing.{WritesUntil}
-use Rattle.m3_program.proofs.CloseLemmas.{causes_of_first, kept_of_first}
-use Rattle.m3_program.proofs.FreshLemmas.{is_found, none_found}
+use Rattle.m3_program.proofs.CloseLemmas.{causes_over, kept_over}
+use Rattle.m3_program.proofs.FreshLemmas.{is_found}
 use Rattle.m3_program.proofs.PromiseLemmas.{Closes, promised}
 use Rattle.m3_program.proofs.StreamLemmas.{both_made, halted_of, stream_begins, stream_course, takes_all}
 use Rattle.m3_program.proofs.WrittenLemmas.{appends_more, appends_nothing}
 
 -- a source gave these bytes, and the sink took the replies to these exchanges behind what it took before
-pub record Heard {D : Type 0} {G : Ghosts D} (state : D → DiskState) (first : Opening D) (left0 : Option (List ℕ)) (gave0 : List ℕ) (sink0 : Outflow) (left : Option (List ℕ)) (gave : List ℕ) (sink : Outflow) (n : ℕ) (now : Stage D G) (line : List ℕ) : Type 0 where
+pub record Heard {D : Type 0} {G : Ghosts D} (state : D → DiskState) (first : Opening D G) (left0 : Option (List ℕ)) (gave0 : List ℕ) (sink0 : Outflow) (left : Option (List ℕ)) (gave : List ℕ) (sink : Outflow) (n : ℕ) (now : Stage D G) (line : List ℕ) : Type 0 where
   pub got : List ℕ
   pub told : List ℕ
   pub exchanges : List Exchange
@@ -39,12 +39,12 @@ pub record Heard {D : Type 0} {G : Ghosts D} (state : D → DiskState) (first : 
   pub stream : StreamState state first exchanges got now line
 
 -- what a run tells at its end, before its disks are given back
-abbrev pub Told : {D : Type 0} {G : Ghosts D} → (D → DiskState) → Opening D → Stage D G → Status → Option (List ℕ) → List ℕ → Outflow → Option (List ℕ) → List ℕ → Outflow → Type 0
+abbrev pub Told : {D : Type 0} {G : Ghosts D} → (D → DiskState) → Opening D G → Stage D G → Status → Option (List ℕ) → List ℕ → Outflow → Option (List ℕ) → List ℕ → Outflow → Type 0
 Told state first now s left0 gave0 sink0 left gave sink =
     (taken told : List ℕ) × Gives left0 gave0 taken left gave × Takes sink0 sink told × HasServed state first now s (taken ++ left_in left) (left_in left) told
 
 -- A run that ended within its last piece, when this was written before, and this text was made for the lines of the piece; not how it ended, and what of the text was written.
-pub record Stopped {D : Type 0} {G : Ghosts D} (state : D → DiskState) (first : Opening D) (now : Stage D G) (left0 : Option (List ℕ)) (gave0 : List ℕ) (sink0 : Outflow) (left : Option (List ℕ)) (gave : List ℕ) (sink : Outflow) (text : List ℕ) (Failed : Type 0) : Type 0 where
+pub record Stopped {D : Type 0} {G : Ghosts D} (state : D → DiskState) (first : Opening D G) (now : Stage D G) (left0 : Option (List ℕ)) (gave0 : List ℕ) (sink0 : Outflow) (left : Option (List ℕ)) (gave : List ℕ) (sink : Outflow) (text : List ℕ) (Failed : Type 0) : Type 0 where
   pub earlier : List ℕ
   pub piece : List ℕ
   pub told : List ℕ
@@ -71,7 +71,7 @@ at_end None ended = refl
 at_end (Some xs) ended = ended
 
 -- all whole lines of what was taken were answered
-whole_of : {D : Type 0} {G : Ghosts D} {state : D → DiskState} {first : Opening D} {xs : List Exchange} {taken : List ℕ} {now : Stage D G} {line : List ℕ} → StreamState state first xs taken now line → AreWholeLines taken xs
+whole_of : {D : Type 0} {G : Ghosts D} {state : D → DiskState} {first : Opening D G} {xs : List Exchange} {taken : List ℕ} {now : Stage D G} {line : List ℕ} → StreamState state first xs taken now line → AreWholeLines taken xs
 whole_of {D} {G} {state} {first} {xs} {taken} {now} {line} t = record { open_line = line; are = t.read; no_end = t.no_end }
 
 pub known_begins : {D : Type 0} {G : Ghosts D} (state : D → DiskState) (left : Option (List ℕ)) (gave : List ℕ) (sink : Outflow) (now : Stage D G) (line : List ℕ) → IsFresh state now → line ≡ [] → Heard state (opening_at now) left gave sink left gave sink 0 now line
@@ -86,7 +86,7 @@ known_begins state left gave sink now line fresh empty = record {
   stream = subst (λ l. StreamState state (opening_at now) [] [] now l) (sym empty) (stream_begins state now fresh);
 }
 
-pub known_more : {D : Type 0} {G : Ghosts D} (state : D → DiskState) (first : Opening D) (left0 : Option (List ℕ)) (gave0 : List ℕ) (sink0 : Outflow) (l l2 : Option (List ℕ)) (g g2 : List ℕ) (w w2 : Outflow) (n k m : ℕ) (old new : Stage D G) (line line2 piece text : List ℕ)
+pub known_more : {D : Type 0} {G : Ghosts D} (state : D → DiskState) (first : Opening D G) (left0 : Option (List ℕ)) (gave0 : List ℕ) (sink0 : Outflow) (l l2 : Option (List ℕ)) (g g2 : List ℕ) (w w2 : Outflow) (n k m : ℕ) (old new : Stage D G) (line line2 piece text : List ℕ)
     → Heard state first left0 gave0 sink0 l g w n old line → Gives l g piece l2 g2 → length piece ≡ k → n + k ≡ m → Takes w w2 text → TakesOn state old line piece text new line2 → Heard state first left0 gave0 sink0 l2 g2 w2 m new line2
 known_more state first left0 gave0 sink0 l l2 g g2 w w2 n k m old new line line2 piece text h gives size sum wrote takes =
     let next = takes first h.exchanges h.got h.stream in
@@ -102,7 +102,7 @@ known_more state first left0 gave0 sink0 l l2 g g2 w w2 n k m old new line line2
     }
 
 -- it stopped within a piece
-pub known_cuts : {D : Type 0} {G : Ghosts D} (state : D → DiskState) (first : Opening D) (left0 : Option (List ℕ)) (gave0 : List ℕ) (sink0 : Outflow) (l l2 : Option (List ℕ)) (g g2 : List ℕ) (w : Outflow) (n : ℕ) (old new : Stage D G) (line piece text : List ℕ) (Failed : Type 0)
+pub known_cuts : {D : Type 0} {G : Ghosts D} (state : D → DiskState) (first : Opening D G) (left0 : Option (List ℕ)) (gave0 : List ℕ) (sink0 : Outflow) (l l2 : Option (List ℕ)) (g g2 : List ℕ) (w : Outflow) (n : ℕ) (old new : Stage D G) (line piece text : List ℕ) (Failed : Type 0)
     → Heard state first left0 gave0 sink0 l g w n old line → Gives l g piece l2 g2 → n + length piece ≤ INPUT_END → length piece ≤ 65536 → Cuts state old line piece text new Failed → Stopped state first new left0 gave0 sink0 l2 g2 w text Failed
 known_cuts state first left0 gave0 sink0 l l2 g g2 w n old new line piece text Failed h gives few short cuts =
     let cut = cuts first h.exchanges h.got h.stream in
@@ -123,7 +123,7 @@ known_cuts state first left0 gave0 sink0 l l2 g g2 w n old new line piece text F
     }
 
 -- it stopped within the last line
-pub known_stops : {D : Type 0} {G : Ghosts D} (state : D → DiskState) (first : Opening D) (left0 : Option (List ℕ)) (gave0 : List ℕ) (sink0 : Outflow) (l : Option (List ℕ)) (g : List ℕ) (w : Outflow) (n : ℕ) (old new : Stage D G) (line text : List ℕ) (Failed : Type 0)
+pub known_stops : {D : Type 0} {G : Ghosts D} (state : D → DiskState) (first : Opening D G) (left0 : Option (List ℕ)) (gave0 : List ℕ) (sink0 : Outflow) (l : Option (List ℕ)) (g : List ℕ) (w : Outflow) (n : ℕ) (old new : Stage D G) (line text : List ℕ) (Failed : Type 0)
     → Heard state first left0 gave0 sink0 l g w n old line → n ≤ INPUT_END → IsAtEnd l → HaltsLast state old line text new Failed → Stopped state first new left0 gave0 sink0 l g w text Failed
 known_stops state first left0 gave0 sink0 l g w n old new line text Failed h few ended stops =
     let none = append-nil h.got in
@@ -147,7 +147,7 @@ known_stops state first left0 gave0 sink0 l g w n old new line text Failed h few
     }
 
 -- it came to the end
-pub known_finishes : {D : Type 0} {G : Ghosts D} (state : D → DiskState) (first : Opening D) (left0 : Option (List ℕ)) (gave0 : List ℕ) (sink0 : Outflow) (l : Option (List ℕ)) (g : List ℕ) (w w2 : Outflow) (n : ℕ) (old new : Stage D G) (line text : List ℕ)
+pub known_finishes : {D : Type 0} {G : Ghosts D} (state : D → DiskState) (first : Opening D G) (left0 : Option (List ℕ)) (gave0 : List ℕ) (sink0 : Outflow) (l : Option (List ℕ)) (g : List ℕ) (w w2 : Outflow) (n : ℕ) (old new : Stage D G) (line text : List ℕ)
     → Heard state first left0 gave0 sink0 l g w n old line → n < INPUT_END → IsAtEnd l → Takes w w2 text → Finishes state old line text new → Told state first new status.Done left0 gave0 sink0 l g w2
 known_finishes state first left0 gave0 sink0 l g w w2 n old new line text h below ended wrote finishes =
     let none = at_end l ended in
@@ -171,7 +171,7 @@ known_finishes state first left0 gave0 sink0 l g w w2 n old new line text h belo
     )
 
 -- the source failed when so much was taken
-pub known_fault : {D : Type 0} {G : Ghosts D} (state : D → DiskState) (first : Opening D) (left0 : Option (List ℕ)) (gave0 : List ℕ) (sink0 : Outflow) (l : Option (List ℕ)) (g : List ℕ) (w : Outflow) (n : ℕ) (now : Stage D G) (line : List ℕ) → Heard state first left0 gave0 sink0 l g w n now line → n ≤ INPUT_END → Told state first now status.ReadFault left0 gave0 sink0 l g w
+pub known_fault : {D : Type 0} {G : Ghosts D} (state : D → DiskState) (first : Opening D G) (left0 : Option (List ℕ)) (gave0 : List ℕ) (sink0 : Outflow) (l : Option (List ℕ)) (g : List ℕ) (w : Outflow) (n : ℕ) (now : Stage D G) (line : List ℕ) → Heard state first left0 gave0 sink0 l g w n now line → n ≤ INPUT_END → Told state first now status.ReadFault left0 gave0 sink0 l g w
 known_fault state first left0 gave0 sink0 l g w n now line h few =
     let course = stream_course state first h.exchanges (h.got ++ left_in l) h.got (left_in l) now line h.stream refl in
     let promises = promised state first now h.exchanges None h.stream.progress in (
@@ -183,7 +183,7 @@ known_fault state first left0 gave0 sink0 l g w n now line h few =
     )
 
 -- it took as much as may be taken
-pub known_limit : {D : Type 0} {G : Ghosts D} (state : D → DiskState) (first : Opening D) (left0 : Option (List ℕ)) (gave0 : List ℕ) (sink0 : Outflow) (l : Option (List ℕ)) (g : List ℕ) (w : Outflow) (n : ℕ) (now : Stage D G) (line : List ℕ) → Heard state first left0 gave0 sink0 l g w n now line → n ≡ INPUT_END → Told state first now status.TooLong left0 gave0 sink0 l g w
+pub known_limit : {D : Type 0} {G : Ghosts D} (state : D → DiskState) (first : Opening D G) (left0 : Option (List ℕ)) (gave0 : List ℕ) (sink0 : Outflow) (l : Option (List ℕ)) (g : List ℕ) (w : Outflow) (n : ℕ) (now : Stage D G) (line : List ℕ) → Heard state first left0 gave0 sink0 l g w n now line → n ≡ INPUT_END → Told state first now status.TooLong left0 gave0 sink0 l g w
 known_limit state first left0 gave0 sink0 l g w n now line h full =
     let course = stream_course state first h.exchanges (h.got ++ left_in l) h.got (left_in l) now line h.stream refl in
     let promises = promised state first now h.exchanges None h.stream.progress in (
@@ -199,12 +199,12 @@ all_written : (told : List ℕ) (xs : List Exchange) → told ≡ replies_text x
 all_written told xs is = record { before = xs; last = []; parts = sym (append-nil xs); few = omega arith; part = []; rest = []; of_last = refl; are = is ∙ sym (append-nil (replies_text xs)) }
 
 -- the course of a run that stopped
-abbrev stopped_course : {D : Type 0} {G : Ghosts D} (state : D → DiskState) (first : Opening D) (now : Stage D G) (left0 : Option (List ℕ)) (gave0 : List ℕ) (sink0 : Outflow) (left : Option (List ℕ)) (gave : List ℕ) (sink : Outflow) (text : List ℕ) (Failed : Type 0) → (h : Stopped state first now left0 gave0 sink0 left gave sink text Failed) → Course first.start ((h.earlier ++ h.piece) ++ left_in left) (h.earlier ++ h.piece)
+abbrev stopped_course : {D : Type 0} {G : Ghosts D} (state : D → DiskState) (first : Opening D G) (now : Stage D G) (left0 : Option (List ℕ)) (gave0 : List ℕ) (sink0 : Outflow) (left : Option (List ℕ)) (gave : List ℕ) (sink : Outflow) (text : List ℕ) (Failed : Type 0) → (h : Stopped state first now left0 gave0 sink0 left gave sink text Failed) → Course first.start ((h.earlier ++ h.piece) ++ left_in left) (h.earlier ++ h.piece)
 stopped_course state first now left0 gave0 sink0 left gave sink text Failed h =
     record { exchanges = h.exchanges ++ h.more; unanswered = h.halted.unanswered; each = h.halted.each; of_input = h.halted.of_input; of_taken = h.halted.of_taken }
 
 -- this much was written behind what was written before
-stopped_told : {D : Type 0} {G : Ghosts D} (state : D → DiskState) (first : Opening D) (now : Stage D G) (s : Status) (left0 : Option (List ℕ)) (gave0 : List ℕ) (sink0 : Outflow) (left : Option (List ℕ)) (gave : List ℕ) (sink last : Outflow) (text out : List ℕ) (Failed : Type 0) → (h : Stopped state first now left0 gave0 sink0 left gave sink text Failed) → Takes sink last out
+stopped_told : {D : Type 0} {G : Ghosts D} (state : D → DiskState) (first : Opening D G) (now : Stage D G) (s : Status) (left0 : Option (List ℕ)) (gave0 : List ℕ) (sink0 : Outflow) (left : Option (List ℕ)) (gave : List ℕ) (sink last : Outflow) (text out : List ℕ) (Failed : Type 0) → (h : Stopped state first now left0 gave0 sink0 left gave sink text Failed) → Takes sink last out
     → GotTo s (h.earlier ++ h.piece) (left_in left) (h.told ++ out) (h.exchanges ++ h.more) h.halted.unanswered h.halted.of_input.later → Told state first now s left0 gave0 sink0 left gave last
 stopped_told state first now s left0 gave0 sink0 left gave sink last text out Failed h wrote got = (
   h.earlier ++ h.piece,
@@ -217,7 +217,7 @@ stopped_told state first now s left0 gave0 sink0 left gave sink last text out Fa
   },
 )
 
-pub step_told : {D : Type 0} {G : Ghosts D} (state : D → DiskState) (first : Opening D) (now : Stage D G) (s : Status) (a b x y u v m n : ℕ) → EndsStep s a b x y u v m n
+pub step_told : {D : Type 0} {G : Ghosts D} (state : D → DiskState) (first : Opening D G) (now : Stage D G) (s : Status) (a b x y u v m n : ℕ) → EndsStep s a b x y u v m n
     → (left0 : Option (List ℕ)) (gave0 : List ℕ) (sink0 : Outflow) (left : Option (List ℕ)) (gave : List ℕ) (sink sink2 : Outflow) (text : List ℕ) → (s ≡ status.ReadFault → Told state first now status.ReadFault left0 gave0 sink0 left gave sink2)
     → Stopped state first now left0 gave0 sink0 left gave sink text (s ≡ status.DiskFault) → WritesUntil s sink text sink2 → Told state first now s left0 gave0 sink0 left gave sink2
 step_told state first now status.ReadFault a b x y u v m n k left0 gave0 sink0 left gave sink sink2 text fault h wrote = fault refl
@@ -244,14 +244,14 @@ step_told state first now _ a b x y u v m n k left0 gave0 sink0 left gave sink s
 
 -- the words couldn't be read, or the cluster wasn't opened, and nothing was read or written
 pub told_unopened : {D : Type 0} (state : D → DiskState) (first now : Depot D) (s : Status) (left : Option (List ℕ)) (gave : List ℕ) (sink : Outflow) → IsUnopened state first now s
-    → (taken told : List ℕ) × Gives left gave taken left gave × Takes sink sink told × Runs state first now [] s (taken ++ left_in left) (left_in left) told
+    → (taken told : List ℕ) × Gives left gave taken left gave × Takes sink sink told × Runs state first now s (taken ++ left_in left) (left_in left) told
 told_unopened state first now s left gave sink unopened = ([], [], gives_none left gave, appends_nothing sink, Unopened unopened (refl, refl))
 
 -- the disks are given back
-pub told_closes : {D : Type 0} {G : Ghosts D} (state : D → DiskState) → ((d : D) → IsLawfulDisk (state d)) → (before now : Depot D) (c : SavedCluster D G) → IsOpened state before now c → (mid : Stage D G) (last : Depot D) (s : Status)
-    → (state_of c.cluster ≡ None → Closes state before (record { start = state_of c.cluster; depot = now }) mid last) → last.held meta_slot ≡ Here mid.saved.meta
-    → (left0 : Option (List ℕ)) (gave0 : List ℕ) (sink0 : Outflow) (left : Option (List ℕ)) (gave : List ℕ) (sink : Outflow) → Told state (record { start = state_of c.cluster; depot = now }) mid s left0 gave0 sink0 left gave sink
-    → (taken told : List ℕ) × Gives left0 gave0 taken left gave × Takes sink0 sink told × Runs state before last [] s (taken ++ left_in left) (left_in left) told
+pub told_closes : {D : Type 0} {G : Ghosts D} (state : D → DiskState) → ((d : D) → IsLawfulDisk (state d)) → (before now : Depot D) (c : SavedCluster D G) (opened : IsOpened state before now c) (mid : Stage D G) (last : Depot D) (s : Status)
+    → Closes state before opened.mid mid last → last.held meta_slot ≡ Here mid.saved.meta
+    → (left0 : Option (List ℕ)) (gave0 : List ℕ) (sink0 : Outflow) (left : Option (List ℕ)) (gave : List ℕ) (sink : Outflow) → Told state (opening_at (stage c now)) mid s left0 gave0 sink0 left gave sink
+    → (taken told : List ℕ) × Gives left0 gave0 taken left gave × Takes sink0 sink told × Runs state before last s (taken ++ left_in left) (left_in left) told
 told_closes state lawful before now c opened mid last s closes back left0 gave0 sink0 left gave sink (taken, told, gives, is, run) =
     let start = state_of c.cluster in
     let turns = turns_of run.ran.course.exchanges in
@@ -263,11 +263,10 @@ told_closes state lawful before now c opened mid last s closes back left0 gave0 
       is,
       Opened start (record {
         found = is_found state before now c opened;
-        none_found = none_found state before now c opened;
         ran = run.ran;
         meta = record { disk = mid.saved.meta; back = back; leaves = served.leaves };
-        kept = λ empty. kept_of_first state lawful before now c opened mid turns unanswered served empty;
         joined = served.joined;
-        causes = λ tells is_first. causes_of_first state lawful before now c opened mid last closes turns unanswered served tells is_first;
+        kept = kept_over state lawful before now c opened mid turns unanswered served;
+        causes = causes_over state lawful before now c opened mid turns unanswered served last closes;
       }),
     )

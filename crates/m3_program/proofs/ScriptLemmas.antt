@@ -87,7 +87,7 @@ goes_begins state number later summary now fresh all counts = record {
 }
 
 -- what is left is of the script, and keeps to the limits
-pub next_keeps : {D : Type 0} {G : Ghosts D} (state : D → DiskState) (first : Opening D) (number : ℕ) (left later : List Request) (r : Request) (summary : Summary) (now : Stage D G) → Goes state first number left summary now
+pub next_keeps : {D : Type 0} {G : Ghosts D} (state : D → DiskState) (first : Opening D G) (number : ℕ) (left later : List Request) (r : Request) (summary : Summary) (now : Stage D G) → Goes state first number left summary now
     → left ≡ r ∷ later → KeepsLimits r
 next_keeps state first number left later r summary now goes is =
     script_keeps number r (subst (λ rs. IsIn rs r) (sym (goes.within.of_script ∙ ap (λ rs. map request_of goes.parts ++ rs) is)) (IsIn-append_right (map request_of goes.parts) (r ∷ later) r (inl refl)))
@@ -99,13 +99,13 @@ entries_more parts part r left later all was is same =
     was ∙ ap (λ rs. map request_of parts ++ rs) (is ∙ ap (λ q. q ∷ later) (sym same)) ∙ sym (append_assoc (map request_of parts) (request_of part ∷ []) later)
     ∙ ap (λ rs. rs ++ later) (sym (map-append request_of parts (part ∷ [])))
 
-within_more : {D : Type 0} {G : Ghosts D} (state : D → DiskState) (first : Opening D) (number : ℕ) (parts : List Part) (left later : List Request) (r : Request) (answered : Reply) (old new : Stage D G)
+within_more : {D : Type 0} {G : Ghosts D} (state : D → DiskState) (first : Opening D G) (number : ℕ) (parts : List Part) (left later : List Request) (r : Request) (answered : Reply) (old new : Stage D G)
     → IsWithin state first number parts left old → left ≡ r ∷ later → Continues state old r answered new → (part : Part) × (reply_of part ≡ answered) × IsWithin state first number (parts ++ part ∷ []) later new
 within_more state first number parts left later r answered old new was is continues =
     let (part, same, replied, going) = continues first parts was.going in
     (part, replied, record { of_script = entries_more parts part r left later (script number) was.of_script is same; going = going })
 
-pub goes_more : {D : Type 0} {G : Ghosts D} (state : D → DiskState) (first : Opening D) (number : ℕ) (left later : List Request) (r : Request) (answered : Reply) (summary next : Summary) (old new : Stage D G)
+pub goes_more : {D : Type 0} {G : Ghosts D} (state : D → DiskState) (first : Opening D G) (number : ℕ) (left later : List Request) (r : Request) (answered : Reply) (summary next : Summary) (old new : Stage D G)
     → Goes state first number left summary old → left ≡ r ∷ later → Continues state old r answered new → ((replies : List Reply) → Counts replies summary → Counts (replies ++ answered ∷ []) next)
     → Goes state first number later next new
 goes_more state first number left later r answered summary next old new goes is continues counted =
@@ -117,7 +117,7 @@ goes_more state first number left later r answered summary next old new goes is 
     }
 
 -- it stops before this request, or behind it
-abbrev pub stops_here : {D : Type 0} {G : Ghosts D} (state : D → DiskState) (first : Opening D) (number : ℕ) (parts : List Part) (later : List Request) (now : Stage D G) (Failed : Type 0) → (Failed → ⊥) → IsWithin state first number parts later now → Stopped state first number now Failed
+abbrev pub stops_here : {D : Type 0} {G : Ghosts D} (state : D → DiskState) (first : Opening D G) (number : ℕ) (parts : List Part) (later : List Request) (now : Stage D G) (Failed : Type 0) → (Failed → ⊥) → IsWithin state first number parts later now → Stopped state first number now Failed
 stops_here state first number parts later now Failed never w = record {
   parts = parts;
   later = later;
@@ -130,11 +130,11 @@ stops_here state first number parts later now Failed never w = record {
 }
 
 -- it failed in fewer cases
-abbrev pub stopped_fewer : {D : Type 0} {G : Ghosts D} (state : D → DiskState) (first : Opening D) (number : ℕ) (now : Stage D G) (Failed Fewer : Type 0) → Stopped state first number now Failed → (Fewer → Failed) → Stopped state first number now Fewer
+abbrev pub stopped_fewer : {D : Type 0} {G : Ghosts D} (state : D → DiskState) (first : Opening D G) (number : ℕ) (now : Stage D G) (Failed Fewer : Type 0) → Stopped state first number now Failed → (Fewer → Failed) → Stopped state first number now Fewer
 stopped_fewer state first number now Failed Fewer s less =
     record { parts = s.parts; later = s.later; unanswered = s.unanswered; of_script = s.of_script; taken = s.taken; each = s.each; served = s.served; was_taken = λ fewer. s.was_taken (less fewer) }
 
-pub breaks_behind : {D : Type 0} {G : Ghosts D} (state : D → DiskState) (first : Opening D) (number : ℕ) (left later : List Request) (r : Request) (answered : Reply) (summary : Summary) (old new : Stage D G)
+pub breaks_behind : {D : Type 0} {G : Ghosts D} (state : D → DiskState) (first : Opening D G) (number : ℕ) (left later : List Request) (r : Request) (answered : Reply) (summary : Summary) (old new : Stage D G)
     → (Failed : Type 0) → (Failed → ⊥) → Goes state first number left summary old → left ≡ r ∷ later → Continues state old r answered new → Stopped state first number new Failed
 breaks_behind state first number left later r answered summary old new Failed never goes is continues =
     let (part, replied, within) = within_more state first number goes.parts left later r answered old new goes.within is continues in
@@ -146,7 +146,7 @@ next_taken r [] later is = cc
 next_taken r (x ∷ left) later is = cc
 
 -- it stops at this request, which got no reply
-pub breaks_at : {D : Type 0} {G : Ghosts D} (state : D → DiskState) (first : Opening D) (number : ℕ) (left later : List Request) (r : Request) (summary : Summary) (old new : Stage D G)
+pub breaks_at : {D : Type 0} {G : Ghosts D} (state : D → DiskState) (first : Opening D G) (number : ℕ) (left later : List Request) (r : Request) (summary : Summary) (old new : Stage D G)
     → (Failed : Type 0) → Goes state first number left summary old → left ≡ r ∷ later → Loses state old r new → Stopped state first number new Failed
 breaks_at state first number left later r summary old new Failed goes is lost = record {
   parts = goes.parts;

@@ -32,7 +32,7 @@ pub both_made : (xs ys : List Exchange) (text text2 : List ℕ) → text ≡ rep
 both_made xs ys text text2 is is2 = ap (λ l. l ++ text2) is ∙ ap (λ l. replies_text xs ++ l) is2 ∙ sym (replies_both xs ys)
 
 -- what was read, whatever comes after it
-abbrev pub reads_at : {D : Type 0} {G : Ghosts D} (state : D → DiskState) (first : Opening D) (xs : List Exchange) (taken tail : List ℕ) (now : Stage D G) (line : List ℕ) (unanswered : Option Request) → StreamState state first xs taken now line
+abbrev pub reads_at : {D : Type 0} {G : Ghosts D} (state : D → DiskState) (first : Opening D G) (xs : List Exchange) (taken tail : List ℕ) (now : Stage D G) (line : List ℕ) (unanswered : Option Request) → StreamState state first xs taken now line
     → IsNext unanswered (lines_of (line ++ tail)) → TakesLines (taken ++ tail) xs unanswered
 reads_at state first xs taken tail now line unanswered t next = record {
   later = lines_of (line ++ tail);
@@ -41,7 +41,7 @@ reads_at state first xs taken tail now line unanswered t next = record {
 }
 
 -- the course of a run so far, whatever is left of its input
-abbrev pub stream_course : {D : Type 0} {G : Ghosts D} (state : D → DiskState) (first : Opening D) (xs : List Exchange) (input taken left : List ℕ) (now : Stage D G) (line : List ℕ) → StreamState state first xs taken now line → input ≡ taken ++ left → Course first.start input taken
+abbrev pub stream_course : {D : Type 0} {G : Ghosts D} (state : D → DiskState) (first : Opening D G) (xs : List Exchange) (input taken left : List ℕ) (now : Stage D G) (line : List ℕ) → StreamState state first xs taken now line → input ≡ taken ++ left → Course first.start input taken
 stream_course state first xs input taken left now line t is = record {
   exchanges = xs;
   unanswered = None;
@@ -51,7 +51,7 @@ stream_course state first xs input taken left now line t is = record {
 }
 
 -- a run that was cut short, with what is left of its input
-pub halted_of : {D : Type 0} {G : Ghosts D} (state : D → DiskState) (first : Opening D) (xs : List Exchange) (now : Stage D G) (taken left : List ℕ) (Failed : Type 0) → CutShort state first xs now taken Failed → Halted state first xs now (taken ++ left) taken Failed
+pub halted_of : {D : Type 0} {G : Ghosts D} (state : D → DiskState) (first : Opening D G) (xs : List Exchange) (now : Stage D G) (taken left : List ℕ) (Failed : Type 0) → CutShort state first xs now taken Failed → Halted state first xs now (taken ++ left) taken Failed
 halted_of state first xs now taken left Failed cut = record {
   unanswered = cut.unanswered;
   each = cut.each;
@@ -62,7 +62,7 @@ halted_of state first xs now taken left Failed cut = record {
 }
 
 -- nothing more is done, and this request was taken at most
-cut_at : {D : Type 0} {G : Ghosts D} (state : D → DiskState) (first : Opening D) (xs : List Exchange) (taken piece : List ℕ) (old new : Stage D G) (line : List ℕ) (unanswered : Option Request) (Failed : Type 0) → StreamState state first xs taken old line
+cut_at : {D : Type 0} {G : Ghosts D} (state : D → DiskState) (first : Opening D G) (xs : List Exchange) (taken piece : List ℕ) (old new : Stage D G) (line : List ℕ) (unanswered : Option Request) (Failed : Type 0) → StreamState state first xs taken old line
     → ((left : List ℕ) → IsNext unanswered (lines_of (line ++ (piece ++ left)))) → PromisesSo state first new xs unanswered → (Failed → IsSome unanswered) → CutShort state first xs new (taken ++ piece) Failed
 cut_at state first xs taken piece old new line unanswered Failed t next promises was_taken = record {
   unanswered = unanswered;
@@ -73,7 +73,7 @@ cut_at state first xs taken piece old new line unanswered Failed t next promises
 }
 
 -- it took more, and did nothing with it
-cut_more : {D : Type 0} {G : Ghosts D} (state : D → DiskState) (first : Opening D) (xs : List Exchange) (now : Stage D G) (taken more : List ℕ) (Failed : Type 0) → CutShort state first xs now taken Failed → CutShort state first xs now (taken ++ more) Failed
+cut_more : {D : Type 0} {G : Ghosts D} (state : D → DiskState) (first : Opening D G) (xs : List Exchange) (now : Stage D G) (taken more : List ℕ) (Failed : Type 0) → CutShort state first xs now taken Failed → CutShort state first xs now (taken ++ more) Failed
 cut_more state first xs now taken more Failed cut = record {
   unanswered = cut.unanswered;
   each = cut.each;
@@ -127,7 +127,7 @@ takes_line state old new line rest text whole line2 none is empty goes = λ firs
     )
 
 -- a line that ends, in the input
-line_in : {D : Type 0} {G : Ghosts D} (state : D → DiskState) (first : Opening D) (xs : List Exchange) (taken left : List ℕ) (now : Stage D G) (line rest whole : List ℕ) → NoNewline rest → whole ≡ line ++ rest
+line_in : {D : Type 0} {G : Ghosts D} (state : D → DiskState) (first : Opening D G) (xs : List Exchange) (taken left : List ℕ) (now : Stage D G) (line rest whole : List ℕ) → NoNewline rest → whole ≡ line ++ rest
     → StreamState state first xs taken now line → lines_of (line ++ ((rest ++ 10 ∷ []) ++ left)) ≡ whole ∷ lines_of left
 line_in state first xs taken left now line rest whole none is t =
     ap lines_of (sym (append_assoc line (rest ++ 10 ∷ []) left) ∙ ap (λ l. l ++ left) (sym (append_assoc line rest (10 ∷ []))) ∙ ap (λ l. (l ++ 10 ∷ []) ++ left) (sym is))
@@ -192,7 +192,7 @@ stream_begins state now fresh = record {
   no_end = λ m. m;
 }
 
-last_in : {D : Type 0} {G : Ghosts D} (state : D → DiskState) (first : Opening D) (xs : List Exchange) (taken : List ℕ) (now : Stage D G) (line : List ℕ) → 0 < length line → StreamState state first xs taken now line
+last_in : {D : Type 0} {G : Ghosts D} (state : D → DiskState) (first : Opening D G) (xs : List Exchange) (taken : List ℕ) (now : Stage D G) (line : List ℕ) → 0 < length line → StreamState state first xs taken now line
     → lines_of taken ≡ map (λ x. x.line) xs ++ line ∷ []
 last_in state first xs taken now line some t = ap lines_of t.read ∙ lines_of-lines xs line t.whole ∙ ap (λ ls. map (λ x. x.line) xs ++ ls) (lines_of-last line t.no_end some)
 

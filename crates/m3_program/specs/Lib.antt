@@ -5,7 +5,9 @@ pub mod Faults
 pub mod FaultLaws
 pub mod Openings
 pub mod Saved
+pub mod Lives
 pub mod Runs
+pub mod LifeLaws
 pub mod Causes
 pub mod Passing
 pub mod Writing

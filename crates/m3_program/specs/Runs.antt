@@ -1,7 +1,7 @@
 -- What a run promises of its input and its output.
-use Rattle.std.specs.Prelude.{◌≡◌, ℕ, ◌<◌, ◌≤◌, List, [], ◌∷◌, ◌++◌, map, length, Option, Some, None, IsSome, Ok, if◌then◌else◌, ◌==◌, Bool, true, false}
 use Rattle.m3_model.specs.declared.limits.TheConstants.{INPUT_END}
 use Rattle.std.specs.List.{flat_map}
+use Rattle.std.specs.Prelude.{◌≡◌, ℕ, ◌<◌, ◌≤◌, List, [], ◌∷◌, ◌++◌, map, length, Option, Some, None, IsSome, Ok, if◌then◌else◌, ◌==◌, Bool, true}
 use Rattle.m3_model.specs.Members.{IsIn}
 use Rattle.m3_model.specs.declared.rules.MetaState.{MetaState}
 use Rattle.m3_model.specs.declared.turn.Request.{Request}
@@ -15,7 +15,8 @@ use Rattle.m3_json.specs.Requests.{LineMeans}
 use Rattle.m3_outside.specs.Depots.{Depot}
 use Rattle.saved_cluster.specs.first_cluster.Depots.{meta_slot}
 use Rattle.m3_program.specs.Exchanges.{Exchange, AreExchanges, turns_of, replies_text}
-use Rattle.m3_program.specs.Faults.{AreCauses, AreEmpty, Counts, counts_of}
+use Rattle.m3_program.specs.Faults.{AreCauses, Counts, counts_of}
+use Rattle.m3_program.specs.Lives.{StandFor}
 use Rattle.m3_program.specs.Openings.{MayOpen}
 use Rattle.m3_program.specs.Saved.{IsFound, LeavesMeta}
 use Rattle.m3_program.specs.declared.status.Status.{Status}
@@ -120,23 +121,17 @@ pub record Ran (start : Option MetaState) (ended : Status) (input left written :
   pub course : Course start input taken
   pub got_to : GotTo ended taken left written course.exchanges course.unanswered course.of_input.later
 
--- Of which runs more is said: where the disks tell what they hold, of those over empty ones; and else of those that found no state.
-abbrev pub IsFirstRun : {D : Type 0} → Bool → (D → DiskState) → Depot D → Option MetaState → Type 0
-IsFirstRun true state first start = AreEmpty state first.held
-IsFirstRun false state first start = start ≡ None
-
 -- What a run did whose cluster was opened over disks that were so, with the last state that the meta disk had, and that left them so: what a stop leaves of the meta disk has the state that the
--- replies led to. Over empty disks none was found; there the answers have their causes, of which more is said where the disks tell what they hold, and the reads keep what they must. Where none
--- was found, whatever the disks tell, each node that turned available was joined by a bootstrap that prints a majority of the former replicas.
-pub record HasRun {D : Type 0} (state : D → DiskState) (first now : Depot D) (past : List Record) (start : Option MetaState) (ended : Status) (input left written : List ℕ) : Type 0 where
+-- replies led to. Each node that turned available was joined by a bootstrap that prints a majority of the former replicas, whatever the disks tell and whatever runs were before. Where the disks
+-- stood for these runs the reads keep what they must, of what these acknowledged too; and the answers have their causes, of which more is said there.
+pub record HasRun {D : Type 0} (state : D → DiskState) (first now : Depot D) (start : Option MetaState) (ended : Status) (input left written : List ℕ) : Type 0 where
   pub found : IsFound state first start
-  pub none_found : AreEmpty state first.held → start ≡ None
   pub ran : Ran start ended input left written
   pub meta : LeavesMeta state (now.held meta_slot) start (turns_of ran.course.exchanges) ran.course.unanswered
-  pub kept : AreEmpty state first.held → Kept (life_with past start ran.course.exchanges ran.course.unanswered)
-  pub joined : start ≡ None → Joined (life_with past start ran.course.exchanges ran.course.unanswered)
-  pub causes : (tells : Bool) → IsFirstRun tells state first start → HasCauses tells (counts_of first) (counts_of now) (life_with past start ran.course.exchanges ran.course.unanswered)
+  pub joined : (past : List Record) → Joined (life_with past start ran.course.exchanges ran.course.unanswered)
+  pub kept : (past : List Record) → StandFor state past first.held → Kept (life_with past start ran.course.exchanges ran.course.unanswered)
+  pub causes : (tells : Bool) (past : List Record) → (tells ≡ true → StandFor state past first.held) → HasCauses tells (counts_of first) (counts_of now) (life_with past start ran.course.exchanges ran.course.unanswered)
 
 -- what any run did: where its cluster wasn't opened, nothing was read or written
-abbrev pub Runs : {D : Type 0} → (D → DiskState) → Depot D → Depot D → List Record → Status → List ℕ → List ℕ → List ℕ → Type 0
-Runs state first now past ended input left written = MayOpen state first now ended (λ start. HasRun state first now past start ended input left written) ((left ≡ input) × (written ≡ []))
+abbrev pub Runs : {D : Type 0} → (D → DiskState) → Depot D → Depot D → Status → List ℕ → List ℕ → List ℕ → Type 0
+Runs state first now ended input left written = MayOpen state first now ended (λ start. HasRun state first now start ended input left written) ((left ≡ input) × (written ≡ []))

@@ -31,17 +31,17 @@ pub record LeaveState (start : Option MetaState) (turns : List Turn) (last : Opt
   pub rules : rules_after (start_rules start) (inner_turns turns) ≡ start_rules last
   pub seed : seed_after start (inner_turns turns) ≡ seed_of last
 
--- how many versions are kept after the turns of a run that found no state
-abbrev pub kept_by : List Turn → Option MetaState → ℕ
-kept_by turns state = kept_versions (start_placement state) (versions_after None (inner_turns turns))
+-- how many versions are kept after the turns of a run that found the first of these states
+abbrev pub kept_by : Option MetaState → List Turn → Option MetaState → ℕ
+kept_by start turns state = kept_versions (start_placement state) (versions_after start (inner_turns turns))
 
--- The request leads from the state that the turns left to the next one. Where the run found no state, it goes by as many versions as they left to be kept, and the
--- node of a bootstrap isn't one that they stopped: so a request that is due to be refused leads to none.
+-- The request leads from the state that the turns left to the next one, by as many versions as they left to be kept, and the node of a bootstrap isn't one that they
+-- stopped: so a request that is due to be refused leads to none.
 pub record LeadsUnanswered (start : Option MetaState) (turns : List Turn) (state : Option MetaState) (request : Request) (next : MetaState) : Type 0 where
   pub kept : ℕ
   pub leads : RequestLeadsTo state kept request next
-  pub kept_is : start ≡ None → kept ≡ kept_by turns state
-  pub running : start ≡ None → IsOnRunning (is_stopped (inner_turns turns)) request
+  pub kept_is : kept ≡ kept_by start turns state
+  pub running : IsOnRunning (is_stopped (inner_turns turns)) request
 
 -- a request that got no reply, if there is one, leads to this state from the one that the turns left
 abbrev pub MayLead : Option MetaState → List Turn → Option MetaState → Option Request → Option MetaState → Type 0

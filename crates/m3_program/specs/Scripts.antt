@@ -1,5 +1,5 @@
 -- What a run of a script promises.
-use Rattle.std.specs.Prelude.{◌≡◌, List, [], ◌∷◌, ◌++◌, map, ℕ, Option, None, Some, IsSome, Bool}
+use Rattle.std.specs.Prelude.{◌≡◌, List, [], ◌∷◌, ◌++◌, map, ℕ, Option, None, Some, IsSome, Bool, true}
 use Rattle.std.specs.List.{flat_map}
 use Rattle.m3_model.specs.Members.{IsIn}
 use Rattle.m3_model.specs.declared.answer.Answer.TheVariants as answer
@@ -17,9 +17,10 @@ use Rattle.m3_outside.specs.Depots.{Depot}
 use Rattle.saved_cluster.specs.first_cluster.Depots.{meta_slot}
 use Rattle.load_gen.specs.Script.{script}
 use Rattle.load_gen.specs.Summaries.{summary_line}
-use Rattle.m3_program.specs.Faults.{AreEmpty, counts_of}
+use Rattle.m3_program.specs.Faults.{counts_of}
+use Rattle.m3_program.specs.Lives.{StandFor}
 use Rattle.m3_program.specs.Openings.{MayOpen}
-use Rattle.m3_program.specs.Runs.{HasCauses, IsFirstRun}
+use Rattle.m3_program.specs.Runs.{HasCauses}
 use Rattle.m3_program.specs.Saved.{IsFound, LeavesMeta}
 use Rattle.m3_program.specs.declared.status.Status.{Status}
 use Rattle.m3_program.specs.declared.status.Status.TheVariants as status
@@ -87,16 +88,15 @@ life_of_parts past start parts unanswered = record { past = past; present = reco
 
 -- What a run of a number's script did that ended so and wrote this, whose cluster was opened over disks that were so, with the last state that the meta disk had, and that left them so: the same
 -- as of a run that reads lines.
-pub record HasGenerated {D : Type 0} (state : D → DiskState) (first now : Depot D) (past : List Record) (start : Option MetaState) (number : ℕ) (ended : Status) (written : List ℕ) : Type 0 where
+pub record HasGenerated {D : Type 0} (state : D → DiskState) (first now : Depot D) (start : Option MetaState) (number : ℕ) (ended : Status) (written : List ℕ) : Type 0 where
   pub found : IsFound state first start
-  pub none_found : AreEmpty state first.held → start ≡ None
   pub course : Play number
   pub played_to : PlayedTo ended course.parts course.later course.unanswered written
   pub meta : LeavesMeta state (now.held meta_slot) start (turns_of_parts course.parts) course.unanswered
-  pub kept : AreEmpty state first.held → Kept (life_of_parts past start course.parts course.unanswered)
-  pub joined : start ≡ None → Joined (life_of_parts past start course.parts course.unanswered)
-  pub causes : (tells : Bool) → IsFirstRun tells state first start → HasCauses tells (counts_of first) (counts_of now) (life_of_parts past start course.parts course.unanswered)
+  pub joined : (past : List Record) → Joined (life_of_parts past start course.parts course.unanswered)
+  pub kept : (past : List Record) → StandFor state past first.held → Kept (life_of_parts past start course.parts course.unanswered)
+  pub causes : (tells : Bool) (past : List Record) → (tells ≡ true → StandFor state past first.held) → HasCauses tells (counts_of first) (counts_of now) (life_of_parts past start course.parts course.unanswered)
 
 -- what any run of it did: where its cluster wasn't opened, nothing was written
-abbrev pub Generates : {D : Type 0} → (D → DiskState) → Depot D → Depot D → List Record → ℕ → Status → List ℕ → Type 0
-Generates state first now past number ended written = MayOpen state first now ended (λ start. HasGenerated state first now past start number ended written) (written ≡ [])
+abbrev pub Generates : {D : Type 0} → (D → DiskState) → Depot D → Depot D → ℕ → Status → List ℕ → Type 0
+Generates state first now number ended written = MayOpen state first now ended (λ start. HasGenerated state first now start number ended written) (written ≡ [])

@@ -166,7 +166,7 @@ fn run_lines<S: Source, K: Sink, X: Disks>(
 ) -> Status
     requires none_out { (slot : DiskSlot) → ¬ ((X.depot disks.old).held slot ≡ Out) }
     ensures told { (taken written : List ℕ) × Gives (S.left source.old) (S.gave source.old) taken (S.left source.new) (S.gave source.new) × Takes (outflow (K.written out.old) (K.took out.old)) (outflow (K.written out.new) (K.took out.new)) written
-        × Runs X.D.state (X.depot disks.old) (X.depot disks.new) [] result (taken ++ left_in (S.left source.new)) (left_in (S.left source.new)) written }
+        × Runs X.D.state (X.depot disks.old) (X.depot disks.new) result (taken ++ left_in (S.left source.new)) (left_in (S.left source.new)) written }
     ensures ended { result ≡ status.Done → S.ended source.new ≡ true }
     ensures none_out { (slot : DiskSlot) → ¬ ((X.depot disks.new).held slot ≡ Out) }
     ensures cause { ((source.new ≡ source.old) × (out.new ≡ out.old) × IsUnopened X.D.state (X.depot disks.old) (X.depot disks.new) result)
@@ -185,7 +185,7 @@ fn run_lines<S: Source, K: Sink, X: Disks>(
 fn run_script<K: Sink, X: Disks>(alloc: Global, out: &mut K, disks: &mut X, number: u32) -> Status
     requires none_out { (slot : DiskSlot) → ¬ ((X.depot disks.old).held slot ≡ Out) }
     ensures told { (written : List ℕ) × Takes (outflow (K.written out.old) (K.took out.old)) (outflow (K.written out.new) (K.took out.new)) written
-        × Generates X.D.state (X.depot disks.old) (X.depot disks.new) [] number result written }
+        × Generates X.D.state (X.depot disks.old) (X.depot disks.new) number result written }
     ensures none_out { (slot : DiskSlot) → ¬ ((X.depot disks.new).held slot ≡ Out) }
     ensures cause { ((out.new ≡ out.old) × IsUnopened X.D.state (X.depot disks.old) (X.depot disks.new) result) ⊎ EndsScript result (K.faulted out.old) (K.faulted out.new) (K.stalled out.old) (K.stalled out.new) ((X.depot disks.old).counted meta_slot) ((X.depot disks.new).counted meta_slot) }
 {
@@ -211,10 +211,10 @@ pub fn run<S: Source, K: Sink, X: Disks>(
 ) -> Status
     requires none_out { (slot : DiskSlot) → ¬ ((X.depot disks.old).held slot ≡ Out) }
     ensures told { task_of (map string_bytes words.now) ≡ Some task.Run → (taken written : List ℕ) × Gives (S.left source.old) (S.gave source.old) taken (S.left source.new) (S.gave source.new) × Takes (outflow (K.written out.old) (K.took out.old)) (outflow (K.written out.new) (K.took out.new)) written
-        × Runs X.D.state (X.depot disks.old) (X.depot disks.new) [] result (taken ++ left_in (S.left source.new)) (left_in (S.left source.new)) written }
+        × Runs X.D.state (X.depot disks.old) (X.depot disks.new) result (taken ++ left_in (S.left source.new)) (left_in (S.left source.new)) written }
     ensures ended { task_of (map string_bytes words.now) ≡ Some task.Run → result ≡ status.Done → S.ended source.new ≡ true }
     ensures generated { (number : ℕ) → task_of (map string_bytes words.now) ≡ Some (task.Generate number) → (written : List ℕ) × Takes (outflow (K.written out.old) (K.took out.old)) (outflow (K.written out.new) (K.took out.new)) written
-        × Generates X.D.state (X.depot disks.old) (X.depot disks.new) [] number result written }
+        × Generates X.D.state (X.depot disks.old) (X.depot disks.new) number result written }
     ensures unread { (task_of (map string_bytes words.now) ≡ Some task.Run → ⊥) → source.new ≡ source.old }
     ensures idle { task_of (map string_bytes words.now) ≡ None → (out.new ≡ out.old) × (disks.new ≡ disks.old) }
     ensures none_out { (slot : DiskSlot) → ¬ ((X.depot disks.new).held slot ≡ Out) }

@@ -29,7 +29,7 @@ pub later-accepted : MayBeLast None (begun 100 []) (Some (go_to 200)) (Some (clu
 later-accepted = record {
   state = Some (cluster_at 100 0);
   leave = record { place = refl; rules = refl; seed = refl };
-  is = inr (cluster_at 200 0, refl, record { kept = 1; leads = (omega arith, refl); kept_is = λ none. refl; running = λ none. tt });
+  is = inr (cluster_at 200 0, refl, record { kept = 1; leads = (omega arith, refl); kept_is = refl; running = tt });
 }
 
 pub joined-accepted : MayBeLast None moving_to_d (Some boot_d) (Some (in_place on_d))
@@ -43,8 +43,8 @@ joined-accepted = record {
     record {
       kept = 2;
       leads = record { node = 3; named = refl; shards = 0 ∷ []; some = λ e. cc; covered = λ s i. refl; over = (d_ends []).next; room = omega arith; rules = refl; seed_is = refl };
-      kept_is = λ none. refl;
-      running = λ none. refl;
+      kept_is = refl;
+      running = refl;
     },
   );
 }
@@ -109,13 +109,13 @@ ninth-refused = led_on eight_made (name_it (codes "m9")) with_nine (λ leave. le
     omega (arith, many, few))
 
 pub stopped-refused : ¬ MayBeLast None stopped_d (Some boot_d) (Some (in_place on_d))
-stopped-refused = led_on stopped_d boot_d (in_place on_d) (λ leave. let version : 2 ≡ 3 = ap version_of leave.place in omega (arith, version)) (λ next on. on.leads) (λ s next leave on. true_not (on.running refl))
+stopped-refused = led_on stopped_d boot_d (in_place on_d) (λ leave. let version : 2 ≡ 3 = ap version_of leave.place in omega (arith, version)) (λ next on. on.leads) (λ s next leave on. true_not on.running)
 
 pub limit-refused : (lines : List Turn) → StandsLate 1024 lines → ¬ MayBeLast None lines (Some boot_d) (Some (in_place (late 1025)))
 limit-refused lines stands = led_on lines boot_d (in_place (late 1025))
     (λ leave. let version : 1024 ≡ 1025 = ap version_of (sym stands.place_is ∙ leave.place) in omega (arith, version)) (λ next on. on.leads)
     (λ s next leave on.
-    let kept : on.kept ≡ 1024 = on.kept_is refl ∙ ap (λ p. kept_versions p (versions_after None (inner_turns lines))) (sym leave.place ∙ stands.place_is) ∙ ap (kept_versions (Some (late 1024))) stands.versions in
+    let kept : on.kept ≡ 1024 = on.kept_is ∙ ap (λ p. kept_versions p (versions_after None (inner_turns lines))) (sym leave.place ∙ stands.place_is) ∙ ap (kept_versions (Some (late 1024))) stands.versions in
     let room : on.kept < 1024 = (on.leads).room in
     omega (arith, kept, room))
 

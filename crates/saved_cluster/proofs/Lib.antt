@@ -13,4 +13,5 @@ mod ServeLemmas
 mod StateLemmas
 mod TrackLemmas
 pub mod first_cluster_proofs
+pub mod line_tracks_proofs
 pub mod served_cluster_proofs

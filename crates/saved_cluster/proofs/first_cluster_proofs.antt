@@ -1,3 +1,2 @@
-pub use Rattle.line_tracks.proofs.first_cluster_proofs.BareLemmas
 pub use Rattle.line_tracks.proofs.first_cluster_proofs.SlotCases
 pub use Rattle.line_tracks.proofs.first_cluster_proofs.SlotLists

@@ -21,8 +21,7 @@ returns-in-Err-clause-cause g c = inl (refl, record { why = c.in-Err.why; ended_
 -- it was
 pub generate-status-requires-clause-fresh : goal.generate-status-requires-clause-fresh
 generate-status-requires-clause-fresh g c =
-    let now : Stage g.row.X-D.Denot g.X.D.Disk = stage c.in-Ok.cluster (g.X.Disks.depot c.open.new.disks) in
-    is_fresh g.X.D.Disk.state (g.X.Disks.depot c.args.disks.now) now c.in-Ok.ensures.may.saved c.in-Ok.ensures.opened
+    is_fresh g.X.D.Disk.state (g.X.Disks.depot c.args.disks.now) (g.X.Disks.depot c.open.new.disks) c.in-Ok.cluster c.in-Ok.ensures.opened c.in-Ok.ensures.may.saved
 
 pub returns-clause-told : goal.returns-clause-told
 returns-clause-told g c =

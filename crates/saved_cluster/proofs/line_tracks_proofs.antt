@@ -1,0 +1,1 @@
+pub use Rattle.line_tracks.proofs.tracks.LainLemmas
