@@ -168,12 +168,12 @@ module _ (past : List Record) (start : Option MetaState) (turns : List Turn) (un
 
   pub next_stands : (opening : Opening) × HoldOpening ends opening × OpeningStands (past ++ record { start = start; turns = turns; unanswered = unanswered } ∷ []) (Some left) opening
   next_stands = (
-      next,
-      λ n s. (end_at n s).now,
-      stands_again past start turns unanswered events more opened left next legal
-      (agrees past start all legal base stand begins (λ n s. (end_at n s).lay) (λ n s. (end_at n s).mine) (λ n s. (end_at n s).lay_points) (λ n s. (end_at n s).these))
-      (opening_stands past start all legal base stand begins (λ n s. (end_at n s).lay) (λ n s. (end_at n s).mine) (λ n s. (end_at n s).lay_points) (λ n s. (end_at n s).these))
-      told may_be is_left holds_again,
+    next,
+    λ n s. (end_at n s).now,
+    stands_again past start turns unanswered events more opened left next legal
+        (agrees past start all legal base stand begins (λ n s. (end_at n s).lay) (λ n s. (end_at n s).mine) (λ n s. (end_at n s).lay_points) (λ n s. (end_at n s).these))
+        (opening_stands past start all legal base stand begins (λ n s. (end_at n s).lay) (λ n s. (end_at n s).mine) (λ n s. (end_at n s).lay_points) (λ n s. (end_at n s).these))
+        told may_be is_left holds_again,
   )
 
 -- ---- the laws

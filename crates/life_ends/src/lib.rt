@@ -4,4 +4,6 @@
 
 pub mod laws;
 
-pub use laws::{last_turn_may_be_open, machines_leave_slots, runs_leave_standing, tenures_stay_low};
+pub use laws::{
+    last_turn_may_be_open, machines_leave_slots, runs_leave_standing, tenures_stay_low,
+};

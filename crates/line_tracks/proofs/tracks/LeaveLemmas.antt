@@ -60,10 +60,10 @@ module _ {D : Type 0} (state : D → DiskState) (tell : TellAll state) where
   -- and all of it stands for the life
   lay_stands : (past : List Record) (start : Option MetaState) (lay : DiskSlot → Held D) → HadLain state past start lay → FilesStand state past start (lain_at lay)
   lay_stands past None lay lain files lie = (
-      no_points,
-      λ n s. (let b = bare_lies (lain_at lay n s) (lain.bare (disk_slot_of (slot_at n s))) (files n s) (lie n s) in record { all = []; tenure = b.tenure; fence = b.fence; held = b.held; same = λ p. (λ i. i, λ i. i) }),
-      lain.stand,
-    )
+    no_points,
+    λ n s. (let b = bare_lies (lain_at lay n s) (lain.bare (disk_slot_of (slot_at n s))) (files n s) (lie n s) in record { all = []; tenure = b.tenure; fence = b.fence; held = b.held; same = λ p. (λ i. i, λ i. i) }),
+    lain.stand,
+  )
   lay_stands past (Some found) lay lain files lie = lain.stand files lie
 
   -- what lies in a slot without a replica lay there

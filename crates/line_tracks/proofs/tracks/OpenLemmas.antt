@@ -175,17 +175,19 @@ run_opens_empty {D} state t lay depot tell bare h i n s tenure fence points ther
 module _ {D : Type 0} (state : D → DiskState) (past : List Record) (start : Option MetaState) (lay : DiskSlot → Held D) (tell : TellAll state) (lain : HadLain state past start lay) (n s : ℕ) (first : D) (given : MayGive (λ d. IsEmpty (state d)) (lain_at lay n s) first) where
   begins : (r : ReplicaState) (tenure fence : ℕ) (points : List Point) (old new : MachineState D) → IsMachineOf state (state first).images r old → IsStep state old (call.Begin tenure) (reply.Began fence points) new → r.begun ≡ [] → (tried : List ℕ) × BeginsAsMade (MayLie state (lain_at lay n s)) tried fence points
   begins r tenure fence points old new is step none =
-      let b = first_begin_is_as_made state first r tenure fence points old new (given_sound state past start lay tell lain n s first given) (tell old.disk) is none step in
-      (r.tried ++ tenure ∷ [], record {
-        before = b.before;
-        was = lies state tell (lain_at lay n s) first given b.before b.was;
-        points_before = b.points_before;
-        tenure_before = b.tenure_before;
-        fence_before = b.fence_before;
-        held_before = b.held_before;
-        once = b.once;
-        fence_up = b.fence_up;
-      })
+      let b = first_begin_is_as_made state first r tenure fence points old new (given_sound state past start lay tell lain n s first given) (tell old.disk) is none step in (
+        r.tried ++ tenure ∷ [],
+        record {
+          before = b.before;
+          was = lies state tell (lain_at lay n s) first given b.before b.was;
+          points_before = b.points_before;
+          tenure_before = b.tenure_before;
+          fence_before = b.fence_before;
+          held_before = b.held_before;
+          once = b.once;
+          fence_up = b.fence_up;
+        },
+      )
 
 pub begins_so : {D : Type 0} (state : D → DiskState) (t : Tracked D) (past : List Record) (start : Option MetaState) (lay : DiskSlot → Held D) (depot : Depot D) → TellAll state → HadLain state past start lay → HaveRun state lay depot t → BeginWithThese state (lain_at lay) t.events
 begins_so {D} state t past start lay depot tell lain h i n s tenure fence points there none =
