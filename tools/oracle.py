@@ -15,7 +15,7 @@ wrong. oracle_scripts.py makes the scripts, oracle_days.py, oracle_courses.py an
 oracle_dice.py. Of the first few random ones that differ the smallest part is printed that differs still, with both replies, and of others the
 first reply; the status is 1 then. Where disks of replicas fail, oracle_judge.py says whether the replies may be so, as it isn't known when a disk
 fails, only how often. oracle_calls.py has what one replica is to answer, by a list of its points, and by oracle_files.py, which has
-the bytes of docs/STORAGE.md. The meta disk fails in no script, and memory is never wanted; of the ends of a run only those are tried that can be brought
+the bytes of docs/FORMAT.md. The meta disk fails in no script, and memory is never wanted; of the ends of a run only those are tried that can be brought
 about from outside.
 """
 import json

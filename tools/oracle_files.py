@@ -1,4 +1,4 @@
-"""The files of volumes and snapshots, byte by byte, as docs/STORAGE.md has them. `tools/oracle.py` says what this is for.
+"""The files of volumes and snapshots, byte by byte, as docs/FORMAT.md has them. `tools/oracle.py` says what this is for.
 
 A file is named by its kind, its namespace, its block and its number.
 """
