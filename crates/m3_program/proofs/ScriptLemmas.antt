@@ -24,14 +24,14 @@ use Rattle.saved_cluster.specs.served_cluster.Owned.{place_of}
 use Rattle.saved_cluster.specs.Saved.{MayServeSaved}
 use Rattle.saved_cluster.specs.declared.lost.Lost.{Lost}
 use Rattle.m3_program.specs.Rounds.{Continues, Goes, IsWithin, Loses, Stopped}
-use Rattle.m3_program.specs.Scripts.{AreParts, Deferred, IsTaken, Part, IsPart, Served, reply_of, request_of, turns_of_part, turns_of_parts}
+use Rattle.m3_program.specs.Scripts.{AreParts, Deferred, IsTaken, ScriptPart, IsPart, Served, reply_of, request_of, turns_of_part, turns_of_parts}
 use Rattle.m3_program.specs.Streams.{IsFresh, Opening, Stage, StandsAfter, opening_at}
 use Rattle.m3_program.proofs.ExchangeLemmas.{Follows}
 use Rattle.m3_program.proofs.PromiseLemmas.{Serving, begins_so, lost_so, served_so, stood}
 
 -- ---- one request
 
-turns_of-push : (parts : List Part) (part : Part) → turns_of_parts (parts ++ part ∷ []) ≡ turns_of_parts parts ++ turns_of_part part
+turns_of-push : (parts : List ScriptPart) (part : ScriptPart) → turns_of_parts (parts ++ part ∷ []) ≡ turns_of_parts parts ++ turns_of_part part
 turns_of-push parts part = flat_map-append turns_of_part parts (part ∷ []) ∙ ap (λ ts. turns_of_parts parts ++ ts) (append-nil (turns_of_part part))
 
 -- nothing came yet
@@ -39,7 +39,7 @@ pub no_parts : AreParts []
 no_parts part i = absurd i
 
 -- one more part after the others
-parts_push : (parts : List Part) (part : Part) → AreParts parts → IsPart part → AreParts (parts ++ part ∷ [])
+parts_push : (parts : List ScriptPart) (part : ScriptPart) → AreParts parts → IsPart part → AreParts (parts ++ part ∷ [])
 parts_push parts part each last x i = elim (IsIn-append_cases parts (part ∷ []) x i) as (λ _. IsPart x) [
   | inl there ↦ each x there
   | inr here ↦ elim here as (λ _. IsPart x) [ inl same ↦ subst IsPart same last | inr none ↦ absurd none ]
@@ -93,14 +93,14 @@ next_keeps state first number left later r summary now goes is =
     script_keeps number r (subst (λ rs. IsIn rs r) (sym (goes.within.of_script ∙ ap (λ rs. map request_of goes.parts ++ rs) is)) (IsIn-append_right (map request_of goes.parts) (r ∷ later) r (inl refl)))
 
 -- one request came between
-entries_more : (parts : List Part) (part : Part) (r : Request) (left later : List Request) (all : List Request) → all ≡ map request_of parts ++ left → left ≡ r ∷ later → request_of part ≡ r
+entries_more : (parts : List ScriptPart) (part : ScriptPart) (r : Request) (left later : List Request) (all : List Request) → all ≡ map request_of parts ++ left → left ≡ r ∷ later → request_of part ≡ r
     → all ≡ map request_of (parts ++ part ∷ []) ++ later
 entries_more parts part r left later all was is same =
     was ∙ ap (λ rs. map request_of parts ++ rs) (is ∙ ap (λ q. q ∷ later) (sym same)) ∙ sym (append_assoc (map request_of parts) (request_of part ∷ []) later)
     ∙ ap (λ rs. rs ++ later) (sym (map-append request_of parts (part ∷ [])))
 
-within_more : {D : Type 0} {G : Ghosts D} (state : D → DiskState) (first : Opening D G) (number : ℕ) (parts : List Part) (left later : List Request) (r : Request) (answered : Reply) (old new : Stage D G)
-    → IsWithin state first number parts left old → left ≡ r ∷ later → Continues state old r answered new → (part : Part) × (reply_of part ≡ answered) × IsWithin state first number (parts ++ part ∷ []) later new
+within_more : {D : Type 0} {G : Ghosts D} (state : D → DiskState) (first : Opening D G) (number : ℕ) (parts : List ScriptPart) (left later : List Request) (r : Request) (answered : Reply) (old new : Stage D G)
+    → IsWithin state first number parts left old → left ≡ r ∷ later → Continues state old r answered new → (part : ScriptPart) × (reply_of part ≡ answered) × IsWithin state first number (parts ++ part ∷ []) later new
 within_more state first number parts left later r answered old new was is continues =
     let (part, same, replied, going) = continues first parts was.going in
     (part, replied, record { of_script = entries_more parts part r left later (script number) was.of_script is same; going = going })
@@ -117,7 +117,7 @@ goes_more state first number left later r answered summary next old new goes is 
     }
 
 -- it stops before this request, or behind it
-abbrev pub stops_here : {D : Type 0} {G : Ghosts D} (state : D → DiskState) (first : Opening D G) (number : ℕ) (parts : List Part) (later : List Request) (now : Stage D G) (Failed : Type 0) → (Failed → ⊥) → IsWithin state first number parts later now → Stopped state first number now Failed
+abbrev pub stops_here : {D : Type 0} {G : Ghosts D} (state : D → DiskState) (first : Opening D G) (number : ℕ) (parts : List ScriptPart) (later : List Request) (now : Stage D G) (Failed : Type 0) → (Failed → ⊥) → IsWithin state first number parts later now → Stopped state first number now Failed
 stops_here state first number parts later now Failed never w = record {
   parts = parts;
   later = later;

@@ -26,34 +26,34 @@ use Rattle.m3_program.specs.declared.status.Status.{Status}
 use Rattle.m3_program.specs.declared.status.Status.TheVariants as status
 
 -- What came of a request of a script: no part of the program serves it yet, or it made a turn.
-pub data Part : Type 0 where
-  Deferred : (request : Request) → Part
-  Served : (turn : Turn) → Part
+pub data ScriptPart : Type 0 where
+  Deferred : (request : Request) → ScriptPart
+  Served : (turn : Turn) → ScriptPart
 
-abbrev pub request_of : Part → Request
+abbrev pub request_of : ScriptPart → Request
 request_of (Deferred request) = request
 request_of (Served turn) = turn.request
 
-abbrev pub reply_of : Part → Reply
+abbrev pub reply_of : ScriptPart → Reply
 reply_of (Deferred request) = reply.One answer.Later
 reply_of (Served turn) = turn.reply
 
-abbrev pub turns_of_part : Part → List Turn
+abbrev pub turns_of_part : ScriptPart → List Turn
 turns_of_part (Deferred request) = []
 turns_of_part (Served turn) = turn ∷ []
 
 -- the turns of these requests
-abbrev pub turns_of_parts : List Part → List Turn
+abbrev pub turns_of_parts : List ScriptPart → List Turn
 turns_of_parts parts = flat_map turns_of_part parts
 
 -- A request is put off only if no part of the program serves it; and a served one is answered in its own shape.
-abbrev pub IsPart : Part → Type 0
+abbrev pub IsPart : ScriptPart → Type 0
 IsPart (Deferred request) = ¬ IsServed request
 IsPart (Served turn) = IsAnsweredBy turn.request turn.reply
 
 -- so is each of these
-abbrev pub AreParts : List Part → Type 0
-AreParts parts = (part : Part) → IsIn parts part → IsPart part
+abbrev pub AreParts : List ScriptPart → Type 0
+AreParts parts = (part : ScriptPart) → IsIn parts part → IsPart part
 
 -- the next request is the one that was taken and got no reply, if there is one
 abbrev pub IsTaken : Option Request → List Request → Type 0
@@ -63,7 +63,7 @@ IsTaken (Some request) (next ∷ later) = next ≡ request
 
 -- The course of a run of a number's script: what came of its requests in their order, as far as it got; the next one was taken and got no reply, or none was.
 pub record Play (number : ℕ) : Type 0 where
-  pub parts : List Part
+  pub parts : List ScriptPart
   pub later : List Request
   pub unanswered : Option Request
   pub of_script : script number ≡ map request_of parts ++ later
@@ -71,7 +71,7 @@ pub record Play (number : ℕ) : Type 0 where
   pub each : AreParts parts
 
 -- how far a run got that ended so: to the end of the script, and then its summary is written, or a front of that; or the meta disk failed for a request, or memory was wanted before
-abbrev pub PlayedTo : Status → List Part → List Request → Option Request → List ℕ → Type 0
+abbrev pub PlayedTo : Status → List ScriptPart → List Request → Option Request → List ℕ → Type 0
 PlayedTo status.Done parts later unanswered written = (later ≡ []) × (written ≡ summary_line (map reply_of parts))
 PlayedTo status.WriteFault parts later unanswered written = (later ≡ []) × (lost : List ℕ) × (summary_line (map reply_of parts) ≡ written ++ lost)
 PlayedTo status.DiskFault parts later unanswered written = (written ≡ []) × IsSome unanswered
@@ -79,11 +79,11 @@ PlayedTo status.Memory parts later unanswered written = written ≡ []
 PlayedTo _ parts later unanswered written = ⊥
 
 -- the record of the run
-abbrev pub record_of_parts : Option MetaState → List Part → Option Request → Record
+abbrev pub record_of_parts : Option MetaState → List ScriptPart → Option Request → Record
 record_of_parts start parts unanswered = record { start = start; turns = turns_of_parts parts; unanswered = unanswered }
 
 -- the life that the run and the earlier ones on the same disks make
-abbrev pub life_of_parts : List Record → Option MetaState → List Part → Option Request → Life
+abbrev pub life_of_parts : List Record → Option MetaState → List ScriptPart → Option Request → Life
 life_of_parts past start parts unanswered = record { past = past; present = record_of_parts start parts unanswered }
 
 -- What a run of a number's script did that ended so and wrote this, whose cluster was opened over disks that were so, with the last state that the meta disk had, and that left them so: the same

@@ -3,13 +3,13 @@ use Rattle.std.proofs.Common.{◌≡◌, ℕ, List, [], ◌∷◌, refl, arith, 
 use Rattle.std.specs.Prelude.{Option, codes}
 use Rattle.m3_model.specs.declared.act.Act.TheVariants as act
 use Rattle.m3_model.specs.declared.turn.Request.{Request}
-use Rattle.m3_program.specs.Scripts.{Deferred, IsPart, IsTaken, Part, PlayedTo, Served}
+use Rattle.m3_program.specs.Scripts.{Deferred, IsPart, IsTaken, ScriptPart, PlayedTo, Served}
 use Rattle.m3_program.specs.declared.status.Status.TheVariants as status
 use Rattle.run_laws.specs.Samples.{ask, misanswered}
 use Rattle.run_laws.specs.States.{go_to}
 use Rattle.run_laws.proofs.ClashLemmas.{false_not, longer}
 
-module _ (parts : List Part) (later : List Request) (asked : Option Request) (written : List ℕ) where
+module _ (parts : List ScriptPart) (later : List Request) (asked : Option Request) (written : List ℕ) where
   pub done-refused : ¬ PlayedTo status.Done parts (ask ∷ []) asked written
   done-refused h = longer (ask ∷ []) [] 1 0 refl refl (λ e. omega (arith, e)) h.0
 

@@ -2,7 +2,7 @@
 ghost use Rattle.std.specs.Prelude.{ℕ, List, [], ◌∷◌, Option, None, Some, codes};
 ghost use Rattle.m3_model.specs.declared.act.Act.TheVariants as act;
 ghost use Rattle.m3_model.specs.declared.turn.Request.{Request as Asked};
-ghost use Rattle.m3_program.specs.Scripts.{Deferred, IsPart, IsTaken, Part, PlayedTo, Served};
+ghost use Rattle.m3_program.specs.Scripts.{Deferred, IsPart, IsTaken, ScriptPart, PlayedTo, Served};
 ghost use Rattle.m3_program.specs.declared.status.Status.TheVariants as status;
 ghost use Rattle.run_laws.specs.Samples.{ask, misanswered};
 ghost use Rattle.run_laws.specs.States.{go_to};
@@ -10,11 +10,11 @@ ghost use Rattle.run_laws.specs.States.{go_to};
 /// With status 0, or where the sink failed, requests are left; the meta disk failed, and something is written, or no request
 /// was taken; or memory was wanted, and something is written.
 pub fn script_not_played()
-    ensures done { (parts : List Part) (asked : Option Asked) (written : List ℕ) → ¬ PlayedTo status.Done parts (ask ∷ []) asked written }
-    ensures sink { (parts : List Part) (asked : Option Asked) (written : List ℕ) → ¬ PlayedTo status.WriteFault parts (ask ∷ []) asked written }
-    ensures disk { (parts : List Part) (later : List Asked) (asked : Option Asked) → ¬ PlayedTo status.DiskFault parts later asked (codes "r") }
-    ensures untaken { (parts : List Part) (later : List Asked) (written : List ℕ) → ¬ PlayedTo status.DiskFault parts later None written }
-    ensures memory { (parts : List Part) (later : List Asked) (asked : Option Asked) → ¬ PlayedTo status.Memory parts later asked (codes "r") }
+    ensures done { (parts : List ScriptPart) (asked : Option Asked) (written : List ℕ) → ¬ PlayedTo status.Done parts (ask ∷ []) asked written }
+    ensures sink { (parts : List ScriptPart) (asked : Option Asked) (written : List ℕ) → ¬ PlayedTo status.WriteFault parts (ask ∷ []) asked written }
+    ensures disk { (parts : List ScriptPart) (later : List Asked) (asked : Option Asked) → ¬ PlayedTo status.DiskFault parts later asked (codes "r") }
+    ensures untaken { (parts : List ScriptPart) (later : List Asked) (written : List ℕ) → ¬ PlayedTo status.DiskFault parts later None written }
+    ensures memory { (parts : List ScriptPart) (later : List Asked) (asked : Option Asked) → ¬ PlayedTo status.Memory parts later asked (codes "r") }
 {}
 
 /// A request that is served is put off, or answered in another shape; or one was taken behind the script's end, or another one
