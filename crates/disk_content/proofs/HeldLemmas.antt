@@ -19,7 +19,7 @@ use Rattle.disk_content.proofs.UndoLemmas.{unwound_push, unwound_synced, unwound
 
 -- what is held by what was undone
 abbrev held : Files → Undo → Unwound → Content
-held seen u before = record { seen = seen; synced = before.files; pending = record { writes = before.writes; room = u.room; widest = u.widest } }
+held seen u before = record { seen = seen; synced = before.files; pending = record { writes = before.writes; room = u.room } }
 
 lies_push : (es : List UndoEntry) (e : UndoEntry) (f : Files) → AllLieIn es f → FitsFile (as_write e) (get f e.name) → AllLieIn (es ++ e ∷ []) f
 lies_push es e f all fits = subst (λ ws. AllFit ws f) (sym (map-append as_write es (e ∷ []))) (all_fit_push (map as_write es) (as_write e) f all fits)
@@ -39,11 +39,11 @@ pub lies_created : (es : List UndoEntry) (seen : Files) (name : FileName) (size 
 lies_created es seen name size none all = fit_added (map as_write es) seen name (replicate size 0) none all
 
 pub held_failed : (seen : Files) (u : Undo) (name : FileName) (at : ℕ) (bytes : List ℕ) → held_in seen (undo_after name at bytes false u) ≡ content_after_failed_write name at bytes (held_in seen u)
-held_failed seen u name at bytes = ap (held seen (undo_after name at bytes false u)) (unwound_push u.entries (record { name = name; at = at; bytes = bytes; done = false }) seen)
+held_failed seen u name at bytes = ap (held seen (undo_after name at bytes false u)) (unwound_push u.entries (record { name = name; at = at; bytes = bytes; done = false; lost = None }) seen)
 
 pub lies_failed : (seen : Files) (u : Undo) (name : FileName) (at : ℕ) (bytes : List ℕ) → IsInside name at (length bytes) seen → AllLieIn u.entries seen → AllLieIn (undo_after name at bytes false u).entries seen
 lies_failed seen u name at bytes inside all =
-    let e : UndoEntry = record { name = name; at = at; bytes = bytes; done = false } in
+    let e : UndoEntry = record { name = name; at = at; bytes = bytes; done = false; lost = None } in
     lies_push u.entries e seen all (fits_of (as_write e) seen inside)
 
 module _ (seen : Files) (name : FileName) (at : ℕ) (bytes : List ℕ) (inside : IsInside name at (length bytes) seen) where
@@ -91,7 +91,7 @@ module _ (seen : Files) (name : FileName) (at : ℕ) (bytes : List ℕ) (inside 
       each k d below = there k d (omega (arith, below, len)) ∙ patched_inside inside.file at bytes (at + k) d inside.within (omega arith) (omega (arith, below, len)) ∙ ap (λ j. get_or bytes j d) (omega arith)
 
   abbrev entry : UndoEntry
-  entry = record { name = name; at = at; bytes = replaced; done = true }
+  entry = record { name = name; at = at; bytes = replaced; done = true; lost = None }
 
   pub held_written : (u : Undo) → held_in (with_bytes name at bytes seen) (undo_after name at replaced true u) ≡ content_after_write name at bytes (held_in seen u)
   held_written u =

@@ -1,5 +1,5 @@
 pub mod TableLemmas
-pub mod BufferLemmas
+pub mod EntryLemmas
 pub mod FitLemmas
 pub mod PickLemmas
 pub mod CoverLemmas

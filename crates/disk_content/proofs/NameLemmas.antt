@@ -1,6 +1,5 @@
 -- A file that is made, or taken away.
-use Rattle.std.proofs.Common.{◌≡◌, ◌⊎◌, inl, inr, ℕ, ◌≤◌, List, [], ◌∷◌, length, replicate, false, ◌&&◌, ◌||◌, refl, sym, ap, subst, ◌∙◌, Option, Some, None, arith}
-use Rattle.std.proofs.lemmas.List.{length-replicate}
+use Rattle.std.proofs.Common.{◌≡◌, ◌⊎◌, inl, inr, ℕ, List, [], ◌∷◌, replicate, false, ◌&&◌, ◌||◌, refl, sym, ap, subst, ◌∙◌, Option, Some, None}
 use Rattle.std.specs.FinMap.{get, insert, remove}
 use Rattle.m3_outside.specs.declared.file_name.FileName.{FileName}
 use Rattle.m3_outside.specs.Files.{Files, files_with_zeros, files_without}
@@ -11,7 +10,6 @@ use Rattle.disk_content.specs.Writes.{PendingWrite}
 use Rattle.disk_content.specs.Contents.{FitsFile, AllFit, content_after_create, content_after_remove}
 use Rattle.disk_content.specs.Images.{in_range, covered, MayLeave, ImagesOf, IsSound}
 use Rattle.disk_content.proofs.CoverLemmas.{without_is, others_of, may_over}
-use Rattle.disk_content.proofs.TableLemmas.{same_found}
 use Rattle.disk_content.proofs.SyncLemmas.{fit_filtered, settled_file}
 
 -- a file that reads don't give doesn't stand synced
@@ -60,11 +58,10 @@ module _ (c : Content) (name : FileName) (size : ℕ) (sound : IsSound c) (absen
       was q (inl same) = subst (λ m. MayLeave c.pending.writes m (get c.synced m) (get (remove files name) m)) (sym same)
           (subst (λ b. MayLeave c.pending.writes name b (get (remove files name) name)) (sym none) (subst (MayLeave c.pending.writes name None) (sym (get_gone files name)) tt))
 
-  pub sound_made : size ≤ c.pending.widest → IsSound made
-  sound_made wide = record {
+  pub sound_made : IsSound made
+  sound_made = record {
     read_is_image = λ q. may q (name_is q name);
     fit = fit_added c.pending.writes c.synced name (replicate size 0) none sound.fit;
-    small = λ q file there. small q file there (name_is q name);
   }
     where
       may : (q : FileName) → (q ≡ name) ⊎ (q ≡ name → ⊥) → MayLeave c.pending.writes q (get made.synced q) (get made.seen q)
@@ -73,12 +70,6 @@ module _ (c : Content) (name : FileName) (size : ℕ) (sound : IsSound c) (absen
       may q (inl same) = subst (λ m. MayLeave c.pending.writes m (get made.synced m) (get made.seen m)) (sym same)
           (subst (λ b. MayLeave c.pending.writes name b (get made.seen name)) (sym (get_here c.synced name (replicate size 0)))
           (subst (MayLeave c.pending.writes name (Some (replicate size 0))) (sym (get_here c.seen name (replicate size 0))) (record { same_length = refl; outside = λ i none. refl })))
-
-      small : (q : FileName) (file : List ℕ) → get made.seen q ≡ Some file → (q ≡ name) ⊎ (q ≡ name → ⊥) → length file ≤ c.pending.widest
-      small q file there (inr apart) = sound.small q file (sym (get_apart c.seen name (replicate size 0) q apart) ∙ there)
-      small q file there (inl same) =
-          let is : replicate size 0 ≡ file = same_found made.seen name _ _ (get_here c.seen name (replicate size 0)) (ap (get made.seen) (sym same) ∙ there) in
-          omega (arith, wide, ap length is, length-replicate {A = ℕ} size 0)
 
 module _ (c : Content) (name : FileName) (sound : IsSound c) (present : List ℕ) (there : get c.synced name ≡ Some present) where
   abbrev gone : Content
@@ -108,7 +99,6 @@ module _ (c : Content) (name : FileName) (sound : IsSound c) (present : List ℕ
   sound_gone = record {
     read_is_image = λ q. may q (name_is q name);
     fit = subst (λ ws. AllFit ws gone.synced) (sym (without_is name c.pending.writes)) (fit_filtered name c.pending.writes c.synced gone.synced (get_stays c.synced name) sound.fit);
-    small = λ q file there. small q file there (name_is q name);
   }
     where
       may : (q : FileName) → (q ≡ name) ⊎ (q ≡ name → ⊥) → MayLeave gone.pending.writes q (get gone.synced q) (get gone.seen q)
@@ -116,7 +106,3 @@ module _ (c : Content) (name : FileName) (sound : IsSound c) (present : List ℕ
           (subst (MayLeave gone.pending.writes q (get c.synced q)) (sym (get_stays c.seen name q apart)) (may_over c.pending.writes gone.pending.writes q _ _ (λ i. sym (elsewhere q apart i)) (sound.read_is_image q)))
       may q (inl same) = subst (λ m. MayLeave gone.pending.writes m (get gone.synced m) (get gone.seen m)) (sym same)
           (subst (λ b. MayLeave gone.pending.writes name b (get gone.seen name)) (sym (get_gone c.synced name)) (subst (MayLeave gone.pending.writes name None) (sym (get_gone c.seen name)) tt))
-
-      small : (q : FileName) (file : List ℕ) → get gone.seen q ≡ Some file → (q ≡ name) ⊎ (q ≡ name → ⊥) → length file ≤ c.pending.widest
-      small q file there (inr apart) = sound.small q file (sym (get_stays c.seen name q apart) ∙ there)
-      small q file there (inl same) = let e : None ≡ Some file = sym (get_gone c.seen name) ∙ ap (get gone.seen) (sym same) ∙ there in absurd (cc)

@@ -65,20 +65,8 @@ same_left q (Some x) (Some y) may = ap Some (ext_get_or 0 y x may.same_length (�
 pub only_image : (synced files : Files) → LeftBy [] synced files → files ≡ synced
 only_image synced files left = same_files files synced (λ q. same_left q (get synced q) (get files q) (left q))
 
-abbrev WithinAll : ℕ → Files → Type 0
-WithinAll n files = (q : FileName) (file : List ℕ) → get files q ≡ Some file → length file ≤ n
-
-small_left : (c : Content) (files : Files) → IsSound c → ImagesOf c files → WithinAll c.pending.widest files
-small_left c files sound image q file there = from (get c.synced q) (get c.seen q) refl (sound.read_is_image q) (subst (MayLeave c.pending.writes q (get c.synced q)) there (image q))
-  where
-    from : (base seen : Option (List ℕ)) → get c.seen q ≡ seen → MayLeave c.pending.writes q base seen → MayLeave c.pending.writes q base (Some file) → length file ≤ c.pending.widest
-    from None seen is may left = absurd left
-    from (Some base) None is may left = absurd may
-    from (Some base) (Some seen) is may left = omega (arith, sound.small q seen is, may.same_length, left.same_length)
-
 pub sound_restart : (c : Content) (pick : ℕ) → IsSound c → IsSound (content_after_restart pick c)
 sound_restart c pick sound = record {
   read_is_image = λ q. itself_left [] q (get (picked_files pick c.pending.writes c.synced) q);
   fit = tt;
-  small = small_left c (picked_files pick c.pending.writes c.synced) sound (picked_is_image c pick sound);
 }

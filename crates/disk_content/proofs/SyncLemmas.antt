@@ -71,7 +71,6 @@ module _ (c : Content) (name : FileName) (sound : IsSound c) (both : IsInBoth na
   sound_sync = record {
     read_is_image = λ q. may q (name_is q name);
     fit = subst (λ ws. AllFit ws new.synced) (sym (without_is name c.pending.writes)) (fit_filtered name c.pending.writes c.synced new.synced other sound.fit);
-    small = sound.small;
   }
     where
       may : (q : FileName) → (q ≡ name) ⊎ (q ≡ name → ⊥) → MayLeave new.pending.writes q (get new.synced q) (get c.seen q)

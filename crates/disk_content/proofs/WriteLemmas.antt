@@ -14,7 +14,7 @@ use Rattle.disk_content.specs.Tables.{with_bytes}
 use Rattle.disk_content.specs.Contents.{FitsFile, AllFit, content_after_failed_write, content_after_write}
 use Rattle.disk_content.specs.Images.{MayLeave, ImagesOf, IsSound}
 use Rattle.disk_content.proofs.CoverLemmas.{left_written, left_before, may_more, may_less}
-use Rattle.disk_content.proofs.TableLemmas.{with_bytes_found, same_found}
+use Rattle.disk_content.proofs.TableLemmas.{with_bytes_found}
 
 pub undone : (now : List ℕ) (at : ℕ) (other : List ℕ) → at + length other ≤ length now → patched (patched now at other) at (take (length other) (drop at now)) ≡ now
 undone now at other within = same_lists _ _ lengths (λ k d below. each k d below)
@@ -100,7 +100,6 @@ sound_failed_write c name at bytes sound inside =
     record {
       read_is_image = λ q. may_more c.pending.writes w q _ _ (sound.read_is_image q);
       fit = all_fit_push c.pending.writes w c.synced sound.fit (fits_synced c w sound inside);
-      small = sound.small;
     }
 
 pub wrote_seen : (c : Content) (name : FileName) (at : ℕ) (bytes : List ℕ) → IsInside name at (length bytes) c.seen → Wrote name at bytes c.seen (with_bytes name at bytes c.seen)
@@ -110,7 +109,6 @@ pub sound_write : (c : Content) (name : FileName) (at : ℕ) (bytes : List ℕ) 
 sound_write c name at bytes sound inside = record {
   read_is_image = λ q. subst (λ (m : Files). MayLeave (c.pending.writes ++ w ∷ []) q (get c.synced q) (get m q)) after (each q);
   fit = all_fit_push c.pending.writes w c.synced sound.fit (fits_synced c w sound inside);
-  small = λ q file there. small q file (ap (λ (m : Files). get m q) after ∙ there);
 }
   where
     w : PendingWrite
@@ -129,14 +127,6 @@ sound_write c name at bytes sound inside = record {
         (subst (MayLeave (c.pending.writes ++ w ∷ []) name (get c.synced name)) (sym (get_here c.seen name (patched inside.file at bytes)))
         (here (get c.synced name) (subst (MayLeave c.pending.writes name (get c.synced name)) inside.there (sound.read_is_image name)))))
         (λ (apart : q ≡ name → ⊥). subst (MayLeave (c.pending.writes ++ w ∷ []) q (get c.synced q)) (sym (get_apart c.seen name (patched inside.file at bytes) q apart)) (may_more c.pending.writes w q _ _ (sound.read_is_image q)))
-        (name_is q name)
-
-    small : (q : FileName) (file : List ℕ) → get (insert c.seen name (patched inside.file at bytes)) q ≡ Some file → length file ≤ c.pending.widest
-    small q file there = ⊎_elim
-        (λ (same : q ≡ name).
-        let is : patched inside.file at bytes ≡ file = same_found (insert c.seen name (patched inside.file at bytes)) name _ _ (get_here c.seen name (patched inside.file at bytes)) (ap (get (insert c.seen name (patched inside.file at bytes))) (sym same) ∙ there) in
-        omega (arith, ap length is, length-patched inside.file at bytes inside.within, sound.small name inside.file inside.there))
-        (λ (apart : q ≡ name → ⊥). sound.small q file (sym (get_apart c.seen name (patched inside.file at bytes) q apart) ∙ there))
         (name_is q name)
 
 patched_same : (file : List ℕ) (at n : ℕ) → at + n ≤ length file → patched file at (take n (drop at file)) ≡ file
@@ -159,7 +149,3 @@ torn_not files name at n inside = record {
     after = is_insert files files name _ (inside.there ∙ ap (λ (l : List ℕ). Some l) (sym (patched_same inside.file at n inside.within))) (λ q apart. refl);
   };
 }
-
--- the bytes of a write fit a buffer
-pub fits_widest : (c : Content) (name : FileName) (at n : ℕ) → IsSound c → IsInside name at n c.seen → n ≤ c.pending.widest
-fits_widest c name at n sound inside = omega (arith, inside.within, sound.small name inside.file inside.there)

@@ -37,11 +37,10 @@ MayLeave ws q (Some synced) (Some left) = Left ws q synced left
 abbrev pub ImagesOf : Content → Files → Type 0
 ImagesOf c files = (q : FileName) → MayLeave c.pending.writes q (get c.synced q) (get files q)
 
--- what reads give, a stop may leave, each pending write lies in its file, and no file is larger than the writes for which there is room
+-- what reads give, a stop may leave, and each pending write lies in its file
 pub record IsSound (c : Content) : Type 0 where
   pub read_is_image : ImagesOf c c.seen
   pub fit : AllFit c.pending.writes c.synced
-  pub small : (q : FileName) (file : List ℕ) → get c.seen q ≡ Some file → length file ≤ c.pending.widest
 
 Left-prop : (ws : List PendingWrite) (q : FileName) (synced left : List ℕ) → IsProp (Left ws q synced left)
 Left-prop ws q synced left = hlevel ℕ_set
@@ -64,7 +63,6 @@ pub IsSound-prop : (c : Content) → IsProp (IsSound c)
 IsSound-prop c a b = λ i. record {
   read_is_image = λ q. MayLeave-prop c.pending.writes q (get c.synced q) (get c.seen q) (a.read_is_image q) (b.read_is_image q) i;
   fit = AllFit-prop c.pending.writes c.synced a.fit b.fit i;
-  small = λ q file there. le_prop (a.small q file there) (b.small q file there) i;
 }
 
 -- one of these moments left it

@@ -29,3 +29,8 @@ with_bytes name at bytes files = with_file name (patched_file at bytes (get file
 abbrev pub range_in : ℕ → ℕ → Option (List ℕ) → List ℕ
 range_in at n None = []
 range_in at n (Some file) = take n (drop at file)
+
+-- the bytes that a copy is of, also where they are lost
+abbrev pub copied_bytes : List ℕ → Option (List ℕ) → List ℕ
+copied_bytes bytes None = bytes
+copied_bytes bytes (Some lost) = lost

@@ -1,20 +1,22 @@
 -- What undoes the writes of a disk in memory that no sync of their file has followed.
-use Rattle.std.specs.Prelude.{◌≡◌, ⊤, ℕ, ◌-◌, ◌≤◌, Bool, if◌then◌else◌, List, [], ◌∷◌, ◌++◌, length, map, vec_len, vec_capacity}
+use Rattle.std.specs.Prelude.{ℕ, ◌-◌, Bool, if◌then◌else◌, List, [], ◌∷◌, ◌++◌, length, map, None}
 use Rattle.std.specs.List.{filter}
 use Rattle.std.specs.FinMap.{get}
-use Rattle.std.specs.declared.vec.Vec.{Vec}
 use Rattle.m3_outside.specs.declared.file_name.FileName.{FileName}
 use Rattle.m3_outside.specs.Files.{Files}
 use Rattle.disk_content.specs.declared.undo_log.UndoEntry.{UndoEntry}
-use Rattle.disk_content.specs.Tables.{with_bytes, range_in}
+use Rattle.disk_content.specs.Tables.{with_bytes, range_in, copied_bytes}
 use Rattle.disk_content.specs.Writes.{PendingWrite, is_other}
 use Rattle.disk_content.specs.Contents.{Content, AllFit}
 
--- The entries in the order of their writes. There is room for so many more calls that change files, each of which writes at most `widest` bytes.
+-- an entry as if none of its bytes were lost
+abbrev pub whole : UndoEntry → UndoEntry
+whole e = record e { bytes = copied_bytes e.bytes e.lost; lost = None }
+
+-- the entries in the order of their writes, each with its bytes; there is room for so many more calls that change files
 pub record Undo : Type 0 where
   pub entries : List UndoEntry
   pub room : ℕ
-  pub widest : ℕ
 
 -- those of other files
 abbrev pub entries_of_others : FileName → List UndoEntry → List UndoEntry
@@ -22,21 +24,11 @@ entries_of_others name es = filter (λ e. is_other name e.name) es
 
 -- with one more entry
 abbrev pub undo_after : FileName → ℕ → List ℕ → Bool → Undo → Undo
-undo_after name at bytes done u = record u { entries = u.entries ++ (record { name = name; at = at; bytes = bytes; done = done }) ∷ []; room = u.room - 1 }
+undo_after name at bytes done u = record u { entries = u.entries ++ (record { name = name; at = at; bytes = bytes; done = done; lost = None }) ∷ []; room = u.room - 1 }
 
 -- without the entries of a file
 abbrev pub undo_without : FileName → Undo → Undo
 undo_without name u = record u { entries = entries_of_others name u.entries; room = u.room - 1 }
-
--- a vector without items that has room for so many bytes
-pub record IsBuffer {A : Type 0} (widest : ℕ) (b : Vec ℕ A) : Type 0 where
-  pub none : b.items ≡ []
-  pub empty : vec_len b ≡ 0
-  pub wide : widest ≤ vec_capacity b
-
-abbrev pub AreBuffers : {A : Type 0} → ℕ → List (Vec ℕ A) → Type 0
-AreBuffers widest [] = ⊤
-AreBuffers widest (b ∷ bs) = IsBuffer widest b × AreBuffers widest bs
 
 -- the files before the write of an entry, from those after it
 abbrev pub files_before : UndoEntry → Files → Files
@@ -66,4 +58,4 @@ AllLieIn es files = AllFit (map as_write es) files
 
 -- what reads give and what undoes the pending writes
 abbrev pub held_in : Files → Undo → Content
-held_in seen undo = let before = unwound undo.entries seen in record { seen = seen; synced = before.files; pending = record { writes = before.writes; room = undo.room; widest = undo.widest } }
+held_in seen undo = let before = unwound undo.entries seen in record { seen = seen; synced = before.files; pending = record { writes = before.writes; room = undo.room } }

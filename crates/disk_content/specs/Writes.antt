@@ -21,17 +21,16 @@ pub record PendingWrite : Type 0 where
   pub at : ℕ
   pub bytes : List ℕ
 
--- The pending writes in their order. There is room for so many more calls that change files, each of which writes at most `widest` bytes.
+-- the pending writes in their order; there is room for so many more calls that change files
 pub record Pending : Type 0 where
   pub writes : List PendingWrite
   pub room : ℕ
-  pub widest : ℕ
 
 abbrev pub write_code : Coded PendingWrite
 write_code = code_by (FileName × (ℕ × List ℕ)) (coded× name_code (coded× coded_ℕ (coded_list coded_ℕ))) (λ w. (w.name, (w.at, w.bytes))) (λ p. record { name = p.0; at = p.1.0; bytes = p.1.1 }) (λ _. refl)
 
 abbrev pub pending_code : Coded Pending
-pending_code = code_by (List PendingWrite × (ℕ × ℕ)) (coded× (coded_list write_code) (coded× coded_ℕ coded_ℕ)) (λ p. (p.writes, (p.room, p.widest))) (λ p. record { writes = p.0; room = p.1.0; widest = p.1.1 }) (λ _. refl)
+pending_code = code_by (List PendingWrite × ℕ) (coded× (coded_list write_code) coded_ℕ) (λ p. (p.writes, p.room)) (λ p. record { writes = p.0; room = p.1 }) (λ _. refl)
 
 -- those to other files
 abbrev pub to_others : FileName → List PendingWrite → List PendingWrite

@@ -36,7 +36,7 @@ impl Content {
     ghost use Rattle.disk_content.specs.Contents.{content_after_create, content_after_write, content_after_failed_write, content_after_sync, content_after_remove, content_after_restart};
 
     pub fn new(alloc: Global) -> Content
-        ensures { result ≡ record { seen = finite.empty; synced = finite.empty; pending = record { writes = []; room = 0; widest = 0 } } }
+        ensures { result ≡ record { seen = finite.empty; synced = finite.empty; pending = record { writes = []; room = 0 } } }
     {
         Content {
             seen: FileTable::new(alloc),
@@ -51,12 +51,12 @@ impl Content {
         self.undo.room()
     }
 
-    // Takes the memory for so many calls that change files, none of which writes more than `widest` bytes.
-    pub fn make_room(&mut self, calls: usize, widest: usize) -> Result<(), Memory>
-        ensures ok { OnOk result (self.new ≡ record self.old { pending = record self.old.pending { room = max self.old.pending.room calls; widest = max self.old.pending.widest widest } }) }
+    // Makes room for so many calls that change files. What a write replaces takes its memory when it comes.
+    pub fn make_room(&mut self, calls: usize) -> Result<(), Memory>
+        ensures ok { OnOk result (self.new ≡ record self.old { pending = record self.old.pending { room = max self.old.pending.room calls } }) }
         ensures err { OnErr result (self.new ≡ self.old) }
     {
-        self.undo.make_room(calls, widest)
+        self.undo.make_room(calls)
     }
 
     // Makes a file of zeros.
@@ -69,21 +69,20 @@ impl Content {
         Ok(())
     }
 
-    // Writes over a part of a file. Takes no memory, and uses up room for one call, as all that follow but reads.
+    // Writes over a part of a file. Isn't refused for want of memory: a restart is, where what this replaces couldn't be kept,
+    // until the file is synced or taken away. Uses up room for one call, as the next three.
     pub fn write(&mut self, name: FileName, at: usize, bytes: &[u8])
         requires inside { IsInside name at (length bytes.now) self.old.seen }
         requires room { 1 ≤ self.old.pending.room }
-        requires fits { length bytes.now ≤ self.old.pending.widest }
         ensures { self.new ≡ content_after_write name at bytes.now self.old }
     {
         self.undo.write(&mut self.seen, name, at, bytes);
     }
 
-    // A write that failed: it is pending, and reads stay.
+    // A write that failed: it is pending, and reads stay. As to memory it is as one that didn't.
     pub fn fail_write(&mut self, name: FileName, at: usize, bytes: &[u8])
         requires inside { IsInside name at (length bytes.now) self.old.seen }
         requires room { 1 ≤ self.old.pending.room }
-        requires fits { length bytes.now ≤ self.old.pending.widest }
         ensures { self.new ≡ content_after_failed_write name at bytes.now self.old }
     {
         self.undo.add_failed(name, at, bytes);
@@ -107,12 +106,13 @@ impl Content {
         self.undo.drop_file(name);
     }
 
-    // Takes what the pick leaves for what reads give and for synced. Costs in proportion to the pending writes, and takes
-    // no memory.
-    pub fn restart(&mut self, pick: u64)
-        ensures { self.new ≡ content_after_restart pick self.old }
+    // Takes what the pick leaves for what reads give and for synced. Costs in proportion to the pending writes. Wants memory
+    // only where there was none to keep what a pending write replaced.
+    pub fn restart(&mut self, pick: u64) -> Result<(), Memory>
+        ensures ok { OnOk result (self.new ≡ content_after_restart pick self.old) }
+        ensures err { OnErr result (self.new ≡ self.old) }
     {
-        self.undo.restart(&mut self.seen, pick);
+        self.undo.restart(&mut self.seen, pick)
     }
 
     // The bytes of a file as reads give it, in constant expected time.

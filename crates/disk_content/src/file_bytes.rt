@@ -1,11 +1,11 @@
-ghost use Rattle.std.specs.Prelude.{◌≡◌, ◌≤◌, ◌+◌, ◌-◌, [], Some, IfOk, length, replicate, map, take, drop, vec_len, vec_capacity};
+ghost use Rattle.std.specs.Prelude.{◌≡◌, ◌≤◌, ◌+◌, ◌-◌, Some, IfOk, length, replicate, map, take, drop};
 ghost use Rattle.m3_outside.specs.Files.{patched};
-ghost use Rattle.disk_content.specs.Tables.{range_in};
+ghost use Rattle.disk_content.specs.Tables.{range_in, copied_bytes};
 
 use m3_model::Memory;
+use m3_outside::Passed;
 use std::alloc::Global;
 use std::marker::Model;
-use std::mem;
 
 // The bytes of a file, or of a write to it. Contracts see the list of them.
 #[derive(Drop)]
@@ -21,17 +21,32 @@ impl Model for FileBytes {
     ghost view = { λ f. f.bytes.items };
 }
 
-// The bytes, in a vector that has the room for them.
-pub fn filled(buffer: Vec<u8>, bytes: &[u8]) -> FileBytes
-    requires none { buffer.items ≡ [] }
-    requires empty { vec_len buffer ≡ 0 }
-    requires room { length bytes.now ≤ vec_capacity buffer }
+// A copy of some bytes. Where there was no memory for it, they are lost: they exist for proofs alone.
+#[derive(Drop)]
+pub struct Copied {
+    pub bytes: FileBytes,
+    pub lost: Option<Passed>,
+}
+
+// These bytes, for proofs alone.
+fn ghost_of(bytes: &[u8]) -> Passed
     ensures { result ≡ bytes.now }
 {
-    let mut buffer = buffer;
-    match buffer.extend_from_slice(bytes) {
-        Ok(()) => FileBytes::from_vec(buffer),
-        Err(_) => unreachable!(),
+    let mut passed = Passed::new();
+    passed.add(bytes);
+    passed
+}
+
+// Copies bytes, into the memory of this vector where it is wide enough.
+pub fn copy_of(alloc: Global, vec: Vec<u8>, bytes: &[u8]) -> Copied
+    ensures { copied_bytes result.bytes result.lost ≡ bytes.now }
+{
+    match FileBytes::try_copy(vec, bytes) {
+        Ok(bytes) => Copied { bytes, lost: None },
+        Err(Memory) => Copied {
+            bytes: FileBytes::from_vec(Vec::new(alloc)),
+            lost: Some(ghost_of(bytes)),
+        },
     }
 }
 
@@ -50,18 +65,20 @@ impl FileBytes {
         Ok(FileBytes { bytes })
     }
 
+    // A copy of these bytes, in a vector whose memory is used again.
+    fn try_copy(vec: Vec<u8>, bytes: &[u8]) -> Result<FileBytes, Memory>
+        ensures { IfOk result (λ f. f ≡ bytes.now) }
+    {
+        let mut vec = vec;
+        vec.clear();
+        vec.extend_from_slice(bytes)?;
+        Ok(FileBytes { bytes: vec })
+    }
+
     pub fn into_vec(self) -> Vec<u8>
         ensures { result.items ≡ self }
     {
         self.bytes
-    }
-
-    // Takes the bytes out, and leaves none.
-    pub fn take(&mut self, alloc: Global) -> Vec<u8>
-        ensures value { result.items ≡ self.old }
-        ensures after { self.new ≡ [] }
-    {
-        mem::replace(&mut self.bytes, Vec::new(alloc))
     }
 
     pub fn as_slice(&self) -> &[u8]
@@ -83,16 +100,13 @@ impl FileBytes {
         self.bytes[at..at + bytes.len()].copy_from_slice(bytes);
     }
 
-    // Writes over a part, and gives what it replaced, in a vector that has the room for it.
-    pub fn replace(&mut self, at: usize, bytes: &[u8], buffer: Vec<u8>) -> FileBytes
-        requires inside { at + length bytes.now ≤ length self.old }
-        requires none { buffer.items ≡ [] }
-        requires empty { vec_len buffer ≡ 0 }
-        requires room { length bytes.now ≤ vec_capacity buffer }
-        ensures value { result ≡ range_in at (length bytes.now) (Some self.old) }
+    // Writes over a part, and gives a copy of what it replaced, in the memory of this vector where it is wide enough.
+    pub fn replace(&mut self, alloc: Global, at: usize, bytes: &[u8], vec: Vec<u8>) -> Copied
+        requires { at + length bytes.now ≤ length self.old }
+        ensures value { copied_bytes result.bytes result.lost ≡ range_in at (length bytes.now) (Some self.old) }
         ensures after { self.new ≡ patched self.old at bytes.now }
     {
-        let replaced = filled(buffer, &self.bytes[at..at + bytes.len()]);
+        let replaced = copy_of(alloc, vec, &self.bytes[at..at + bytes.len()]);
         self.write(at, bytes);
         replaced
     }

@@ -1,10 +1,10 @@
-ghost use Rattle.std.specs.Prelude.{◌≡◌, ◌≤◌, [], IfOk, OnOk, OnErr, length, replicate, vec_len, vec_capacity};
+ghost use Rattle.std.specs.Prelude.{◌≡◌, IfOk, OnOk, OnErr, length, replicate};
 ghost use Rattle.std.specs.Option.{option_copied};
 ghost use Rattle.std.specs.FinMap as finite;
 ghost use Rattle.m3_outside.specs.Files.{IsInside};
-ghost use Rattle.disk_content.specs.Tables.{with_bytes, range_in};
+ghost use Rattle.disk_content.specs.Tables.{with_bytes, range_in, copied_bytes};
 
-use crate::file_bytes::FileBytes;
+use crate::file_bytes::{Copied, FileBytes};
 use indexmap::IndexMap;
 use m3_model::Memory;
 use m3_outside::FileName;
@@ -78,17 +78,21 @@ impl FileTable {
         }
     }
 
-    // Writes over a part of a file, and gives what it replaced, in a vector that has the room for it.
-    pub fn replace(&mut self, name: FileName, at: usize, bytes: &[u8], buffer: Vec<u8>) -> FileBytes
-        requires inside { IsInside name at (length bytes.now) self.old }
-        requires none { buffer.items ≡ [] }
-        requires empty { vec_len buffer ≡ 0 }
-        requires room { length bytes.now ≤ vec_capacity buffer }
-        ensures value { result ≡ range_in at (length bytes.now) (finite.get self.old name) }
+    // Writes over a part of a file, and gives a copy of what it replaced, in the memory of this vector where it is wide enough.
+    pub fn replace(
+        &mut self,
+        alloc: Global,
+        name: FileName,
+        at: usize,
+        bytes: &[u8],
+        vec: Vec<u8>,
+    ) -> Copied
+        requires { IsInside name at (length bytes.now) self.old }
+        ensures value { copied_bytes result.bytes result.lost ≡ range_in at (length bytes.now) (finite.get self.old name) }
         ensures after { self.new ≡ with_bytes name at bytes.now self.old }
     {
         match self.map.get_mut(&name) {
-            Some(file) => file.replace(at, bytes, buffer),
+            Some(file) => file.replace(alloc, at, bytes, vec),
             None => unreachable!(),
         }
     }

@@ -9,5 +9,5 @@ mod undo_log;
 mod unwind;
 
 pub use content::Content;
-pub use file_bytes::{FileBytes, filled};
+pub use file_bytes::FileBytes;
 pub use file_table::FileTable;

@@ -1,51 +1,57 @@
-ghost use Rattle.std.specs.Prelude.{◌≡◌, ◌≤◌, [], true, false, OnOk, OnErr, ◌+◌, length, max, MatchOption, vec_len, vec_capacity};
+ghost use Rattle.std.specs.Prelude.{◌≡◌, ◌≤◌, [], true, false, OnOk, OnErr, ◌+◌, length, map, max, MatchOption, vec_len, vec_capacity};
 ghost use Rattle.std.specs.FinMap as finite;
 ghost use Rattle.m3_outside.specs.Files.{IsInside};
+ghost use Rattle.disk_content.specs.Tables.{range_in, with_bytes, copied_bytes};
 ghost use Rattle.disk_content.specs.Writes.{is_other};
-ghost use Rattle.disk_content.specs.Tables.{range_in, with_bytes};
-ghost use Rattle.disk_content.specs.Undo.{entries_of_others, AllLieIn, AreBuffers, undo_after, undo_without, unwound};
+ghost use Rattle.disk_content.specs.Undo.{entries_of_others, whole, AllLieIn, undo_after, undo_without, unwound};
 ghost use Rattle.disk_content.specs.Picks.{picked_files};
 
-use crate::file_bytes::{FileBytes, filled};
+use crate::file_bytes::{Copied, FileBytes, copy_of};
 use crate::file_table::FileTable;
 use crate::picks::apply;
 use crate::unwind::unwind;
 use m3_model::Memory;
-use m3_outside::FileName;
+use m3_outside::{FileName, Passed};
 use std::alloc::Global;
 use std::marker::Model;
-use std::mem;
 
-// A write that no sync of its file has followed: what it replaced, where it is done, and else what it was to write.
+// A write that no sync of its file has followed: what it replaced, where it is done, and else what it was to write. Where there
+// was no memory for these bytes, they are lost: they exist for proofs alone.
 #[derive(Drop)]
 pub struct UndoEntry {
     pub name: FileName,
     pub at: usize,
     pub bytes: FileBytes,
     pub done: bool,
+    pub lost: Option<Passed>,
 }
 
-// Such writes in their order, and room for more of them. Contracts see them as an `Undo`.
+// Such writes in their order, and room for more of them. Contracts see them as an `Undo`, in which no bytes are lost.
 #[derive(Drop)]
 pub struct UndoLog {
     alloc: Global,
     entries: Vec<UndoEntry>,
-    // Empty vectors, one at least for each write that there is room for. Those of dropped entries come back here.
+    // Vectors of dropped entries, whose memory later ones use again.
     buffers: Vec<Vec<u8>>,
     room: usize,
-    widest: usize,
 }
 
 impl Model for UndoLog {
-    ghost use Rattle.std.specs.Prelude.{◌≤◌, ◌+◌, vec_len, vec_capacity};
-    ghost use Rattle.disk_content.specs.Undo.{Undo, AreBuffers};
+    ghost use Rattle.std.specs.Prelude.{◌≤◌, ◌+◌, map, vec_len, vec_capacity};
+    ghost use Rattle.disk_content.specs.Undo.{Undo, whole};
 
     ghost Value = { Undo };
 
-    ghost view = { λ u. record { entries = u.entries.items; room = u.room; widest = u.widest } };
+    ghost view = { λ u. record { entries = map whole u.entries.items; room = u.room } };
 
-    ghost invariant = { λ u. (vec_len u.entries + u.room ≤ vec_capacity u.entries) × (u.room ≤ vec_len u.buffers) × AreBuffers u.widest u.buffers.items };
+    ghost invariant = { λ u. vec_len u.entries + u.room ≤ vec_capacity u.entries };
 }
+
+// For how many vectors of dropped entries there is room.
+const BUFFERS: usize = 8;
+
+// How many bytes such a vector has at most.
+const BUFFER_BYTES: usize = 4_096;
 
 // Whether two names are two.
 fn is_other(name: FileName, other: FileName) -> bool
@@ -54,57 +60,24 @@ fn is_other(name: FileName, other: FileName) -> bool
     name != other
 }
 
-// Adds empty vectors, with room for `widest` bytes each, until there are so many.
-fn add_buffers(
-    alloc: Global,
-    buffers: &mut Vec<Vec<u8>>,
-    count: usize,
-    widest: usize,
-) -> Result<(), Memory>
-    requires { AreBuffers widest buffers.old.items }
-    ensures each { AreBuffers widest buffers.new.items }
-    ensures enough { OnOk result (count ≤ vec_len buffers.new) }
-    ensures kept { vec_len buffers.old ≤ vec_len buffers.new }
+// Whether bytes of one of the entries are lost.
+fn has_lost(entries: &[UndoEntry]) -> bool
+    ensures { result ≡ false → map whole entries.now ≡ entries.now }
 {
-    for _ in buffers.len()..count {
-        let buffer = Vec::with_capacity(alloc, widest)?;
-        buffers.push(buffer)?;
-    }
-    Ok(())
-}
-
-// Keeps the memory of a dropped entry for a later one, where it is wide enough and there is room for it.
-fn keep_buffer(buffers: &mut Vec<Vec<u8>>, bytes: Vec<u8>, widest: usize)
-    requires { AreBuffers widest buffers.old.items }
-    ensures each { AreBuffers widest buffers.new.items }
-    ensures kept { vec_len buffers.old ≤ vec_len buffers.new }
-{
-    if bytes.capacity() < widest || buffers.len() >= buffers.capacity() {
-        return;
-    }
-    let mut bytes = bytes;
-    bytes.clear();
-    buffers.push_reserved(bytes);
-}
-
-// Takes the bytes out of the entries of a file, and keeps their memory.
-fn empty_entries(
-    alloc: Global,
-    entries: &mut [UndoEntry],
-    name: FileName,
-    buffers: &mut Vec<Vec<u8>>,
-    widest: usize,
-)
-    requires { AreBuffers widest buffers.old.items }
-    ensures others { entries_of_others name entries.new ≡ entries_of_others name entries.old }
-    ensures each { AreBuffers widest buffers.new.items }
-    ensures kept { vec_len buffers.old ≤ vec_len buffers.new }
-{
-    for entry in entries.iter_mut() {
-        if !is_other(name, entry.name) {
-            keep_buffer(buffers, entry.bytes.take(alloc), widest);
+    for entry in entries {
+        if entry.lost.is_some() {
+            return true;
         }
     }
+    false
+}
+
+// Keeps the memory of a dropped entry for a later one, where it is small and there is room for it.
+fn keep_buffer(buffers: &mut Vec<Vec<u8>>, bytes: Vec<u8>) {
+    if bytes.capacity() > BUFFER_BYTES || buffers.len() >= buffers.capacity() {
+        return;
+    }
+    buffers.push_reserved(bytes);
 }
 
 // Takes the last entry out, where it is one of this file.
@@ -121,37 +94,26 @@ fn pop_of(entries: &mut Vec<UndoEntry>, name: FileName) -> Option<UndoEntry>
 }
 
 // Drops the entries of a file that are left between those of others.
-fn drop_between(
-    alloc: Global,
-    entries: &mut Vec<UndoEntry>,
-    name: FileName,
-    buffers: &mut Vec<Vec<u8>>,
-    widest: usize,
-)
-    requires { AreBuffers widest buffers.old.items }
+fn drop_between(entries: &mut Vec<UndoEntry>, name: FileName)
     ensures others { entries.new.items ≡ entries_of_others name entries.old.items }
     ensures len { vec_len entries.new ≤ vec_len entries.old }
     ensures capacity { vec_capacity entries.new ≡ vec_capacity entries.old }
-    ensures each { AreBuffers widest buffers.new.items }
-    ensures kept { vec_len buffers.old ≤ vec_len buffers.new }
 {
     if entries.is_empty() {
         return;
     }
-    empty_entries(alloc, entries, name, buffers, widest);
     entries.retain(|entry| is_other(name, entry.name));
 }
 
 impl UndoLog {
     pub fn new(alloc: Global) -> UndoLog
-        ensures { result ≡ record { entries = []; room = 0; widest = 0 } }
+        ensures { result ≡ record { entries = []; room = 0 } }
     {
         UndoLog {
             alloc,
             entries: Vec::new(alloc),
             buffers: Vec::new(alloc),
             room: 0,
-            widest: 0,
         }
     }
 
@@ -162,101 +124,101 @@ impl UndoLog {
         self.room
     }
 
-    // Takes the memory for so many calls that change files, none of which writes more than `widest` bytes.
-    pub fn make_room(&mut self, calls: usize, widest: usize) -> Result<(), Memory>
-        ensures ok { OnOk result (self.new ≡ record self.old { room = max self.old.room calls; widest = max self.old.widest widest }) }
+    // Makes room for the entries of so many calls that change files.
+    pub fn make_room(&mut self, calls: usize) -> Result<(), Memory>
+        ensures ok { OnOk result (self.new ≡ record self.old { room = max self.old.room calls }) }
         ensures err { OnErr result (self.new ≡ self.old) }
     {
         let room = self.room.max(calls);
         self.entries.reserve(room)?;
-        if widest > self.widest {
-            let mut buffers = Vec::new(self.alloc);
-            add_buffers(self.alloc, &mut buffers, room, widest)?;
-            drop(mem::replace(&mut self.buffers, buffers));
-            self.widest = widest;
-        } else {
-            add_buffers(self.alloc, &mut self.buffers, room, self.widest)?;
-            // Room for those of the entries.
-            self.buffers.reserve(self.entries.len())?;
+        if self.buffers.is_empty() {
+            self.buffers.reserve(BUFFERS)?;
         }
         self.room = room;
         Ok(())
     }
 
-    // Does a write, and adds what it replaced. Takes no memory, and uses up room for one call, as the two below.
-    pub fn write(&mut self, files: &mut FileTable, name: FileName, at: usize, bytes: &[u8])
-        requires inside { IsInside name at (length bytes.now) files.old }
-        requires room { 1 ≤ self.old.room }
-        requires fits { length bytes.now ≤ self.old.widest }
-        ensures files { files.new ≡ with_bytes name at bytes.now files.old }
-        ensures after { self.new ≡ undo_after name at (range_in at (length bytes.now) (finite.get files.old name)) true self.old }
+    // A vector whose memory is used again, or that has none.
+    fn take_buffer(&mut self) -> Vec<u8>
+        ensures { self.new ≡ self.old }
     {
-        let Some(buffer) = self.buffers.pop() else {
-            unreachable!()
-        };
-        let replaced = files.replace(name, at, bytes, buffer);
+        match self.buffers.pop() {
+            Some(buffer) => buffer,
+            None => Vec::new(self.alloc),
+        }
+    }
+
+    fn push(&mut self, name: FileName, at: usize, copy: Copied, done: bool)
+        requires { 1 ≤ self.old.room }
+        ensures { self.new ≡ undo_after name at (copied_bytes copy.bytes copy.lost) done self.old }
+    {
         self.entries.push_reserved(UndoEntry {
             name,
             at,
-            bytes: replaced,
-            done: true,
+            bytes: copy.bytes,
+            done,
+            lost: copy.lost,
         });
         self.room -= 1;
+    }
+
+    // Does a write, and adds what it replaced. Uses up room for one call, as the two below.
+    pub fn write(&mut self, files: &mut FileTable, name: FileName, at: usize, bytes: &[u8])
+        requires inside { IsInside name at (length bytes.now) files.old }
+        requires room { 1 ≤ self.old.room }
+        ensures files { files.new ≡ with_bytes name at bytes.now files.old }
+        ensures after { self.new ≡ undo_after name at (range_in at (length bytes.now) (finite.get files.old name)) true self.old }
+    {
+        let buffer = self.take_buffer();
+        let replaced = files.replace(self.alloc, name, at, bytes, buffer);
+        self.push(name, at, replaced, true);
     }
 
     // Adds a write that wasn't done.
     pub fn add_failed(&mut self, name: FileName, at: usize, bytes: &[u8])
-        requires room { 1 ≤ self.old.room }
-        requires fits { length bytes.now ≤ self.old.widest }
+        requires { 1 ≤ self.old.room }
         ensures { self.new ≡ undo_after name at bytes.now false self.old }
     {
-        let Some(buffer) = self.buffers.pop() else {
-            unreachable!()
-        };
-        self.entries.push_reserved(UndoEntry {
-            name,
-            at,
-            bytes: filled(buffer, bytes),
-            done: false,
-        });
-        self.room -= 1;
+        let buffer = self.take_buffer();
+        let copy = copy_of(self.alloc, buffer, bytes);
+        self.push(name, at, copy, false);
     }
 
-    // Drops the entries of a file, and keeps their memory for later ones.
+    // Drops the entries of a file.
     pub fn drop_file(&mut self, name: FileName)
         requires { 1 ≤ self.old.room }
         ensures { self.new ≡ undo_without name self.old }
     {
         while let Some(entry) = pop_of(&mut self.entries, name) {
-            keep_buffer(&mut self.buffers, entry.bytes.into_vec(), self.widest);
+            keep_buffer(&mut self.buffers, entry.bytes.into_vec());
         }
-        drop_between(
-            self.alloc,
-            &mut self.entries,
-            name,
-            &mut self.buffers,
-            self.widest,
-        );
+        drop_between(&mut self.entries, name);
         self.room -= 1;
     }
 
-    // Drops all entries, and keeps their memory for later ones.
+    // Drops all entries.
     fn clear(&mut self)
         ensures { self.new ≡ record self.old { entries = [] } }
     {
         while let Some(entry) = self.entries.pop() {
-            keep_buffer(&mut self.buffers, entry.bytes.into_vec(), self.widest);
+            keep_buffer(&mut self.buffers, entry.bytes.into_vec());
         }
     }
 
-    // Undoes all writes, and does them again as the digits of the pick say. Takes no memory, and keeps that of the entries.
-    pub fn restart(&mut self, files: &mut FileTable, pick: u64)
+    // Undoes all writes, and does them again as the digits of the pick say. Wants memory only where bytes are lost, and then
+    // changes nothing.
+    pub fn restart(&mut self, files: &mut FileTable, pick: u64) -> Result<(), Memory>
         requires { AllLieIn self.old.entries files.old }
-        ensures files { files.new ≡ (let synced = unwound self.old.entries files.old in picked_files pick synced.writes synced.files) }
-        ensures after { self.new ≡ record self.old { entries = [] } }
+        ensures files { OnOk result (files.new ≡ (let synced = unwound self.old.entries files.old in picked_files pick synced.writes synced.files)) }
+        ensures after { OnOk result (self.new ≡ record self.old { entries = [] }) }
+        ensures err { OnErr result ((files.new ≡ files.old) × (self.new ≡ self.old)) }
     {
+        if has_lost(&self.entries) {
+            return Err(Memory);
+        }
         unwind(files, &mut self.entries);
         apply(files, &mut self.entries, pick);
         self.clear();
+        Ok(())
     }
 }

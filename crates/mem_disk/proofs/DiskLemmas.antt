@@ -1,5 +1,5 @@
 -- Each call of a disk in memory, from what it holds before to what it holds after.
-use Rattle.std.proofs.Common.{◌≡◌, inl, inr, ℕ, ◌≤◌, List, [], ◌∷◌, ◌++◌, length, refl, sym, ap, subst, ◌∙◌, Some, None, arith}
+use Rattle.std.proofs.Common.{◌≡◌, inl, inr, ℕ, ◌≤◌, List, [], ◌∷◌, ◌++◌, length, refl, sym, ap, subst, None, arith}
 use Rattle.std.specs.Prelude.{⊤, Result, Ok, Err, IsErrAnd}
 use Rattle.std.specs.FinMap.{get, empty, get-empty}
 use Rattle.std.specs.declared.snapshot.Snapshot.{Snapshot}
@@ -8,7 +8,7 @@ use Rattle.m3_outside.specs.declared.failed.Failed.{Failed}
 use Rattle.m3_outside.specs.declared.disk_err.DiskErr.{DiskErr}
 use Rattle.m3_outside.specs.declared.disk_err.DiskErr.TheVariants.{Memory, Failed as DiskFailed}
 use Rattle.m3_outside.specs.Causes.{CountsFaults}
-use Rattle.m3_outside.specs.Files.{name_cmp, Files, Stays, DoneOrNot, IsPresent, IsInside, files_with_zeros}
+use Rattle.m3_outside.specs.Files.{name_cmp, Files, Stays, DoneOrNot, IsPresent, IsInside}
 use Rattle.m3_outside.specs.DiskState.{IsEmpty, StepOf, Becomes}
 use Rattle.m3_outside.specs.DiskCalls.{ChangesFiles, Creates, Writes, Syncs, Removes, Restarts}
 use Rattle.disk_content.specs.Writes.{PendingWrite}
@@ -20,9 +20,6 @@ use Rattle.disk_content.proofs.WriteLemmas.{torn_image, fits_synced, wrote_seen,
 use Rattle.disk_content.proofs.SyncLemmas.{in_both, image_here, image_synced}
 use Rattle.disk_content.proofs.NameLemmas.{image_made, image_gone}
 use Rattle.disk_content.proofs.RestartLemmas.{picked_is_image, only_image}
-
-step_from : {step : Files → Files → Type 0} (c d : Content) → SameImages c d → (files : Files) → StepOf step (ImagesOf c) files → StepOf step (ImagesOf d) files
-step_from c d same files step = record { before = step.before; was = image_as c d same step.before step.was; stepped = step.stepped }
 
 becomes_same : (old new : Content) (past later : List (Snapshot Content)) (f g : ℕ) → new.seen ≡ old.seen → SameImages old new → Becomes (λ files. files) (disk_state old past f) (disk_state new later g)
 becomes_same old new past later f g seen same = record { files = seen; images = λ files image. record { before = files; was = image_as new old (same_back old new same) files image; stepped = refl } }
@@ -55,14 +52,12 @@ changes_done {change} old new past later v f g same more seen images enough pass
 same_value : (old : Content) (v : Snapshot Content) → v.value ≡ old → SameImages old v.value
 same_value old v is = record { synced = ap (λ (c : Content). c.synced) is; writes = ap (λ (c : Content). c.pending.writes) is }
 
-pub created : (old mid new : Content) (past later : List (Snapshot Content)) (v : Snapshot Content) (f g : ℕ) (name : FileName) (size : ℕ) (x : ⊤) → mid.seen ≡ old.seen → SameImages old mid → old.pending.room ≤ mid.pending.room → IsSound mid
-    → get old.seen name ≡ None → v.value ≡ mid → later ≡ past ++ v ∷ [] → new ≡ content_after_create name size mid → CountsFaults ⊥ f g
-    → Creates name size (Ok x) (disk_state old past f) (disk_state new later g)
-created old mid new past later v f g name size x seen same room sound absent is more after counts =
+pub created : (old new : Content) (past later : List (Snapshot Content)) (v : Snapshot Content) (f g : ℕ) (name : FileName) (size : ℕ) (x : ⊤) → IsSound old → get old.seen name ≡ None → v.value ≡ old → later ≡ past ++ v ∷ []
+    → new ≡ content_after_create name size old → CountsFaults ⊥ f g → Creates name size (Ok x) (disk_state old past f) (disk_state new later g)
+created old new past later v f g name size x sound absent is more after counts =
     subst (λ (n : Content). Creates name size (Ok x) (disk_state old past f) (disk_state n later g)) (sym after) (record {
-      changes = changes_done old (content_after_create name size mid) past later v f g (record { synced = ap (λ (c : Content). c.synced) is ∙ same.synced; writes = ap (λ (c : Content). c.pending.writes) is ∙ same.writes }) more (ap (files_with_zeros name size) seen)
-          (λ files image. step_from mid old (same_back old mid same) files (image_made mid name size sound (ap (λ (m : Files). get m name) seen ∙ absent) files image)) (λ h. cc) (λ h. cc) (counts_as (λ h. cc) counts);
-      spare = room;
+      changes = changes_done old (content_after_create name size old) past later v f g (same_value old v is) more refl (image_made old name size sound absent) (λ h. cc) (λ h. cc) (counts_as (λ h. cc) counts);
+      spare = omega arith;
     })
 
 pub removed : (old new : Content) (past later : List (Snapshot Content)) (v : Snapshot Content) (f g : ℕ) (name : FileName) (x : ⊤) → IsSound old → IsPresent name old.seen → 1 ≤ old.pending.room → v.value ≡ old → later ≡ past ++ v ∷ [] → new ≡ content_after_remove name old
@@ -149,19 +144,17 @@ not_synced e old past f g name counts = record {
   spare = omega arith;
 }
 
--- where there is more room for wider writes, the content is as sound
-pub sound_wider : (old new : Content) → new.seen ≡ old.seen → SameImages old new → old.pending.widest ≤ new.pending.widest → IsSound old → IsSound new
-sound_wider old new seen same wider sound = record {
+-- where there is more room, the content is as sound
+pub sound_roomier : (old new : Content) → new.seen ≡ old.seen → SameImages old new → IsSound old → IsSound new
+sound_roomier old new seen same sound = record {
   read_is_image = subst (ImagesOf new) (sym seen) (image_as old new same old.seen sound.read_is_image);
   fit = subst (λ ws. AllFit ws new.synced) (sym same.writes) (subst (AllFit old.pending.writes) (sym same.synced) sound.fit);
-  small = λ q file there. omega (arith, wider, sound.small q file (ap (λ (m : Files). get m q) (sym seen) ∙ there));
 }
 
-pub sound_new : IsSound (record { seen = empty; synced = empty; pending = record { writes = []; room = 0; widest = 0 } })
+pub sound_new : IsSound (record { seen = empty; synced = empty; pending = record { writes = []; room = 0 } })
 sound_new = record {
   read_is_image = λ q. subst (λ o. MayLeave [] q o o) (sym (get-empty name_cmp q)) tt;
   fit = tt;
-  small = λ q file there. let e : None ≡ Some file = sym (get-empty name_cmp q) ∙ there in absurd (cc);
 }
 
 -- a refusal by `?` is want of memory
@@ -170,5 +163,5 @@ is_memory (Ok x) h = absurd h
 is_memory (Err e) h = ap Err h
 
 -- a disk on which nothing is
-pub empty_new : (past : List (Snapshot Content)) (f : ℕ) → IsEmpty (disk_state (record { seen = empty; synced = empty; pending = record { writes = []; room = 0; widest = 0 } }) past f)
+pub empty_new : (past : List (Snapshot Content)) (f : ℕ) → IsEmpty (disk_state (record { seen = empty; synced = empty; pending = record { writes = []; room = 0 } }) past f)
 empty_new past f = record { files = λ tells. refl; images = λ tells files image. only_image empty files image }

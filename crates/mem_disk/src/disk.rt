@@ -14,7 +14,8 @@ use std::snapshot::Snapshot;
 /// A file is found in constant expected time. A write costs in proportion to its bytes, a sync in proportion to the number
 /// of pending writes, a removal in proportion to that number and to the file, a restart in proportion to the pending writes
 /// and their bytes, and a list of the names the time to sort them. A file takes the memory of its bytes, and a pending write
-/// that of the largest file.
+/// that of as many again. Where there is none for a write it is done all the same, and a restart wants memory until the file is
+/// synced or taken away.
 #[derive(Drop)]
 pub struct MemDisk {
     alloc: Global,
@@ -53,7 +54,7 @@ impl MemDisk {
     /// Want of memory.
     pub fn new(alloc: Global, fail: &[u64], fuse: Option<u64>) -> Result<MemDisk, Memory>
         ensures empty { IfOk result (λ d. IsEmpty (state_of d)) }
-        ensures content { IfOk result (λ d. content_of d ≡ record { seen = finite.empty; synced = finite.empty; pending = record { writes = []; room = 0; widest = 0 } }) }
+        ensures content { IfOk result (λ d. content_of d ≡ record { seen = finite.empty; synced = finite.empty; pending = record { writes = []; room = 0 } }) }
         ensures calls { IfOk result (λ d. calls_of d ≡ record { fail = fail.now; fuse = fuse; calls = 0; faults = 0 }) }
     {
         let schedule = Schedule::new(alloc, fail, fuse)?;
@@ -98,7 +99,7 @@ impl Disk for MemDisk {
             return Ok(());
         }
         self.past.reserve(calls)?;
-        self.now.make_room(calls, 0)?;
+        self.now.make_room(calls)?;
         Ok(())
     }
 
@@ -116,7 +117,6 @@ impl Disk for MemDisk {
             return Err(DiskErr::Failed);
         }
         make_room_for_moment(&mut self.past, self.now.room())?;
-        self.now.make_room(0, size as usize)?;
         let before = Snapshot::of(&self.now);
         self.now.create(self.alloc, name, size as usize)?;
         self.past.push_reserved(before);
@@ -246,7 +246,7 @@ impl Disk for MemDisk {
         }
         make_room_for_moment(&mut self.past, self.now.room())?;
         let before = Snapshot::of(&self.now);
-        self.now.restart(pick);
+        self.now.restart(pick)?;
         self.past.push_reserved(before);
         self.schedule.take_fuse_out();
         Ok(())

@@ -6,14 +6,14 @@ use Rattle.disk_content.specs.Tables.{range_in}
 use Rattle.disk_content.proofs.TableLemmas.{table, get_of, Wrote, wrote, inside_found, not_missing, with_bytes_found}
 use Rattle.disk_content.proofs.file_table.FileTable.replace.Goals as goal
 
-pub replace-requires-clause-inside : goal.replace-requires-clause-inside
-replace-requires-clause-inside c =
-    let inside : IsInside c.args.name c.args.at (length c.args.bytes.now) (table c.self.inside.map.entries) = rw c.self.view_is c.requires.inside in
+pub replace-requires : goal.replace-requires
+replace-requires c =
+    let inside : IsInside c.args.name c.args.at (length c.args.bytes.now) (table c.self.inside.map.entries) = rw c.self.view_is c.requires in
     inside_found (table c.self.inside.map.entries) c.args.name c.args.at (length c.args.bytes.now) c.in-Some.file.now inside (get_of c.self.inside.map.entries c.args.name ∙ sym c.in-Some.ensures.value)
 
 pub unreachable-requires : goal.unreachable-requires
 unreachable-requires c =
-    let inside : IsInside c.args.name c.args.at (length c.args.bytes.now) (table c.self.inside.map.entries) = rw c.self.view_is c.requires.inside in
+    let inside : IsInside c.args.name c.args.at (length c.args.bytes.now) (table c.self.inside.map.entries) = rw c.self.view_is c.requires in
     not_missing (table c.self.inside.map.entries) c.args.name c.args.at (length c.args.bytes.now) inside (get_of c.self.inside.map.entries c.args.name ∙ sym c.in-None.ensures.value)
 
 pub returns-clause-value : goal.returns-clause-value

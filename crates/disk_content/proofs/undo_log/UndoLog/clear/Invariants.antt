@@ -1,14 +1,10 @@
 use Rattle.std.proofs.Common.{◌≡◌, ◌≤◌, ◌+◌, vec_len, vec_capacity}
-use Rattle.disk_content.specs.Undo.{AreBuffers}
 use Rattle.disk_content.proofs.undo_log.UndoLog.clear.Given as goal
 
 abbrev pub invariant-loop-entry : goal.invariant-loop-entry
 invariant-loop-entry l = record {
   capacity : vec_len l.self-inside.entries + l.self-inside.room ≤ vec_capacity l.self-inside.entries;
-  enough : l.self-inside.room ≤ vec_len l.self-inside.buffers;
-  each : AreBuffers l.self-inside.widest l.self-inside.buffers.items;
   room : l.self-inside.room ≡ l.initial.self-inside.room;
-  widest : l.self-inside.widest ≡ l.initial.self-inside.widest;
 }
 
 abbrev pub decreases-loop-entry : goal.decreases-loop-entry

@@ -1,15 +1,9 @@
-use Rattle.std.proofs.Common.{refl, sym, subst, length}
+use Rattle.std.proofs.Common.{refl, sym, subst}
 use Rattle.disk_content.specs.Images.{IsSound}
 use Rattle.mem_disk.proofs.PastLemmas.{counts_as}
-use Rattle.disk_content.proofs.WriteLemmas.{sound_failed_write, sound_write, fits_widest}
+use Rattle.disk_content.proofs.WriteLemmas.{sound_failed_write, sound_write}
 use Rattle.mem_disk.proofs.DiskLemmas.{wrote, failed_write}
 use Rattle.mem_disk.proofs.disk.MemDiskDisk.write_at.Goals as goal
-
-pub fail_write-requires-clause-fits : goal.fail_write-requires-clause-fits
-fail_write-requires-clause-fits c = fits_widest c.args.self.now.now c.args.name c.args.at (length c.args.bytes.now) c.args.self.now.sound (c.requires.inside refl)
-
-pub write-requires-clause-fits : goal.write-requires-clause-fits
-write-requires-clause-fits c = fits_widest c.args.self.now.now c.args.name c.args.at (length c.args.bytes.now) c.args.self.now.sound (c.requires.inside refl)
 
 pub invariant_of-self-clause-sound : goal.invariant_of-self-clause-sound
 invariant_of-self-clause-sound c =
