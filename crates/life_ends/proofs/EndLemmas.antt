@@ -1,7 +1,6 @@
 -- What a run leaves stands for the life with it.
-use Rattle.std.proofs.Common.{◌≡◌, ℕ, suc, ◌<◌, ◌≤◌, List, [], ◌∷◌, ◌++◌, take, length, refl, sym, ap, ◌∙◌, subst, inl, inr, arith, true}
-use Rattle.std.specs.Prelude.{◌≢◌, ◌⊎◌, Option, Some, None, fold}
-use Rattle.std.specs.List.{All}
+use Rattle.std.proofs.Common.{◌≡◌, ℕ, suc, List, [], ◌∷◌, ◌++◌, take, length, refl, sym, ap, ◌∙◌, subst, inl, inr, arith, true}
+use Rattle.std.specs.Prelude.{◌≢◌, ◌⊎◌, Option, Some, None}
 use Rattle.std.proofs.lemmas.Option.{same_Some}
 use Rattle.m3_model.proofs.Lists.{take_whole}
 use Rattle.m3_model.specs.Members.{IsIn}
@@ -14,10 +13,9 @@ use Rattle.m3_model.specs.declared.turn.Request.{Request}
 use Rattle.m3_model.specs.declared.turn.Turn.{Turn}
 use Rattle.m3_outside.specs.DiskState.{DiskState}
 use Rattle.m3_outside.specs.Files.{Files}
-use Rattle.m3_outside.specs.Slots.{Held}
 use Rattle.shard_files.specs.Once.{HaveSamePoints}
 use Rattle.transcripts.specs.Record.{Record}
-use Rattle.cluster_core.specs.Core.{Opening, IsLiveUpTo, held, held_by}
+use Rattle.cluster_core.specs.Core.{Opening, IsLiveUpTo, held_by}
 use Rattle.cluster_core.specs.Earlier.{clock_after, last_clock}
 use Rattle.cluster_core.specs.Legal.{Legal}
 use Rattle.cluster_core.specs.Lists.{At}
@@ -26,7 +24,6 @@ use Rattle.cluster_core.specs.declared.event.Event.{Event}
 use Rattle.cluster_core.specs.declared.event.Event.TheVariants as event
 use Rattle.cluster_core.specs.declared.event.StepCall.TheVariants as call
 use Rattle.cluster_core.specs.declared.event.StepReply.TheVariants as reply
-use Rattle.cluster_core.specs.declared.replica_state.ReplicaState.{ReplicaState}
 use Rattle.placement_core.proofs.ListLemmas.{each-from_All}
 use Rattle.cluster_core.proofs.HeldLemmas.{covers_here}
 use Rattle.cluster_core.proofs.ListLemmas.{along, at_within, fold_suc}

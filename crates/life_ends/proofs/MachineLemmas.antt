@@ -1,20 +1,13 @@
 -- What a machine leaves of its slot, by what lay there when its run began.
-use Rattle.std.proofs.Common.{◌≡◌, ℕ, List, [], ◌∷◌, ◌++◌, subst, true}
-use Rattle.std.specs.FinMap.{empty}
-use Rattle.m3_model.specs.declared.point.Point.{Point}
+use Rattle.std.proofs.Common.{ℕ, List, subst}
 use Rattle.m3_outside.specs.Depots.{TellAll}
 use Rattle.m3_outside.specs.DiskState.{DiskState, IsEmpty}
 use Rattle.m3_outside.specs.Files.{Files}
 use Rattle.m3_outside.specs.Slots.{Held, Here, MayGive, Out, Unused}
-use Rattle.cluster_core.specs.declared.event.StepCall.TheVariants as call
-use Rattle.cluster_core.specs.declared.event.StepReply.TheVariants as reply
-use Rattle.cluster_core.specs.declared.replica_state.ReplicaState.{ReplicaState}
-use Rattle.replica_machine.specs.Machines.{IsMachineOf, MachineState}
-use Rattle.replica_machine.specs.Openings.{AllSound, BeginsAsMade, HoldAsMade}
-use Rattle.replica_machine.specs.Steps.{IsStep}
+use Rattle.replica_machine.specs.Openings.{HoldAsMade}
 use Rattle.replica_machine.proofs.OpeningLemmas.{first_begin_is_as_made, stays_as_made}
 use Rattle.life_ends.specs.Lies.{MayLie}
-use Rattle.life_ends.specs.Runs.{IsLeftOf, MachineBeginsSo, MachineLeavesSo}
+use Rattle.life_ends.specs.Runs.{MachineBeginsSo, MachineLeavesSo}
 
 -- what a slot gives has the images of what lay there
 lies : {D : Type 0} (state : D → DiskState) → TellAll state → (held : Held D) (first : D) → MayGive (λ d. IsEmpty (state d)) held first → (files : Files) → (state first).images files → MayLie state held files

@@ -1,12 +1,10 @@
 -- A run opens with what lay in its slots.
-use Rattle.std.proofs.Common.{◌≡◌, ℕ, ◌<◌, ◌≤◌, List, [], take, length, refl, sym, ap, ◌∙◌, subst, inl, inr, arith, true}
+use Rattle.std.proofs.Common.{◌≡◌, ℕ, ◌<◌, List, [], take, length, refl, sym, subst, inl, inr, arith, true}
 use Rattle.std.specs.Prelude.{◌≢◌, ◌⊎◌, Option}
 use Rattle.m3_model.proofs.Lists.{take_whole}
-use Rattle.m3_model.specs.Members.{IsIn}
 use Rattle.m3_model.specs.declared.point.Point.{Point}
 use Rattle.m3_model.specs.declared.rules.MetaState.{MetaState}
 use Rattle.m3_outside.specs.Files.{Files}
-use Rattle.shard_files.specs.FilesHold.{FilesHold}
 use Rattle.shard_files.specs.Once.{HaveSamePoints}
 use Rattle.shard_files.proofs.FilesHoldLemmas.{files_hold_one}
 use Rattle.transcripts.specs.Record.{Record}

@@ -1,14 +1,12 @@
 -- What earlier runs left is told of the points of an opening, in whatever order.
-use Rattle.std.proofs.Common.{◌≡◌, ℕ, List}
+use Rattle.std.proofs.Common.{ℕ, List}
 use Rattle.std.specs.Prelude.{Option}
-use Rattle.m3_model.specs.Members.{IsIn}
-use Rattle.m3_model.specs.declared.point.Point.{Point}
 use Rattle.m3_model.specs.declared.rules.MetaState.{MetaState}
 use Rattle.shard_files.specs.Once.{HaveSamePoints}
 use Rattle.transcripts.specs.Record.{Record}
 use Rattle.cluster_core.specs.Core.{Opening}
 use Rattle.cluster_core.proofs.HeldLemmas.{covers_sub}
-use Rattle.transcripts.specs.Left.{IsCarried, IsLeft, OpeningStands}
+use Rattle.transcripts.specs.Left.{OpeningStands}
 
 pub same_opening : (past : List Record) (start : Option MetaState) (one other : Opening) → ((n s : ℕ) → HaveSamePoints (other n s) (one n s)) → OpeningStands past start one → OpeningStands past start other
 same_opening past start one other same stands = record {

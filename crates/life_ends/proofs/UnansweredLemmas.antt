@@ -1,5 +1,5 @@
 -- A turn whose reply wasn't written may be counted as a request that got no answer.
-use Rattle.std.proofs.Common.{◌≡◌, ℕ, List, [], ◌∷◌, ◌++◌, refl, sym, ap, ◌∙◌, subst, inl, inr, append_assoc}
+use Rattle.std.proofs.Common.{◌≡◌, List, [], ◌∷◌, ◌++◌, refl, sym, ap, subst, inl, inr}
 use Rattle.std.specs.Prelude.{◌⊎◌, Option, Some, None, Bool, true, false, if◌then◌else◌}
 use Rattle.std.specs.List.{flat_map, filter_map}
 use Rattle.m3_model.proofs.MemberLemmas.{IsIn-append_left, IsIn-append_right, IsIn-append_cases, IsIn-filter_map, filter_map-IsIn}
@@ -10,13 +10,11 @@ use Rattle.m3_model.specs.declared.answer.Answer.{Answer}
 use Rattle.m3_model.specs.declared.point.Point.{Point}
 use Rattle.m3_model.specs.declared.rules.MetaState.{MetaState}
 use Rattle.m3_model.specs.declared.rules.Space.{Space}
-use Rattle.m3_model.specs.declared.turn.Request.{Request}
 use Rattle.m3_model.specs.declared.turn.Request.TheVariants as request
 use Rattle.m3_model.specs.declared.turn.Turn.{Turn}
 use Rattle.transcripts.specs.Points.{point_of, sent_point, was_sent}
 use Rattle.transcripts.specs.Record.{InnerTurn, Record, acts_of, inner_turns, joined, line_of, lists_of}
-use Rattle.cluster_core.specs.Core.{Opening}
-use Rattle.transcripts.specs.Left.{OpeningStands, earlier_turns, sent_earlier}
+use Rattle.transcripts.specs.Left.{earlier_turns, sent_earlier}
 use Rattle.told_by.proofs.TurnLemmas.{in_cut}
 use Rattle.life_ends.specs.Runs.{UnansweredStands}
 

@@ -26,3 +26,4 @@ pub mod InitLemmas
 pub mod PlacementLemmas
 pub mod AfreshLemmas
 pub mod LineLemmas
+pub mod MadeLemmas

@@ -3,7 +3,7 @@ ghost use Rattle.told_runs.specs.told_by.Lines.{ClockLine, InitLine, PlainLine, 
 ghost use Rattle.line_tracks.specs.tracks.Adds.{AnewAdds, CallAdds, ServedAdds, StepsAreOfSlots};
 ghost use Rattle.line_tracks.specs.tracks.Ends.{CausedWhereTracked, JoinedWhereTracked, KeptWhereTracked, ShownWhereTracked};
 ghost use Rattle.line_tracks.specs.tracks.Failures.{CountGoesOn, OtherSlotsStay};
-ghost use Rattle.line_tracks.specs.tracks.Leaves.{RunLeavesAll};
+ghost use Rattle.line_tracks.specs.tracks.Leaves.{LastTurnMayBeOpen, LeavesStanding, LeavesUnmade, LeavesUnsaved, StepsAreMade};
 ghost use Rattle.line_tracks.specs.tracks.Numbers.{NumbersStay};
 ghost use Rattle.line_tracks.specs.tracks.Quiet.{QuietLinesStandOn, QuietTurnsMakeNone};
 ghost use Rattle.line_tracks.specs.tracks.Runs.{RunFindsNoDamage, RunGoesOn, RunIsCounted, RunOpensAsLeft, RunOpensEmpty};
@@ -23,14 +23,13 @@ pub fn faults_are_counted<D: Disk>(replicas: &Replicas<D>)
 
 /// Replicas that took the steps of the list since they were made go on so with the steps that come. Then their disks counted
 /// their failures; and where these tell and stood for the life, they first began with what earlier runs left, and none found damage.
-/// None first began with a point where they had none. Once the disks are back, what stops leave of them stands for the life with the run.
+/// None first began with a point where they had none.
 pub fn replicas_run<D: Disk>(replicas: &Replicas<D>)
     ensures goes_on { RunGoesOn D.state replicas.now }
     ensures counted { RunIsCounted D.state replicas.now }
     ensures opens_empty { RunOpensEmpty D.state replicas.now }
     ensures opens_as_left { RunOpensAsLeft D.state replicas.now }
     ensures no_damage { RunFindsNoDamage D.state replicas.now }
-    ensures leaves_all { RunLeavesAll D.state replicas.now }
 {}
 
 /// The next calls go on by the numbers that the turns leave, as far as numbers go.
@@ -87,4 +86,20 @@ pub fn tracked_runs_promise<D: Disk>(members: &Option<Members<D>>)
     ensures caused { CausedWhereTracked D.state members.now }
     ensures joined { JoinedWhereTracked D.state members.now }
     ensures shown { ShownWhereTracked D.state members.now }
+{}
+
+/// What lies in the slots of replicas at the end of a run that is tracked, once its disks are given back, stands for
+/// the life with it: by the state that its turns left, and by that of an `init` that made no cluster. Where the last
+/// turn's step wasn't saved, it does so by the state from before it, too. A last turn may be counted as a request that
+/// got no answer.
+pub fn runs_leave_standing<D: Disk>(
+    members: &Option<Members<D>>,
+    before: &Members<D>,
+    last: &Members<D>,
+)
+    ensures standing { LeavesStanding D.state members.now }
+    ensures unmade { LeavesUnmade D.state members.now }
+    ensures steps { StepsAreMade D.state before.now last.now }
+    ensures unsaved { LeavesUnsaved D.state last.now }
+    ensures may_be_open { LastTurnMayBeOpen D.state }
 {}

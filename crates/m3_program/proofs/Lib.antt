@@ -7,6 +7,7 @@ pub mod StateLemmas
 pub mod MetaLemmas
 pub mod PromiseLemmas
 pub mod FreshLemmas
+pub mod LeaveLemmas
 pub mod LifeLemmas
 pub mod StandLemmas
 pub mod CloseLemmas

@@ -1,20 +1,19 @@
 -- Over disks that stand for earlier runs a cluster begins with what these left.
-use Rattle.std.proofs.Common.{◌≡◌, ◌⊎◌, ℕ, List, [], refl, sym, ap, subst, ◌∙◌, inl, inr, arith, Bool, true}
+use Rattle.std.proofs.Common.{◌≡◌, ◌⊎◌, ℕ, List, [], ◌∷◌, ◌++◌, refl, sym, ap, subst, ◌∙◌, inl, inr, arith, Bool, true}
 use Rattle.std.specs.Prelude.{Option, Some, None}
 use Rattle.std.specs.FinMap.{empty}
-use Rattle.m3_model.specs.Members.{IsIn}
 use Rattle.m3_model.specs.declared.placement.Assignment.{Assignment}
-use Rattle.m3_model.specs.declared.placement.Placement.{Placement}
 use Rattle.m3_model.specs.declared.point.Point.{Point}
 use Rattle.m3_model.specs.declared.rules.MetaState.{MetaState}
 use Rattle.m3_outside.specs.Depots.{Depot}
-use Rattle.m3_outside.specs.DiskState.{DiskState, EachImage, IsEmpty, IsLawfulDisk}
+use Rattle.m3_outside.specs.DiskState.{DiskState, IsEmpty, IsLawfulDisk}
 use Rattle.m3_outside.specs.Files.{Files}
 use Rattle.m3_outside.specs.Slots.{Held, Here, MayGive, Out, Unused}
 use Rattle.m3_outside.specs.declared.disk.Disk.{Ghosts}
 use Rattle.m3_outside.specs.declared.slot.DiskSlot.{DiskSlot}
 use Rattle.shard_files.specs.FilesHold.{FilesHold}
-use Rattle.shard_files.proofs.FilesHoldLemmas.{no_files_hold_nothing}
+use Rattle.shard_files.specs.Parts.{AreWhole}
+use Rattle.shard_files.proofs.FilesHoldLemmas.{no_files_hold_nothing, no_files_hold_whole_nothing}
 use Rattle.placement_core.proofs.ListLemmas.{IsIn-from_Any}
 use Rattle.placement_log.proofs.LastLemmas.{last_is_one}
 use Rattle.placement_log.specs.MetaHolds.{MetaHolds}
@@ -22,48 +21,54 @@ use Rattle.transcripts.specs.Left.{OpeningStands}
 use Rattle.transcripts.specs.Record.{Record}
 use Rattle.life_ends.specs.Lies.{MayLie}
 use Rattle.life_ends.specs.Low.{IsLowTenure}
-use Rattle.life_ends.specs.Runs.{FilesStand, HoldOpening, HoldPoints}
+use Rattle.life_ends.specs.Runs.{HoldOpening, HoldPoints}
 use Rattle.saved_cluster.specs.first_cluster.Bare.{AreBare, HasNoPoints, IsBare}
 use Rattle.saved_cluster.specs.first_cluster.Depots.{IsForReplicas, disk_slot_of, meta_slot}
 use Rattle.saved_cluster.specs.line_tracks.Lain.{HadLain, IsLowAt, LiesLow, lain_at, no_points}
-use Rattle.saved_cluster.specs.replica_exchange.declared.slot.Slot.{Slot}
 use Rattle.saved_cluster.specs.session_net.Runs.{slot_at}
 use Rattle.saved_cluster.specs.served_cluster.Plans.{state_of}
 use Rattle.saved_cluster.specs.Openings.{IsOpened}
 use Rattle.saved_cluster.specs.declared.saved.SavedCluster.{SavedCluster}
-use Rattle.saved_cluster.proofs.OutLemmas.{meta_at}
 use Rattle.saved_cluster.proofs.first_cluster_proofs.SlotCases.{other_disk_slot}
 use Rattle.saved_cluster.proofs.first_cluster_proofs.SlotLists.{slot_or_other}
 use Rattle.saved_cluster.proofs.line_tracks_proofs.LainLemmas.{some_lie}
-use Rattle.m3_program.specs.Lives.{FilesStandFor, IsLowFor, IsLowSlot, SlotHolds, StandFor, replica_slot}
+use Rattle.m3_program.specs.Lives.{FilesStandFor, FollowsFrom, IsLowFor, SlotHolds, StandFor, replica_slot}
+use Rattle.m3_program.specs.Saved.{MayBeLast}
 use Rattle.m3_program.specs.Streams.{BeginsSo, opening_at, stage}
+
+-- ---- runs behind each other
+
+-- one more run, by what it may have left
+pub follows_on : (was : Option MetaState) (past : List Record) (run : Record) (left : Option MetaState) → FollowsFrom was past run.start → MayBeLast run.start run.turns run.unanswered left → FollowsFrom was (past ++ run ∷ []) left
+follows_on was [] run left before may = (sym before, left, may, refl)
+follows_on was (r ∷ past) run left (same, next, first, before) may = (same, next, first, follows_on next past run left before may)
 
 -- ---- a choice of files for each slot
 
 -- one slot is this one, or another
-abbrev same_or_other : (slot this : DiskSlot) → (slot ≡ this) ⊎ ¬ (slot ≡ this)
+abbrev pub same_or_other : (slot this : DiskSlot) → (slot ≡ this) ⊎ ¬ (slot ≡ this)
 same_or_other slot this =
     elim (slot_or_other (slot_at slot.node slot.shard) (slot_at this.node this.shard)) as (λ _. (slot ≡ this) ⊎ ¬ (slot ≡ this)) [
       | inl same ↦ inl (ap disk_slot_of same)
       | inr other ↦ inr (other_disk_slot (slot_at slot.node slot.shard) (slot_at this.node this.shard) other)
     ]
 
-abbrev pick : {A B : Type 0} → A ⊎ B → Files → Files → Files
+abbrev pub pick : {A B : Type 0} → A ⊎ B → Files → Files → Files
 pick (inl a) c rest = c
 pick (inr b) c rest = rest
 
 -- this slot's files, and of each other slot those
-abbrev with_slot : DiskSlot → Files → (DiskSlot → Files) → DiskSlot → Files
+abbrev pub with_slot : DiskSlot → Files → (DiskSlot → Files) → DiskSlot → Files
 with_slot this c rest slot = pick (same_or_other slot this) c (rest slot)
 
-there : (this : DiskSlot) (c : Files) (rest : DiskSlot → Files) → with_slot this c rest this ≡ c
+pub there : (this : DiskSlot) (c : Files) (rest : DiskSlot → Files) → with_slot this c rest this ≡ c
 there this c rest = by (same_or_other this this)
   where
     by : (o : (this ≡ this) ⊎ ¬ (this ≡ this)) → pick o c (rest this) ≡ c
     by (inl same) = refl
     by (inr other) = absurd (other refl)
 
-elsewhere : (this : DiskSlot) (c : Files) (rest : DiskSlot → Files) (slot : DiskSlot) → ¬ (slot ≡ this) → with_slot this c rest slot ≡ rest slot
+pub elsewhere : (this : DiskSlot) (c : Files) (rest : DiskSlot → Files) (slot : DiskSlot) → ¬ (slot ≡ this) → with_slot this c rest slot ≡ rest slot
 elsewhere this c rest slot apart = by (same_or_other slot this)
   where
     by : (o : (slot ≡ this) ⊎ ¬ (slot ≡ this)) → pick o c (rest slot) ≡ rest slot
@@ -119,6 +124,22 @@ module _ {D : Type 0} {G : Ghosts D} (state : D → DiskState) (lawful : (d : D)
       let chosen = with_slot (replica_slot n s) files some in
       let lie = λ (slot : DiskSlot) (other : IsForReplicas slot). all_lie state before.held (replica_slot n s) files some lies (λ next apart. (some_lie state lawful stand.tell (before.held next)).1) slot in
       ((stands chosen lie).held n s, subst (SlotHolds (state_of c.cluster) n s ((stands chosen lie).held n s)) (there (replica_slot n s) files some) (holds chosen lie n s away))
+
+  -- the run began with what these runs left
+  pub began : FollowsFrom None past (state_of c.cluster)
+  began =
+      let lie = λ (slot : DiskSlot) (away : IsForReplicas slot). (some_lie state lawful stand.tell (before.held slot)).1 in
+      subst (FollowsFrom None past) (found some lie) (stands some lie).follows
+
+  -- whatever a stop leaves of a slot is sound in older snapshots, too
+  all_whole : (slot : DiskSlot) (files : Files) → MayLie state (opened.mid.held slot) files → AreWhole files
+  all_whole slot files lies =
+      elim (same_or_other slot meta_slot) as (λ _. AreWhole files) [
+        | inl same ↦
+            (let none : files ≡ empty = subst (λ held. MayLie state held files) (ap opened.mid.held same ∙ opened.has.held) lies in
+            subst AreWhole (sym none) no_files_hold_whole_nothing.snapshots)
+        | inr other ↦ (one_holds slot.node slot.shard other files (subst (λ held. MayLie state held files) (opened.has.others slot other) lies)).1.whole.snapshots
+      ]
 
   -- ---- where no state was found
 
@@ -205,8 +226,8 @@ module _ {D : Type 0} {G : Ghosts D} (state : D → DiskState) (lawful : (d : D)
   had_lain = by (state_of c.cluster) refl
     where
       by : (o : Option MetaState) → state_of c.cluster ≡ o → HadLain state past o opened.mid.held
-      by None is = record { bare = are_bare is; stand = left_none is }
-      by (Some state_found) is = record { low = low_at state_found is; stand = λ files lie. each_stands state_found is files lie }
+      by None is = record { bare = are_bare is; whole = all_whole; stand = left_none is }
+      by (Some state_found) is = record { low = low_at state_found is; whole = all_whole; stand = λ files lie. each_stands state_found is files lie }
 
 -- so no turns are tracked at first, behind these runs
 pub begins_over : {D : Type 0} {G : Ghosts D} (state : D → DiskState) → ((d : D) → IsLawfulDisk (state d)) → (before now : Depot D) (c : SavedCluster D G) (opened : IsOpened state before now c) (tells : Bool) (past : List Record) → (tells ≡ true → StandFor state past before.held)

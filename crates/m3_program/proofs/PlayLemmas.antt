@@ -6,10 +6,8 @@ use Rattle.m3_model.specs.declared.turn.Reply.{Reply}
 use Rattle.m3_outside.specs.DiskState.{DiskState, IsLawfulDisk}
 use Rattle.m3_outside.specs.declared.disk.Disk.{Ghosts}
 use Rattle.m3_outside.specs.Depots.{Depot}
-use Rattle.m3_outside.specs.Slots.{Here}
 use Rattle.load_gen.specs.Summaries.{Counts, summary_line}
 use Rattle.load_gen.specs.declared.summary.Summary.{Summary}
-use Rattle.saved_cluster.specs.first_cluster.Depots.{meta_slot}
 use Rattle.saved_cluster.specs.served_cluster.Plans.{state_of}
 use Rattle.saved_cluster.specs.Openings.{IsOpened}
 use Rattle.saved_cluster.specs.declared.lost.Lost.{Lost}
@@ -22,7 +20,7 @@ use Rattle.m3_program.specs.Scripts.{Generates, PlayedTo, reply_of, turns_of_par
 use Rattle.m3_program.specs.Streams.{Opening, Stage, opening_at, stage}
 use Rattle.m3_program.specs.declared.status.Status.{Status}
 use Rattle.m3_program.specs.declared.status.Status.TheVariants as status
-use Rattle.m3_program.proofs.CloseLemmas.{causes_over, kept_over}
+use Rattle.m3_program.proofs.CloseLemmas.{GivesBack, causes_over, kept_over, leaves_over, unopened_stands}
 use Rattle.m3_program.proofs.FreshLemmas.{is_found}
 use Rattle.m3_program.proofs.PromiseLemmas.{Closes}
 use Rattle.m3_program.proofs.ScriptLemmas.{stopped_fewer, stops_here}
@@ -72,11 +70,11 @@ tells_lost state first number now lost.Memory stopped sink =
 
 -- the words couldn't be read, or the cluster wasn't opened, and nothing was served
 pub generated_unopened : {D : Type 0} (state : D → DiskState) (first now : Depot D) (number : ℕ) (s : Status) → IsUnopened state first now s → (sink : Outflow) → (text : List ℕ) × Takes sink sink text × Generates state first now number s text
-generated_unopened state first now number s unopened sink = ([], appends_nothing sink, Unopened unopened refl)
+generated_unopened state first now number s unopened sink = ([], appends_nothing sink, Unopened unopened (refl, unopened_stands state first now s unopened))
 
 -- the disks are given back
 pub generated_closes : {D : Type 0} {G : Ghosts D} (state : D → DiskState) → ((d : D) → IsLawfulDisk (state d)) → (before now : Depot D) (c : SavedCluster D G) (opened : IsOpened state before now c) (number : ℕ) (mid : Stage D G) (last : Depot D) (s : Status)
-    → Closes state before opened.mid mid last → last.held meta_slot ≡ Here mid.saved.meta
+    → Closes state before opened.mid mid last → GivesBack state mid last
     → (sink0 sink : Outflow) → Tells state (opening_at (stage c now)) number mid s sink0 sink
     → (text : List ℕ) × Takes sink0 sink text × Generates state before last number s text
 generated_closes state lawful before now c opened number mid last s closes back sink0 sink (text, is, played) =
@@ -88,9 +86,10 @@ generated_closes state lawful before now c opened number mid last s closes back 
         found = is_found state before now c opened;
         course = record { parts = stopped.parts; later = stopped.later; unanswered = stopped.unanswered; of_script = stopped.of_script; taken = stopped.taken; each = stopped.each };
         played_to = played.played_to;
-        meta = record { disk = mid.saved.meta; back = back; leaves = stopped.served.leaves };
+        meta = record { disk = mid.saved.meta; back = back.meta; leaves = stopped.served.leaves };
         joined = stopped.served.joined;
         kept = kept_over state lawful before now c opened mid turns stopped.unanswered stopped.served;
         causes = causes_over state lawful before now c opened mid turns stopped.unanswered stopped.served last closes;
+        leaves = leaves_over state lawful before now c opened mid turns stopped.unanswered stopped.served last back;
       }),
     )

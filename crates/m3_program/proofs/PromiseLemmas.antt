@@ -1,7 +1,9 @@
 -- What a run promises, after the requests that it took.
-use Rattle.std.proofs.Common.{◌≡◌, ℕ, ◌+◌, ◌-◌, ◌<◌, ◌≤◌, ◌⊎◌, List, [], ◌∷◌, ◌++◌, length, length-append, sym, ap, subst, ◌∙◌, inl, inr, append-nil, arith, refl, Bool, true, false}
-use Rattle.std.specs.Prelude.{Option, Some, None, Result, Ok, count_by}
+use Rattle.std.proofs.Common.{◌≡◌, ℕ, ◌+◌, ◌<◌, ◌≤◌, ◌⊎◌, List, [], ◌∷◌, ◌++◌, length, length-append, sym, ap, subst, ◌∙◌, inl, inr, append-nil, arith, refl, Bool, true, false}
+use Rattle.std.specs.Prelude.{Option, Some, None, Result, Ok, Err, IsErrOf, IsOk, OnOk, count_by}
 use Rattle.m3_model.specs.declared.rules.MetaState.{MetaState}
+use Rattle.m3_model.specs.declared.act.Act.{Act}
+use Rattle.m3_model.specs.declared.answer.Answer.{Answer}
 use Rattle.m3_model.specs.declared.turn.Reply.{Reply}
 use Rattle.m3_model.specs.declared.turn.Reply.TheVariants as reply
 use Rattle.m3_model.specs.declared.turn.Request.{Request}
@@ -12,7 +14,7 @@ use Rattle.transcripts.specs.Fates.{is_stopped}
 use Rattle.transcripts.specs.Faults.{is_taking}
 use Rattle.transcripts.specs.Joined.{Joined}
 use Rattle.transcripts.specs.Placements.{placement_after}
-use Rattle.transcripts.specs.Record.{Life, Record, inner_turns}
+use Rattle.transcripts.specs.Record.{IsAnsweredBy, Life, Record, inner_turns, line_of}
 use Rattle.m3_outside.specs.Causes.{RoseBy}
 use Rattle.m3_outside.specs.DiskState.{DiskState, IsLawfulDisk}
 use Rattle.m3_outside.specs.declared.disk.Disk.{Ghosts}
@@ -27,21 +29,23 @@ use Rattle.saved_cluster.specs.replica_exchange.declared.slot.Slot.{Slot}
 use Rattle.saved_cluster.specs.session_net.Runs.{slot_at}
 use Rattle.saved_cluster.specs.served_cluster.Ends.{AreGivenBack, is_failed_at, replica_at}
 use Rattle.saved_cluster.specs.served_cluster.Tracks.{faults_of}
-use Rattle.saved_cluster.specs.served_cluster.Acts.{ServesRequest}
+use Rattle.saved_cluster.specs.served_cluster.Acts.{Serves, ServesRequest}
 use Rattle.saved_cluster.specs.served_cluster.Owned.{TracksTurns, place_of}
 use Rattle.saved_cluster.specs.served_cluster.Plans.{state_of}
 use Rattle.saved_cluster.specs.Saved.{ElapsesBy, IsSaved, MayClose, MayServeSaved, RunsOn, ServesRequestSome, TracksRequest}
 use Rattle.saved_cluster.specs.declared.saved.SavedCluster.{SavedCluster}
-use Rattle.saved_cluster.specs.States.{IsOnRunning, kept_of}
+use Rattle.saved_cluster.specs.States.{IsOnRunning, is_init_request, kept_of, saves, saves_by}
 use Rattle.saved_cluster.proofs.BesideLemmas.{kept_left, running_left}
 use Rattle.saved_cluster.specs.declared.lost.Lost.{Lost}
+use Rattle.saved_cluster.specs.declared.lost.Lost.TheVariants as lost
 use Rattle.saved_cluster.proofs.OutLemmas.{meta_at}
 use Rattle.saved_cluster.proofs.served_cluster_proofs.EndLemmas.{caused_where_tracked, joined_where_tracked, shown_where_tracked}
 use Rattle.m3_program.specs.Exchanges.{Exchange, turns_of}
 use Rattle.m3_program.specs.Faults.{IsOfRun, counts_of, one_for}
 use Rattle.m3_program.specs.Runs.{HasCauses}
 use Rattle.m3_program.specs.Saved.{LeaveState, kept_by}
-use Rattle.m3_program.specs.Streams.{HaveServed, IsFresh, Opening, Progress, PromisesSo, Stage, StandsAfter, opening_at}
+use Rattle.m3_program.specs.Streams.{HaveServed, IsFresh, LeaveSlots, LeavesSlots, Opening, Progress, PromisesSo, Stage, StandsAfter, held_back, opening_at}
+use Rattle.m3_program.proofs.LeaveLemmas.{LostSo, init_asked, lost_slots, said_slots, stood_slots}
 use Rattle.m3_program.proofs.MetaLemmas.{counted_stays, lost_leaves, saved_leaves}
 use Rattle.m3_program.proofs.StateLemmas.{leave_nothing, leave_on}
 
@@ -69,6 +73,7 @@ joined_so state first now turns unanswered s past =
 pub stood : {D : Type 0} {G : Ghosts D} (state : D → DiskState) (first : Opening D G) (now : Stage D G) (turns : List Turn) (unanswered : Option Request) → StandsAfter state first turns now → HaveServed state first now turns unanswered
 stood state first now turns unanswered s = record {
   leaves = saved_leaves (state now.saved.meta) first.start (state_of now.saved.cluster) turns unanswered s.leave s.saved;
+  slots = stood_slots state first now turns unanswered s;
   counted = s.counted;
   tracked = λ tells past lay begins. record { more = []; few = omega arith; tracks = subst (λ ts. TracksTurns state tells past first.start lay now.depot ts now.saved.cluster) (sym (append-nil turns)) (s.tracks tells past lay begins) };
   joined = joined_so state first now turns unanswered s;
@@ -85,6 +90,14 @@ pub record Serving {D : Type 0} {G : Ghosts D} (state : D → DiskState) (old : 
   pub tracks : (tells : Bool) (past : List Record) (start : Option MetaState) (first : Depot D) (turns : List Turn) → TracksTurns state tells past start first old.depot turns old.saved.cluster → TracksRequest state tells past start first new.depot turns asked answered new.saved
   pub any_moment : (state old.saved.meta).tells ≡ true → ElapsesBy old.saved.cluster asked new.saved.cluster (state old.saved.meta) (state new.saved.meta)
   pub tells : (state new.saved.meta).tells ≡ (state old.saved.meta).tells
+  pub saved : OnOk answered (IsSaved (state_of new.saved.cluster) (state new.saved.meta))
+  pub saves : saves asked ≡ false → IsOk answered
+  pub unmade : IsErrOf answered lost.Meta → is_init_request asked ≡ true → new.saved.cluster.members ≡ None
+  pub unbegun : IsErrOf answered lost.Memory → new.saved.cluster.members ≡ None
+
+err_not_ok : (e : Lost) (answered : Result Reply Lost) → answered ≡ Err e → ¬ IsOk answered
+err_not_ok e (Ok said) is ok = (let clash : Ok said ≡ Err e = is in cc)
+err_not_ok e (Err why) is ok = (let clash : false ≡ true = ok in cc)
 
 module _ {D : Type 0} {G : Ghosts D} (state : D → DiskState) (old new : Stage D G) where
   counted_so : (asked : Request) (said : Reply) → old.depot.held meta_slot ≡ Out → ServesRequest state old.depot old.saved.cluster asked said new.depot new.saved.cluster → new.depot.counted meta_slot ≡ old.depot.counted meta_slot
@@ -97,10 +110,46 @@ module _ {D : Type 0} {G : Ghosts D} (state : D → DiskState) (old new : Stage 
   running_so : (first : Opening D G) (turns : List Turn) (asked : Request) → StandsAfter state first turns old → RunsOn old.saved.cluster asked → IsOnRunning (is_stopped (inner_turns turns)) asked
   running_so first turns asked was runs = running_left state false [] first.start (was.untold).lay old.depot turns old.saved.cluster asked (untold_so state first old turns was []) runs
 
+  -- what lies in the slots then
+  lost_one : (first : Opening D G) (turns : List Turn) (a : Act) (answered : Result Reply Lost) (said : Answer) → StandsAfter state first turns old → Serving state old (request.One a) answered new → Serves state old.depot old.saved.cluster a said new.depot new.saved.cluster
+      → LeaveSlots state first new turns (Some (request.One a))
+  lost_one first turns a answered said was s served past lay begins are files image = by next.0 next.3 next.2
+    where
+      next : TracksRequest state true past first.start lay new.depot turns (request.One a) answered new.saved
+      next = s.tracks true past first.start lay turns (was.tracks true past lay begins)
+
+      Left : Type 0
+      Left = LeavesSlots state past (record { start = first.start; turns = turns; unanswered = Some (request.One a) }) (held_back new) files
+
+      lost_for : (e : Lost) → answered ≡ Err e → LostSo old new a
+      lost_for e is = record { saves = saves (saves_by a) refl; unmade = λ init. unmade e is (init_asked a ∙ init) }
+        where
+          saves : (x : Bool) → saves_by a ≡ x → saves_by a ≡ true
+          saves true is_saved = is_saved
+          saves false unsaved = absurd (err_not_ok e answered is (s.saves unsaved))
+
+          unmade : (x : Lost) → answered ≡ Err x → is_init_request (request.One a) ≡ true → new.saved.cluster.members ≡ None
+          unmade lost.Meta same init = s.unmade same init
+          unmade lost.Memory same init = s.unbegun same
+
+      of_answer : (b : Answer) → TracksTurns state true past first.start lay new.depot (turns ++ line_of a b ∷ []) new.saved.cluster → (x : Result Reply Lost) → answered ≡ x → Left
+      of_answer b t (Ok reply) is = said_slots state first new turns a b past lay (subst (λ r. OnOk r (IsSaved (state_of new.saved.cluster) (state new.saved.meta))) is s.saved) t are files image
+      of_answer b t (Err e) is = lost_slots state first old new turns a was b said served (lost_for e is) s.any_moment past lay begins t are files image
+
+      by : (r : Reply) → IsAnsweredBy (request.One a) r → TracksTurns state true past first.start lay new.depot (turns ++ record { request = request.One a; reply = r } ∷ []) new.saved.cluster → Left
+      by (reply.One b) shape t = of_answer b t answered refl
+      by (reply.Par for_clients for_workers) shape t = absurd shape
+
+  lost_so_slots : (first : Opening D G) (turns : List Turn) (asked : Request) (answered : Result Reply Lost) (said : Reply) → StandsAfter state first turns old → Serving state old asked answered new → ServesRequest state old.depot old.saved.cluster asked said new.depot new.saved.cluster
+      → LeaveSlots state first new turns (Some asked)
+  lost_so_slots first turns (request.One a) answered (reply.One b) was s served = lost_one first turns a answered b was s served
+  lost_so_slots first turns _ answered _ was s served = absurd served
+
   -- it may have been served, and got no reply
   pub lost_so : (first : Opening D G) (turns : List Turn) (asked : Request) (answered : Result Reply Lost) → StandsAfter state first turns old → Serving state old asked answered new → HaveServed state first new turns (Some asked)
   lost_so first turns asked answered was s = record {
     leaves = lost_leaves (state old.saved.meta) (state new.saved.meta) first.start turns old.saved.cluster new.saved.cluster asked s.tells was.leave was.saved (kept_so first turns was) (running_so first turns asked was) s.any_moment;
+    slots = lost_so_slots first turns asked answered s.served.0 was s s.served.2;
     counted = counted_so asked s.served.0 s.out s.served.2 ∙ was.counted;
     tracked = λ tells past lay begins.
         let next = s.tracks tells past first.start lay turns (was.tracks tells past lay begins) in

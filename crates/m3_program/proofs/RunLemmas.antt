@@ -7,8 +7,6 @@ use Rattle.std.proofs.KnownBytes.{Consumes-nil, Consumes-trans}
 use Rattle.m3_outside.specs.DiskState.{DiskState, IsLawfulDisk}
 use Rattle.m3_outside.specs.declared.disk.Disk.{Ghosts}
 use Rattle.m3_outside.specs.Depots.{Depot}
-use Rattle.m3_outside.specs.Slots.{Here}
-use Rattle.saved_cluster.specs.first_cluster.Depots.{meta_slot}
 use Rattle.saved_cluster.specs.served_cluster.Plans.{state_of}
 use Rattle.saved_cluster.specs.Openings.{IsOpened}
 use Rattle.saved_cluster.specs.declared.saved.SavedCluster.{SavedCluster}
@@ -21,7 +19,7 @@ use Rattle.m3_program.specs.Passing.{Gives, Outflow, Takes, left_in}
 use Rattle.m3_program.specs.Runs.{GotTo, AreWholeLines, Course, IsCutOff, Runs, lines_of}
 use Rattle.m3_program.specs.Streams.{Opening, Stage, IsFresh, opening_at, stage, StreamState, TakesOn, Cuts, Finishes, Halted, HaltsLast, HasServed}
 use Rattle.m3_program.specs.Writing.{WritesUntil}
-use Rattle.m3_program.proofs.CloseLemmas.{causes_over, kept_over}
+use Rattle.m3_program.proofs.CloseLemmas.{GivesBack, causes_over, kept_over, leaves_over, unopened_stands}
 use Rattle.m3_program.proofs.FreshLemmas.{is_found}
 use Rattle.m3_program.proofs.PromiseLemmas.{Closes, promised}
 use Rattle.m3_program.proofs.StreamLemmas.{both_made, halted_of, stream_begins, stream_course, takes_all}
@@ -245,11 +243,11 @@ step_told state first now _ a b x y u v m n k left0 gave0 sink0 left gave sink s
 -- the words couldn't be read, or the cluster wasn't opened, and nothing was read or written
 pub told_unopened : {D : Type 0} (state : D → DiskState) (first now : Depot D) (s : Status) (left : Option (List ℕ)) (gave : List ℕ) (sink : Outflow) → IsUnopened state first now s
     → (taken told : List ℕ) × Gives left gave taken left gave × Takes sink sink told × Runs state first now s (taken ++ left_in left) (left_in left) told
-told_unopened state first now s left gave sink unopened = ([], [], gives_none left gave, appends_nothing sink, Unopened unopened (refl, refl))
+told_unopened state first now s left gave sink unopened = ([], [], gives_none left gave, appends_nothing sink, Unopened unopened (refl, refl, unopened_stands state first now s unopened))
 
 -- the disks are given back
 pub told_closes : {D : Type 0} {G : Ghosts D} (state : D → DiskState) → ((d : D) → IsLawfulDisk (state d)) → (before now : Depot D) (c : SavedCluster D G) (opened : IsOpened state before now c) (mid : Stage D G) (last : Depot D) (s : Status)
-    → Closes state before opened.mid mid last → last.held meta_slot ≡ Here mid.saved.meta
+    → Closes state before opened.mid mid last → GivesBack state mid last
     → (left0 : Option (List ℕ)) (gave0 : List ℕ) (sink0 : Outflow) (left : Option (List ℕ)) (gave : List ℕ) (sink : Outflow) → Told state (opening_at (stage c now)) mid s left0 gave0 sink0 left gave sink
     → (taken told : List ℕ) × Gives left0 gave0 taken left gave × Takes sink0 sink told × Runs state before last s (taken ++ left_in left) (left_in left) told
 told_closes state lawful before now c opened mid last s closes back left0 gave0 sink0 left gave sink (taken, told, gives, is, run) =
@@ -264,9 +262,10 @@ told_closes state lawful before now c opened mid last s closes back left0 gave0 
       Opened start (record {
         found = is_found state before now c opened;
         ran = run.ran;
-        meta = record { disk = mid.saved.meta; back = back; leaves = served.leaves };
+        meta = record { disk = mid.saved.meta; back = back.meta; leaves = served.leaves };
         joined = served.joined;
         kept = kept_over state lawful before now c opened mid turns unanswered served;
         causes = causes_over state lawful before now c opened mid turns unanswered served last closes;
+        leaves = leaves_over state lawful before now c opened mid turns unanswered served last back;
       }),
     )

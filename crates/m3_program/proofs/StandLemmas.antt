@@ -1,6 +1,6 @@
--- Empty disks stand for the empty life, a stop leaves disks standing, and what is promised of every run is promised of a first one.
-use Rattle.std.proofs.Common.{◌≡◌, ℕ, List, [], ◌∷◌, map, refl, sym, ap, subst, ◌∙◌, arith, inl, Bool, true, false}
-use Rattle.std.specs.Prelude.{Option, None}
+-- Empty disks stand for the empty life, a stop leaves disks standing, what is promised of every run is promised of a first one, and a life of runs is kept.
+use Rattle.std.proofs.Common.{◌≡◌, ℕ, List, [], ◌∷◌, ◌++◌, map, append-nil, append_assoc, refl, sym, ap, subst, ◌∙◌, arith, inl, true, false}
+use Rattle.std.specs.Prelude.{None}
 use Rattle.std.specs.FinMap.{empty, entries, len-empty, len-entries}
 use Rattle.std.proofs.lemmas.List.{nil_from_length}
 use Rattle.std.proofs.lemmas.List.Elements.{All-nil}
@@ -16,11 +16,12 @@ use Rattle.shard_files.specs.FilesHold.{HoldWhole}
 use Rattle.shard_files.proofs.FilesHoldLemmas.{no_files_hold_whole_nothing}
 use Rattle.placement_log.proofs.LastLemmas.{last_is_one}
 use Rattle.placement_log.specs.MetaHolds.{MetaHolds}
+use Rattle.transcripts.specs.Record.{Record}
 use Rattle.life_ends.specs.Lies.{MayLie}
 use Rattle.saved_cluster.specs.first_cluster.Depots.{meta_slot}
-use Rattle.m3_program.specs.Faults.{AreEmpty, IsUnwritten}
-use Rattle.m3_program.specs.LifeLaws.{EmptyDisksStand, FirstFoundNone, FirstRunIsOne, NoRunsLeaveNothing, StopsLeaveStanding}
-use Rattle.m3_program.specs.Lives.{replica_slot}
+use Rattle.m3_program.specs.Faults.{IsUnwritten}
+use Rattle.m3_program.specs.LifeLaws.{EmptyDisksStand, FirstFoundNone, FirstRunIsOne, MadeRun, NoRunsLeaveNothing, RunsKeep, RunsLeaveStanding, StopsLeaveStanding, WereMade, record_made}
+use Rattle.m3_program.specs.Lives.{StandFor, replica_slot}
 
 -- no files hold no state
 no_segments : numbers empty ≡ []
@@ -86,5 +87,21 @@ first_run_is_one {D} state first now start ended input left written run = record
   kept = λ none. run.kept [] (empty_disks_stand state first.held none);
   joined = run.joined [];
   causes = λ none. run.causes true [] (λ is. empty_disks_stand state first.held none);
+  leaves = λ none. run.leaves [] (empty_disks_stand state first.held none);
   untold = run.causes false [] (λ is. absurd (let clash : false ≡ true = is in cc));
 }
+
+-- ---- a life of runs
+
+runs_leave : {D : Type 0} (state : D → DiskState) (held now : DiskSlot → Held D) (past : List Record) (runs : List (MadeRun state)) → StandFor state past held → WereMade state held runs now → StandFor state (past ++ map record_made runs) now
+runs_leave state held now past [] stand less = subst (λ rs. StandFor state rs now) (sym (append-nil past)) (stops_leave_standing state past held now less stand)
+runs_leave state held now past (run ∷ runs) stand (less, rest) =
+    let left = (run.did).leaves past (stops_leave_standing state past held run.first.held less stand) in
+    subst (λ rs. StandFor state rs now) (append_assoc past (record_made run ∷ []) (map record_made runs)) (runs_leave state run.now.held now (past ++ record_made run ∷ []) runs left rest)
+
+pub runs_leave_standing : {D : Type 0} (state : D → DiskState) → RunsLeaveStanding state
+runs_leave_standing state held now runs none made = runs_leave state held now [] runs (empty_disks_stand state held none) made
+
+pub runs_keep : {D : Type 0} (state : D → DiskState) → RunsKeep state
+runs_keep state held runs run none made =
+    let stand = runs_leave_standing state held run.first.held runs none made in ((run.did).kept (map record_made runs) stand, (run.did).causes true (map record_made runs) (λ is. stand))

@@ -65,3 +65,7 @@ pub record FilesStandFor (past : List Record) (files : DiskSlot → Files) : Typ
 pub record StandFor {D : Type 0} (state : D → DiskState) (past : List Record) (held : DiskSlot → Held D) : Type 0 where
   pub tell : TellAll state
   pub each : (files : DiskSlot → Files) → ((slot : DiskSlot) → MayLie state (held slot) (files slot)) → FilesStandFor past files
+
+-- what stood for some runs before stands for them now
+abbrev pub StandsStill : {D : Type 0} → (D → DiskState) → (DiskSlot → Held D) → (DiskSlot → Held D) → Type 0
+StandsStill state before now = (past : List Record) → StandFor state past before → StandFor state past now

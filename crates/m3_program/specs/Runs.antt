@@ -16,7 +16,7 @@ use Rattle.m3_outside.specs.Depots.{Depot}
 use Rattle.saved_cluster.specs.first_cluster.Depots.{meta_slot}
 use Rattle.m3_program.specs.Exchanges.{Exchange, AreExchanges, turns_of, replies_text}
 use Rattle.m3_program.specs.Faults.{AreCauses, Counts, counts_of}
-use Rattle.m3_program.specs.Lives.{StandFor}
+use Rattle.m3_program.specs.Lives.{StandFor, StandsStill}
 use Rattle.m3_program.specs.Openings.{MayOpen}
 use Rattle.m3_program.specs.Saved.{IsFound, LeavesMeta}
 use Rattle.m3_program.specs.declared.status.Status.{Status}
@@ -123,7 +123,8 @@ pub record Ran (start : Option MetaState) (ended : Status) (input left written :
 
 -- What a run did whose cluster was opened over disks that were so, with the last state that the meta disk had, and that left them so: what a stop leaves of the meta disk has the state that the
 -- replies led to. Each node that turned available was joined by a bootstrap that prints a majority of the former replicas, whatever the disks tell and whatever runs were before. Where the disks
--- stood for these runs the reads keep what they must, of what these acknowledged too; and the answers have their causes, of which more is said there.
+-- stood for these runs the reads keep what they must, of what these acknowledged too; the answers have their causes, of which more is said there; and the disks stand for these runs and this one,
+-- however it ended.
 pub record HasRun {D : Type 0} (state : D → DiskState) (first now : Depot D) (start : Option MetaState) (ended : Status) (input left written : List ℕ) : Type 0 where
   pub found : IsFound state first start
   pub ran : Ran start ended input left written
@@ -131,7 +132,8 @@ pub record HasRun {D : Type 0} (state : D → DiskState) (first now : Depot D) (
   pub joined : (past : List Record) → Joined (life_with past start ran.course.exchanges ran.course.unanswered)
   pub kept : (past : List Record) → StandFor state past first.held → Kept (life_with past start ran.course.exchanges ran.course.unanswered)
   pub causes : (tells : Bool) (past : List Record) → (tells ≡ true → StandFor state past first.held) → HasCauses tells (counts_of first) (counts_of now) (life_with past start ran.course.exchanges ran.course.unanswered)
+  pub leaves : (past : List Record) → StandFor state past first.held → StandFor state (past ++ record_of start ran.course.exchanges ran.course.unanswered ∷ []) now.held
 
--- what any run did: where its cluster wasn't opened, nothing was read or written
+-- what any run did: where its cluster wasn't opened, nothing was read or written, and the disks stand for what they stood for
 abbrev pub Runs : {D : Type 0} → (D → DiskState) → Depot D → Depot D → Status → List ℕ → List ℕ → List ℕ → Type 0
-Runs state first now ended input left written = MayOpen state first now ended (λ start. HasRun state first now start ended input left written) ((left ≡ input) × (written ≡ []))
+Runs state first now ended input left written = MayOpen state first now ended (λ start. HasRun state first now start ended input left written) ((left ≡ input) × (written ≡ []) × StandsStill state first.held now.held)

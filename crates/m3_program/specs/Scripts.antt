@@ -18,7 +18,7 @@ use Rattle.saved_cluster.specs.first_cluster.Depots.{meta_slot}
 use Rattle.load_gen.specs.Script.{script}
 use Rattle.load_gen.specs.Summaries.{summary_line}
 use Rattle.m3_program.specs.Faults.{counts_of}
-use Rattle.m3_program.specs.Lives.{StandFor}
+use Rattle.m3_program.specs.Lives.{StandFor, StandsStill}
 use Rattle.m3_program.specs.Openings.{MayOpen}
 use Rattle.m3_program.specs.Runs.{HasCauses}
 use Rattle.m3_program.specs.Saved.{IsFound, LeavesMeta}
@@ -96,7 +96,8 @@ pub record HasGenerated {D : Type 0} (state : D → DiskState) (first now : Depo
   pub joined : (past : List Record) → Joined (life_of_parts past start course.parts course.unanswered)
   pub kept : (past : List Record) → StandFor state past first.held → Kept (life_of_parts past start course.parts course.unanswered)
   pub causes : (tells : Bool) (past : List Record) → (tells ≡ true → StandFor state past first.held) → HasCauses tells (counts_of first) (counts_of now) (life_of_parts past start course.parts course.unanswered)
+  pub leaves : (past : List Record) → StandFor state past first.held → StandFor state (past ++ record_of_parts start course.parts course.unanswered ∷ []) now.held
 
--- what any run of it did: where its cluster wasn't opened, nothing was written
+-- what any run of it did: where its cluster wasn't opened, nothing was written, and the disks stand for what they stood for
 abbrev pub Generates : {D : Type 0} → (D → DiskState) → Depot D → Depot D → ℕ → Status → List ℕ → Type 0
-Generates state first now number ended written = MayOpen state first now ended (λ start. HasGenerated state first now start number ended written) (written ≡ [])
+Generates state first now number ended written = MayOpen state first now ended (λ start. HasGenerated state first now start number ended written) ((written ≡ []) × StandsStill state first.held now.held)

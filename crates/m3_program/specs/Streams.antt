@@ -1,5 +1,5 @@
 -- How far reading and writing have come, within a run.
-use Rattle.std.specs.Prelude.{◌≡◌, ◌≤◌, ℕ, length, map, List, [], ◌∷◌, ◌++◌, Bool, false, Option, None, Some, IsSome, Ok}
+use Rattle.std.specs.Prelude.{◌≡◌, ◌≤◌, ℕ, length, map, List, [], ◌∷◌, ◌++◌, Bool, false, true, Option, None, Some, IsSome, Ok}
 use Rattle.m3_model.specs.declared.rules.MetaState.{MetaState}
 use Rattle.m3_model.specs.Members.{IsIn}
 use Rattle.m3_model.specs.declared.turn.Request.{Request}
@@ -7,10 +7,17 @@ use Rattle.m3_model.specs.declared.turn.Turn.{Turn}
 use Rattle.m3_outside.specs.DiskState.{DiskState}
 use Rattle.m3_outside.specs.declared.disk.Disk.{Ghosts}
 use Rattle.m3_outside.specs.Depots.{Depot}
+use Rattle.m3_outside.specs.Files.{Files}
+use Rattle.m3_outside.specs.Slots.{Held}
+use Rattle.m3_outside.specs.declared.slot.DiskSlot.{DiskSlot}
 use Rattle.m3_json.specs.Requests.{LineMeans}
 use Rattle.transcripts.specs.Joined.{Joined}
 use Rattle.transcripts.specs.Record.{Record}
+use Rattle.placement_log.specs.MetaHolds.{MetaHolds}
 use Rattle.saved_cluster.specs.first_cluster.Depots.{meta_slot}
+use Rattle.saved_cluster.specs.line_tracks.Leaves.{AllSlotsStand, held_after}
+use Rattle.saved_cluster.specs.line_tracks.Lines.{EachMember}
+use Rattle.saved_cluster.specs.replica_calls.Calls.{AreMembersOf}
 use Rattle.saved_cluster.specs.served_cluster.Owned.{TracksTurns}
 use Rattle.saved_cluster.specs.served_cluster.Plans.{state_of}
 use Rattle.saved_cluster.specs.served_cluster.declared.cluster.Cluster.{Cluster}
@@ -75,9 +82,30 @@ pub record AreTracked {D : Type 0} {G : Ghosts D} (state : D → DiskState) (tel
   pub few : length more ≤ one_for unanswered
   pub tracks : TracksTurns state tells past start lay now.depot (turns ++ more) now.saved.cluster
 
--- So it is after these turns and the request that was taken and got no reply; what a stop leaves of the meta disk has the state that the turns left, or the one to which the request leads; and whoever turned available was joined.
+-- what the machines of its replicas are is known
+abbrev pub KnowsMembers : {D : Type 0} {G : Ghosts D} → (D → DiskState) → Stage D G → Type 0
+KnowsMembers state now = EachMember now.saved.cluster.members (λ m. AreMembersOf state m.net.replicas)
+
+-- what lies in the slots once each replica's disk is back in its own
+abbrev pub held_back : {D : Type 0} {G : Ghosts D} → Stage D G → DiskSlot → Held D
+held_back now = held_after now.saved.cluster.members now.depot.held
+
+-- these files of the meta disk have a state by which what lies in the slots stands for these runs and this one
+pub record LeavesSlots {D : Type 0} (state : D → DiskState) (past : List Record) (run : Record) (back : DiskSlot → Held D) (files : Files) : Type 0 where
+  pub left : Option MetaState
+  pub holds : MetaHolds left files
+  pub slots : AllSlotsStand state (past ++ run ∷ []) left back
+
+-- so do all that a stop leaves of it, where the turns before were tracked over disks that tell
+abbrev pub LeaveSlots : {D : Type 0} {G : Ghosts D} → (D → DiskState) → Opening D G → Stage D G → List Turn → Option Request → Type 0
+LeaveSlots {D} {G} state first now turns unanswered =
+    (past : List Record) (lay : Depot D) → BeginsSo state true past lay first → KnowsMembers state now
+    → (files : Files) → (state now.saved.meta).images files → LeavesSlots state past (record { start = first.start; turns = turns; unanswered = unanswered }) (held_back now) files
+
+-- So it is after these turns and the request that was taken and got no reply; what a stop leaves of the meta disk has the state that the turns left, or the one to which the request leads; what it leaves of the slots stands by that state; and whoever turned available was joined.
 pub record HaveServed {D : Type 0} {G : Ghosts D} (state : D → DiskState) (first : Opening D G) (now : Stage D G) (turns : List Turn) (unanswered : Option Request) : Type 0 where
   pub leaves : StopsLeave (state now.saved.meta) first.start turns unanswered
+  pub slots : LeaveSlots state first now turns unanswered
   pub counted : now.depot.counted meta_slot ≡ first.depot.counted meta_slot
   pub tracked : (tells : Bool) (past : List Record) (lay : Depot D) → BeginsSo state tells past lay first → AreTracked state tells past first.start lay now turns unanswered
   pub joined : (past : List Record) → Joined (record { past = past; present = record { start = first.start; turns = turns; unanswered = unanswered } })

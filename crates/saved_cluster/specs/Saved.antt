@@ -19,7 +19,7 @@ use Rattle.placement_log.specs.States.{MayBeState}
 use Rattle.line_tracks.specs.cluster_members.declared.members.Members.{Members}
 use Rattle.line_tracks.specs.first_cluster.Depots.{meta_slot}
 use Rattle.line_tracks.specs.node_calls.Nodes.{IsNode}
-use Rattle.line_tracks.specs.transcripts.Record.{Record}
+use Rattle.line_tracks.specs.transcripts.Record.{IsAnsweredBy, Record}
 use Rattle.served_cluster.specs.Acts.{Serves, ServesRequest}
 use Rattle.served_cluster.specs.Owned.{MayServeCluster, TracksTurns}
 use Rattle.served_cluster.specs.Plans.{state_of}
@@ -96,4 +96,4 @@ pub record IsUnbegun {D : Type 0} {G : Ghosts D} (disk_state : D → DiskState) 
 
 -- The turns that are tracked are so with the request, by its reply; or, where it got none, by one that it might have got.
 abbrev pub TracksRequest : {D : Type 0} {G : Ghosts D} → (D → DiskState) → Bool → List Record → Option MetaState → Depot D → Depot D → List Turn → Request → Result Reply Lost → SavedCluster D G → Type 0
-TracksRequest disk_state tells past start first after turns asked answered c = (said : Reply) × IfOk answered (λ r. r ≡ said) × TracksTurns disk_state tells past start first after (turns ++ record { request = asked; reply = said } ∷ []) c.cluster
+TracksRequest disk_state tells past start first after turns asked answered c = (said : Reply) × IfOk answered (λ r. r ≡ said) × TracksTurns disk_state tells past start first after (turns ++ record { request = asked; reply = said } ∷ []) c.cluster × IsAnsweredBy asked said

@@ -22,6 +22,7 @@ ghost use Rattle.line_tracks.specs.session_net.Ready.{IsReady};
 ghost use Rattle.line_tracks.specs.tracks.Acts.{IsInitAnswer};
 ghost use Rattle.line_tracks.specs.tracks.Ends.{replica_at};
 ghost use Rattle.line_tracks.specs.tracks.Lines.{EachMember};
+ghost use Rattle.line_tracks.specs.replica_calls.Calls.{AreMembersOf};
 ghost use Rattle.line_tracks.specs.replica_exchange.declared.slot.Slot.{Slot};
 ghost use Rattle.line_tracks.specs.first_cluster.Depots.{IsForReplicas, RisesBy, count_at, disk_slot_of, meta_slot};
 ghost use Rattle.served_cluster.specs.Owned.{TracksTurns, held_at, place_of};
@@ -212,6 +213,7 @@ impl<D: Disk> SavedCluster<D> {
         ensures calls { self.new.cluster.calls ≡ self.old.cluster.calls }
         ensures untouched { IsErrOf result lost.Meta → (rf shards seed : ℕ) (nodes : List (List ℕ × List ℕ)) (first : Depot D) → IsLent D.state rf shards seed nodes first (X.depot disks.old) lent → AreAsTheyWere D.state first (X.depot disks.new) }
         ensures saved { OnOk result ((last : Option State) → IsSaved last (D.state self.old.meta) → IsSaved (Some lent.members.net.state) (D.state self.new.meta)) }
+        ensures unmade { IsErrOf result lost.Meta → self.new.cluster.members ≡ None }
         ensures unbegun { IsErrOf result lost.Memory → (self.new.cluster.members ≡ None) × ((last : Option State) → IsSaved last (D.state self.old.meta) → IsSaved (Some lent.members.net.state) (D.state self.new.meta)) }
         ensures any_moment { (D.state self.old.meta).tells ≡ true → Elapses (MaySave lent.members.net.state) (D.state self.old.meta) (D.state self.new.meta) }
         ensures log { MetaStands self.new.log (D.state self.new.meta) }
@@ -249,6 +251,7 @@ impl<D: Disk> SavedCluster<D> {
         requires may { MayServeSaved D.state self.old (X.depot disks.old).held }
         ensures answered { AnswersSaved D.state (X.depot disks.old) self.old (act.Init rf shards seed nodes) result (X.depot disks.new) self.new }
         ensures untouched { IsErrOf result lost.Meta → AreAsTheyWere D.state (X.depot disks.old) (X.depot disks.new) }
+        ensures unmade { IsErrOf result lost.Meta → self.new.cluster.members ≡ None }
         ensures unbegun { IsErrOf result lost.Memory → IsUnbegun D.state self.old (request.One (act.Init rf shards seed nodes)) self.new }
     {
         let plan = match plan_first(alloc, rf, shards, seed, nodes) {
@@ -280,6 +283,7 @@ impl<D: Disk> SavedCluster<D> {
         requires may { MayServeSaved D.state self.old (X.depot disks.old).held }
         ensures answered { AnswersSaved D.state (X.depot disks.old) self.old (act.Init rf shards seed nodes) result (X.depot disks.new) self.new }
         ensures untouched { IsErrOf result lost.Meta → AreAsTheyWere D.state (X.depot disks.old) (X.depot disks.new) }
+        ensures unmade { IsErrOf result lost.Meta → self.new.cluster.members ≡ None }
         ensures unbegun { IsErrOf result lost.Memory → IsUnbegun D.state self.old (request.One (act.Init rf shards seed nodes)) self.new }
     {
         if self.cluster.state().is_some() {
@@ -301,6 +305,7 @@ impl<D: Disk> SavedCluster<D> {
         ensures answered { AnswersSaved D.state (X.depot disks.old) self.old act result (X.depot disks.new) self.new }
         ensures others { saves_by act ≡ false → (self.new.meta ≡ self.old.meta) × (self.new.log ≡ self.old.log) × IsOk result }
         ensures untouched { IsErrOf result lost.Meta → is_init act ≡ true → AreAsTheyWere D.state (X.depot disks.old) (X.depot disks.new) }
+        ensures unmade { IsErrOf result lost.Meta → is_init act ≡ true → self.new.cluster.members ≡ None }
         ensures wanted { IsErrOf result lost.Memory → is_init act ≡ true }
         ensures unbegun { IsErrOf result lost.Memory → IsUnbegun D.state self.old (request.One act) self.new }
     {
@@ -370,8 +375,9 @@ impl<D: Disk> SavedCluster<D> {
         // A request that doesn't change the state leaves the meta disk as it is, and gets a reply.
         ensures others { saves request ≡ false → (self.new.meta ≡ self.old.meta) × (self.new.log ≡ self.old.log) × IsOk result }
 
-        // Replicas of an `init` begin once its state is saved: where that fails, their disks are back as they were.
+        // Replicas of an `init` begin once its state is saved: where that fails none stands, and their disks are back as they were.
         ensures untouched { IsErrOf result lost.Meta → is_init_request request ≡ true → AreAsTheyWere D.state (X.depot disks.old) (X.depot disks.new) }
+        ensures unmade { IsErrOf result lost.Meta → is_init_request request ≡ true → self.new.cluster.members ≡ None }
 
         // Memory is wanted so only as the replicas of an `init` begin, whose state is saved by then.
         ensures wanted { IsErrOf result lost.Memory → is_init_request request ≡ true }
@@ -404,7 +410,11 @@ impl<D: Disk> SavedCluster<D> {
         ensures meta_counted { (X.depot disks.new).counted meta_slot ≡ (D.state self.meta).faults }
         ensures rose { (between : ℕ) × RisesBy D.state (X.depot disks.old) self.cluster.members between × RoseBy ((D.state self.meta).faults - (X.depot disks.old).counted meta_slot) between (X.depot disks.new).faults }
         ensures later { (X.depot disks.old).faults ≤ (X.depot disks.new).faults }
+
+        // What its replicas' machines are is known.
+        ensures members { EachMember self.cluster.members (λ m. AreMembersOf D.state m.net.replicas) }
     {
+        self.cluster.know();
         let SavedCluster { cluster, meta, .. } = self;
         cluster.close(disks);
         disks.give(DiskSlot::META, meta);

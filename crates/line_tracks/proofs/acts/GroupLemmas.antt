@@ -1,5 +1,5 @@
 -- No events tell of an `init` whose nodes are in fewer isolation groups than a shard has replicas, and serve it.
-use Rattle.std.proofs.Common.{[], refl, arith}
+use Rattle.std.proofs.Common.{[], refl}
 use Rattle.m3_model.specs.declared.answer.Answer.TheVariants as answer
 use Rattle.line_tracks.specs.acts.Inits.{LackingGroupsTell}
 use Rattle.line_tracks.proofs.acts.InitLemmas.{unmade_leaves}

@@ -1,5 +1,5 @@
 -- A first cluster stands after the line of the `init` that made it.
-use Rattle.std.proofs.Common.{◌≡◌, ◌≢◌, ◌+◌, ℕ, zero, suc, List, [], ◌∷◌, ◌++◌, length, refl, sym, ap, subst, ◌∙◌, inl, inr, arith, Bool}
+use Rattle.std.proofs.Common.{◌≡◌, ◌≢◌, ℕ, zero, suc, List, [], ◌∷◌, ◌++◌, length, refl, sym, ap, subst, ◌∙◌, inl, inr, Bool}
 use Rattle.std.specs.Prelude.{Option, Some, None, slice_get}
 use Rattle.std.specs.FinMap.{get}
 use Rattle.std.proofs.lemmas.Option.{same_Some, slice_get_within}
@@ -25,7 +25,7 @@ use Rattle.told_runs.specs.told_by.Hears.{HasReplica}
 use Rattle.node_calls.specs.replica_exchange.declared.member.Member.{Member}
 use Rattle.node_calls.specs.replica_exchange.declared.slot.Slot.{Slot}
 use Rattle.node_calls.specs.replica_calls.Calls.{first_member}
-use Rattle.node_calls.specs.session_net.Runs.{IsStepped, Step, slot_at, steps_of}
+use Rattle.node_calls.specs.session_net.Runs.{IsStepped, slot_at, steps_of}
 use Rattle.node_calls.proofs.session_net_proofs.ReadyLemmas.{there_after}
 use Rattle.node_calls.specs.cluster_members.Kept.{IsKept}
 use Rattle.node_calls.specs.cluster_members.declared.members.Members.{Members}

@@ -1,5 +1,5 @@
 -- No events tell of an `init` that couldn't take a disk, and serve it.
-use Rattle.std.proofs.Common.{◌≡◌, ℕ, List, [], ◌∷◌, length, None, refl, sym, ap, ◌∙◌, inl, inr, true, false}
+use Rattle.std.proofs.Common.{◌≡◌, ℕ, List, [], ◌∷◌, length, None, refl, sym, ap, ◌∙◌, inl, inr}
 use Rattle.std.specs.Prelude.{Some}
 use Rattle.m3_model.proofs.MemberLemmas.{IsIn-filter_map}
 use Rattle.m3_model.specs.declared.act.Act.TheVariants as act

@@ -49,6 +49,7 @@ use Rattle.line_tracks.proofs.tracks.FirstLemmas.{first_stands_so}
 use Rattle.line_tracks.proofs.tracks.StepLemmas.{init_on, plain_on}
 use Rattle.line_tracks.specs.tracks.Lines.{InitsAreTracked, IsLeft, OrdersAreTracked}
 use Rattle.line_tracks.specs.tracks.Lain.{LayBare}
+use Rattle.line_tracks.proofs.tracks.LainLemmas.{returned_whole}
 use Rattle.line_tracks.proofs.tracks.SharedLemmas.{have_left, memory_tells, stays}
 
 -- ---- counts of faults
@@ -114,7 +115,7 @@ module _ {D : Type 0} {G : Ghosts D} (state : D → DiskState) (tells : Bool) (p
   out_of_order a other = unmade_so before a answer.Order (refused_tells None turns [] a answer.Order (order_is_due None turns (no_placement turns t.after.none) a answer.Order other)) (omega arith) (λ disk_slot. omega arith) t.after.lain
 
   returned_lain : (now : Depot D) → TellAll state → LayBare state past before.held → HasReturned state before empty now → LayBare state past now.held
-  returned_lain now tell lain back = record { bare = returned_bare state before now tell lain.bare back; stand = lain.stand }
+  returned_lain now tell lain back = record { bare = returned_bare state before now tell lain.bare back; whole = returned_whole state tell before now lain.whole back; stand = lain.stand }
 
   module _ (now : Depot D) (rf shards seed : ℕ) (nodes : List (List ℕ × List ℕ)) where
     abbrev a : Act

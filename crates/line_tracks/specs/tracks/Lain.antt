@@ -9,6 +9,7 @@ use Rattle.m3_outside.specs.Files.{Files}
 use Rattle.m3_outside.specs.Slots.{Held, Unused, Here, Out, MayGive}
 use Rattle.m3_outside.specs.declared.slot.DiskSlot.{DiskSlot}
 use Rattle.shard_files.specs.FilesHold.{FilesHold}
+use Rattle.shard_files.specs.Parts.{AreWhole}
 use Rattle.cluster_core.specs.Core.{Opening}
 use Rattle.transcripts.specs.Record.{Record}
 use Rattle.node_calls.specs.replica_exchange.declared.slot.Slot.{Slot}
@@ -17,6 +18,7 @@ use Rattle.node_calls.specs.session_net.Runs.{slot_at}
 use Rattle.transcripts.specs.Left.{OpeningStands}
 use Rattle.first_cluster.specs.Bare.{AreBare}
 use Rattle.first_cluster.specs.Depots.{disk_slot_of}
+use Rattle.life_ends.specs.Lies.{MayLie}
 use Rattle.life_ends.specs.Low.{IsLowTenure}
 use Rattle.life_ends.specs.Runs.{FilesStand}
 
@@ -51,14 +53,20 @@ AreLow state place lay = (n s : ℕ) → IsLowAt state place n s (lain_at lay n 
 
 -- ---- for a life
 
+-- what a stop leaves of any slot is sound in older snapshots, too
+abbrev pub AllLieWhole : {D : Type 0} → (D → DiskState) → (DiskSlot → Held D) → Type 0
+AllLieWhole state lay = (disk_slot : DiskSlot) (files : Files) → MayLie state (lay disk_slot) files → AreWhole files
+
 -- where no state was found: no points lay there, and earlier runs left none
 pub record LayBare {D : Type 0} (state : D → DiskState) (past : List Record) (lay : DiskSlot → Held D) : Type 0 where
   pub bare : AreBare state lay
+  pub whole : AllLieWhole state lay
   pub stand : OpeningStands past None no_points
 
 -- where one was found: what lay there was sound and low for its placement, and stands for the life
 pub record LayLow {D : Type 0} (state : D → DiskState) (past : List Record) (found : MetaState) (lay : DiskSlot → Held D) : Type 0 where
   pub low : AreLow state found.place lay
+  pub whole : AllLieWhole state lay
   pub stand : FilesStand state past (Some found) (lain_at lay)
 
 -- so it was, by what the run found

@@ -1,5 +1,4 @@
 use Rattle.line_tracks.proofs.tracks.DamageLemmas.{run_finds_no_damage}
-use Rattle.line_tracks.proofs.tracks.LeaveLemmas.{run_leaves_all}
 use Rattle.line_tracks.proofs.tracks.OpenLemmas.{run_opens_as_left, run_opens_empty}
 use Rattle.line_tracks.proofs.tracks.RunLemmas.{run_goes_on, run_is_counted}
 use Rattle.line_tracks.proofs.track_laws.replicas_run.Goals as goal
@@ -18,6 +17,3 @@ returns-clause-opens_as_left g c = run_opens_as_left g.D.Disk.state g.met.D.Disk
 
 pub returns-clause-no_damage : goal.returns-clause-no_damage
 returns-clause-no_damage g c = run_finds_no_damage g.D.Disk.state g.met.D.Disk.lawful c.args.replicas.now
-
-pub returns-clause-leaves_all : goal.returns-clause-leaves_all
-returns-clause-leaves_all g c = run_leaves_all g.D.Disk.state c.args.replicas.now

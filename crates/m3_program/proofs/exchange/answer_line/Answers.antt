@@ -26,7 +26,7 @@ pub returns-in-Ok-serve-clause-ok : goal.returns-in-Ok-serve-clause-ok
 returns-in-Ok-serve-clause-ok g c =
     let old : Stage g.row.X-D.Denot g.X.D.Disk = stage c.args.cluster.now (g.X.Disks.depot c.args.disks.now) in
     let new : Stage g.row.X-D.Denot g.X.D.Disk = stage c.serve.new.self (g.X.Disks.depot c.serve.new.disks) in
-    let s : Serving g.X.D.Disk.state old c.in-Ok.request (Ok c.in-Ok-serve.reply) new = record { out = c.requires.may.meta_out; served = c.in-Ok-serve.ensures.served; tracks = c.in-Ok-serve.ensures.tracks; any_moment = c.in-Ok-serve.ensures.any_moment; tells = c.in-Ok-serve.ensures.tells } in
+    let s : Serving g.X.D.Disk.state old c.in-Ok.request (Ok c.in-Ok-serve.reply) new = record { out = c.requires.may.meta_out; served = c.in-Ok-serve.ensures.served; tracks = c.in-Ok-serve.ensures.tracks; any_moment = c.in-Ok-serve.ensures.any_moment; tells = c.in-Ok-serve.ensures.tells; saved = c.in-Ok-serve.ensures.may.saved; saves = λ stays. refl; unmade = λ is. absurd (let clash = is in cc); unbegun = λ is. absurd (let clash = is in cc) } in
     on_ok_weaker c.put_reply.result
     (λ e. (
       _,
@@ -39,7 +39,7 @@ pub returns-in-Ok-serve-clause-err : goal.returns-in-Ok-serve-clause-err
 returns-in-Ok-serve-clause-err g c =
     let old : Stage g.row.X-D.Denot g.X.D.Disk = stage c.args.cluster.now (g.X.Disks.depot c.args.disks.now) in
     let new : Stage g.row.X-D.Denot g.X.D.Disk = stage c.serve.new.self (g.X.Disks.depot c.serve.new.disks) in
-    let s : Serving g.X.D.Disk.state old c.in-Ok.request (Ok c.in-Ok-serve.reply) new = record { out = c.requires.may.meta_out; served = c.in-Ok-serve.ensures.served; tracks = c.in-Ok-serve.ensures.tracks; any_moment = c.in-Ok-serve.ensures.any_moment; tells = c.in-Ok-serve.ensures.tells } in
+    let s : Serving g.X.D.Disk.state old c.in-Ok.request (Ok c.in-Ok-serve.reply) new = record { out = c.requires.may.meta_out; served = c.in-Ok-serve.ensures.served; tracks = c.in-Ok-serve.ensures.tracks; any_moment = c.in-Ok-serve.ensures.any_moment; tells = c.in-Ok-serve.ensures.tells; saved = c.in-Ok-serve.ensures.may.saved; saves = λ stays. refl; unmade = λ is. absurd (let clash = is in cc); unbegun = λ is. absurd (let clash = is in cc) } in
     on_err_just c.put_reply.result (drops_served g.X.D.Disk.state old new c.args.line.now c.in-Ok.request (Ok c.in-Ok-serve.reply) _ c.in-Ok.ensures.ok s)
 
 pub returns-in-Ok-serve-clause-may : goal.returns-in-Ok-serve-clause-may
@@ -54,7 +54,7 @@ pub returns-in-Err-clause-err : goal.returns-in-Err-clause-err
 returns-in-Err-clause-err g c =
     let old : Stage g.row.X-D.Denot g.X.D.Disk = stage c.args.cluster.now (g.X.Disks.depot c.args.disks.now) in
     let new : Stage g.row.X-D.Denot g.X.D.Disk = stage c.serve.new.self (g.X.Disks.depot c.serve.new.disks) in
-    let s : Serving g.X.D.Disk.state old c.in-Ok.request (Err c.in-Err.lost) new = record { out = c.requires.may.meta_out; served = c.in-Err.ensures.served; tracks = c.in-Err.ensures.tracks; any_moment = c.in-Err.ensures.any_moment; tells = c.in-Err.ensures.tells } in
+    let s : Serving g.X.D.Disk.state old c.in-Ok.request (Err c.in-Err.lost) new = record { out = c.requires.may.meta_out; served = c.in-Err.ensures.served; tracks = c.in-Err.ensures.tracks; any_moment = c.in-Err.ensures.any_moment; tells = c.in-Err.ensures.tells; saved = tt; saves = λ stays. (c.in-Err.ensures.others stays).2; unmade = c.in-Err.ensures.unmade; unbegun = λ is. (c.in-Err.ensures.unbegun is).none } in
     drops_served g.X.D.Disk.state old new c.args.line.now c.in-Ok.request (Err c.in-Err.lost) _ c.in-Ok.ensures.ok s
 
 pub returns-in-Err-Form-clause-ok : goal.returns-in-Err-Form-clause-ok

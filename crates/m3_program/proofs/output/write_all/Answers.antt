@@ -1,4 +1,4 @@
-use Rattle.std.proofs.Common.{[], ◌∷◌, ◌-◌, take, drop, length, ap, refl, arith}
+use Rattle.std.proofs.Common.{[], ◌-◌, take, drop, length, ap, refl, arith}
 use Rattle.m3_program.specs.Passing.{outflow}
 use Rattle.m3_program.proofs.WrittenLemmas.{wrote_more, wrote_no_more, bound_more, takes_none}
 use Rattle.m3_program.proofs.output.write_all.Goals as goal

@@ -32,7 +32,7 @@ returns-clause-told g c =
     let last = (g.X.Disks.depot c.close.new.disks) in
     told_closes g.X.D.Disk.state g.met.X.D.Disk.lawful (g.X.Disks.depot c.args.disks.now) (g.X.Disks.depot c.open.new.disks) c.in-Ok.cluster c.in-Ok.ensures.opened mid last c.serve_all-status.result
     (closes_so g.X.D.Disk.state (g.X.Disks.depot c.args.disks.now) (g.X.Disks.depot c.open.new.disks) c.in-Ok.cluster c.in-Ok.ensures.opened mid last c.serve_all-status.ensures.close c.serve_all-status.ensures.later c.close.ensures.counted c.close.ensures.meta_counted c.close.ensures.rose c.close.ensures.later)
-    c.close.ensures.meta (g.S.Source.left c.args.source.now) (g.S.Source.gave c.args.source.now) (outflow (g.K.Sink.written c.args.out.now) (g.K.Sink.took c.args.out.now))
+    (record { close = c.serve_all-status.ensures.close; known = c.close.ensures.members; meta = c.close.ensures.meta; held = c.close.ensures.held }) (g.S.Source.left c.args.source.now) (g.S.Source.gave c.args.source.now) (outflow (g.K.Sink.written c.args.out.now) (g.K.Sink.took c.args.out.now))
     (g.S.Source.left c.serve_all-status.new.source) (g.S.Source.gave c.serve_all-status.new.source) (outflow (g.K.Sink.written c.serve_all-status.new.out) (g.K.Sink.took c.serve_all-status.new.out)) c.serve_all-status.ensures.told
 
 pub returns-clause-cause : goal.returns-clause-cause

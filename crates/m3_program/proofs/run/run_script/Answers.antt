@@ -29,7 +29,7 @@ returns-clause-told g c =
     let last = (g.X.Disks.depot c.close.new.disks) in
     generated_closes g.X.D.Disk.state g.met.X.D.Disk.lawful (g.X.Disks.depot c.args.disks.now) (g.X.Disks.depot c.open.new.disks) c.in-Ok.cluster c.in-Ok.ensures.opened c.args.number mid last c.generate-status.result
     (closes_so g.X.D.Disk.state (g.X.Disks.depot c.args.disks.now) (g.X.Disks.depot c.open.new.disks) c.in-Ok.cluster c.in-Ok.ensures.opened mid last c.generate-status.ensures.close c.generate-status.ensures.later c.close.ensures.counted c.close.ensures.meta_counted c.close.ensures.rose c.close.ensures.later)
-    c.close.ensures.meta (outflow (g.K.Sink.written c.args.out.now) (g.K.Sink.took c.args.out.now)) (outflow (g.K.Sink.written c.generate-status.new.out) (g.K.Sink.took c.generate-status.new.out)) c.generate-status.ensures.told
+    (record { close = c.generate-status.ensures.close; known = c.close.ensures.members; meta = c.close.ensures.meta; held = c.close.ensures.held }) (outflow (g.K.Sink.written c.args.out.now) (g.K.Sink.took c.args.out.now)) (outflow (g.K.Sink.written c.generate-status.new.out) (g.K.Sink.took c.generate-status.new.out)) c.generate-status.ensures.told
 
 pub returns-clause-cause : goal.returns-clause-cause
 returns-clause-cause g c =

@@ -1,4 +1,5 @@
 use Rattle.std.proofs.lemmas.Bool.{both_ways}
+use Rattle.std.proofs.lemmas.Result.{on_ok_weaker}
 use Rattle.m3_program.specs.Streams.{Stage, stage}
 use Rattle.m3_program.proofs.PromiseLemmas.{may_close}
 use Rattle.m3_program.proofs.ScriptLemmas.{defers, loses_so, serves_so}
@@ -18,11 +19,11 @@ returns-clause-continues g c =
     let new : Stage g.row.X-D.Denot g.X.D.Disk = stage c.serve.new.self (g.X.Disks.depot c.serve.new.disks) in
     let e = c.serve.ensures in
     serves_so g.X.D.Disk.state old new c.args.request c.serve.result e.answered
-    (record { out = c.requires.may.meta_out; served = e.served; tracks = e.tracks; any_moment = e.any_moment; tells = e.tells }) e.place e.may
+    (record { out = c.requires.may.meta_out; served = e.served; tracks = e.tracks; any_moment = e.any_moment; tells = e.tells; saved = on_ok_weaker c.serve.result (λ may. may.saved) e.may; saves = λ stays. (e.others stays).2; unmade = e.unmade; unbegun = λ is. (e.unbegun is).none }) e.place e.may
 
 pub returns-clause-loses : goal.returns-clause-loses
 returns-clause-loses g c =
     let old : Stage g.row.X-D.Denot g.X.D.Disk = stage c.args.cluster.now (g.X.Disks.depot c.args.disks.now) in
     let new : Stage g.row.X-D.Denot g.X.D.Disk = stage c.serve.new.self (g.X.Disks.depot c.serve.new.disks) in
     let e = c.serve.ensures in
-    loses_so g.X.D.Disk.state old new c.args.request c.serve.result (record { out = c.requires.may.meta_out; served = e.served; tracks = e.tracks; any_moment = e.any_moment; tells = e.tells })
+    loses_so g.X.D.Disk.state old new c.args.request c.serve.result (record { out = c.requires.may.meta_out; served = e.served; tracks = e.tracks; any_moment = e.any_moment; tells = e.tells; saved = on_ok_weaker c.serve.result (λ may. may.saved) e.may; saves = λ stays. (e.others stays).2; unmade = e.unmade; unbegun = λ is. (e.unbegun is).none })

@@ -19,6 +19,9 @@ returns-in-Err-clause-has g c = subst (λ o. IfSome (option_map (λ m. m.net.sta
 pub returns-in-Err-clause-untouched : goal.returns-in-Err-clause-untouched
 returns-in-Err-clause-untouched g c = λ lost. c.give_back.ensures.as_they_were
 
+pub returns-in-Err-clause-unmade : goal.returns-in-Err-clause-unmade
+returns-in-Err-clause-unmade g c = λ lost. c.requires.none
+
 pub returns-in-Err-clause-faults : goal.returns-in-Err-clause-faults
 returns-in-Err-clause-faults g c = counts_as _ _ _ _ (λ is. refl) c.in-Err.ensures.faults
 
@@ -34,6 +37,9 @@ returns-in-Err-begin_first-clause-has g c = subst (λ o. IfSome (option_map (λ 
 
 pub returns-in-Err-begin_first-clause-untouched : goal.returns-in-Err-begin_first-clause-untouched
 returns-in-Err-begin_first-clause-untouched g c = λ is. absurd (let clash = is in cc)
+
+pub returns-in-Err-begin_first-clause-unmade : goal.returns-in-Err-begin_first-clause-unmade
+returns-in-Err-begin_first-clause-unmade g c = λ is. c.requires.none
 
 pub returns-in-Err-begin_first-clause-unbegun : goal.returns-in-Err-begin_first-clause-unbegun
 returns-in-Err-begin_first-clause-unbegun g c = λ is. (c.requires.none, λ last h. saved_now last c.args.lent.members.net.state (g.D.Disk.state c.args.self.now.meta) (g.D.Disk.state c.save.new.disk) c.save.ensures.tells c.in-Ok.ensures.acknowledged h)
@@ -54,6 +60,7 @@ returns g c =
       has = subst (λ o. IfSome o (λ it. it ≡ c.args.lent.members.net.state)) (sym stands) refl;
       calls = c.stand.ensures.calls;
       untouched = λ is. absurd (let clash = is in cc);
+      unmade = λ is. absurd (let clash = is in cc);
       saved = λ last h. saved_now last c.args.lent.members.net.state (g.D.Disk.state c.args.self.now.meta) (g.D.Disk.state c.save.new.disk) save.tells c.in-Ok.ensures.acknowledged h;
       unbegun = λ is. absurd (let clash = is in cc);
       any_moment = save.any_moment;

@@ -22,5 +22,6 @@ returns g c =
       counted = λ s other. c.give.ensures.counted_others _ other ∙ c.close.ensures.counted s;
       meta_counted = c.give.ensures.counted;
       rose = (_, c.close.ensures.rose, subst (λ n. RoseBy ((g.D.Disk.state c.args.self.meta).faults - n) (g.X.Disks.depot c.close.new.disks).faults (g.X.Disks.depot c.give.new.self).faults) same c.give.ensures.rose);
+      members = c.know.ensures.members;
       later = (let first = c.close.ensures.later in let then = c.give.ensures.cause.later in omega (arith, first, then));
     }

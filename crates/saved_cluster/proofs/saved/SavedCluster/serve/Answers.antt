@@ -5,7 +5,7 @@ use Rattle.m3_model.specs.declared.turn.Reply.{Reply}
 use Rattle.m3_model.specs.declared.turn.Reply.TheVariants as reply
 use Rattle.served_acts.specs.NotYet.{IsServed}
 use Rattle.line_tracks.specs.transcripts.Placements.{placement_after}
-use Rattle.line_tracks.specs.transcripts.Record.{inner_turns}
+use Rattle.line_tracks.specs.transcripts.Record.{IsAnsweredBy, inner_turns}
 use Rattle.served_cluster.specs.Acts.{Serves, ServesRequest}
 use Rattle.served_cluster.specs.Owned.{place_of}
 use Rattle.served_cluster.specs.Plans.{state_of}
@@ -52,6 +52,7 @@ returns-in-Ok-clause-tracks g c = λ tells past start first turns t.
       refl,
       tracks_on g.D.Disk.state g.met.D.Disk.lawful old act.new.self.cluster before after c.args.request c.in-One.act c.in-Ok.answer c.in-One.is (subst IsServed c.in-One.is c.requires.served)
           c.know.ensures.members serves c.know-in-One.ensures.legal answered.close.cluster tells past start first turns t,
+      subst (λ r. IsAnsweredBy r (reply.One c.in-Ok.answer)) (sym c.in-One.is) tt,
     )
 
 pub returns-in-Err-clause-tracks : goal.returns-in-Err-clause-tracks
@@ -65,6 +66,7 @@ returns-in-Err-clause-tracks g c = λ tells past start first turns t.
       tt,
       tracks_on g.D.Disk.state g.met.D.Disk.lawful old act.new.self.cluster before after c.args.request c.in-One.act said.0 c.in-One.is (subst IsServed c.in-One.is c.requires.served)
           c.know.ensures.members said.2 c.know-in-One.ensures.legal act.ensures.answered.close.cluster tells past start first turns t,
+      subst (λ r. IsAnsweredBy r (reply.One said.0)) (sym c.in-One.is) tt,
     )
 
 pub returns-in-Err-clause-served : goal.returns-in-Err-clause-served
@@ -97,6 +99,10 @@ returns-in-Err-clause-wanted g c = λ is. ap is_init_request c.in-One.is ∙ ini
 pub returns-in-Err-clause-untouched : goal.returns-in-Err-clause-untouched
 returns-in-Err-clause-untouched g c = λ is init.
     c.serve_act-answered.ensures.untouched (c.in-Err.is ∙ err_as Reply Answer c.in-Err.lost lost.Meta is) (sym (init_of c.in-One.act) ∙ sym (ap is_init_request c.in-One.is) ∙ init)
+
+pub returns-in-Err-clause-unmade : goal.returns-in-Err-clause-unmade
+returns-in-Err-clause-unmade g c = λ is init.
+    c.serve_act-answered.ensures.unmade (c.in-Err.is ∙ err_as Reply Answer c.in-Err.lost lost.Meta is) (sym (init_of c.in-One.act) ∙ sym (ap is_init_request c.in-One.is) ∙ init)
 
 pub returns-in-Err-clause-faults : goal.returns-in-Err-clause-faults
 returns-in-Err-clause-faults g c = counts_as _ _ _ _ (λ is. c.in-Err.is ∙ err_as Reply Answer c.in-Err.lost lost.Meta is) c.serve_act-answered.ensures.answered.faults

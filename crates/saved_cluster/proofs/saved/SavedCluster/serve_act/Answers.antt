@@ -23,6 +23,9 @@ returns-in-Init-clause-answered g c =
 pub returns-in-Init-clause-untouched : goal.returns-in-Init-clause-untouched
 returns-in-Init-clause-untouched g c = λ is init. c.serve_init.ensures.untouched is
 
+pub returns-in-Init-clause-unmade : goal.returns-in-Init-clause-unmade
+returns-in-Init-clause-unmade g c = λ is init. c.serve_init.ensures.unmade is
+
 pub returns-in-Init-clause-wanted : goal.returns-in-Init-clause-wanted
 returns-in-Init-clause-wanted g c = λ is. ap is_init c.in-Init.is
 

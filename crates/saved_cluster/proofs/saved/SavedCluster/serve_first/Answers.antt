@@ -60,6 +60,9 @@ returns-in-Err-Failed-clause-answered g c =
 pub returns-in-Err-Failed-clause-untouched : goal.returns-in-Err-Failed-clause-untouched
 returns-in-Err-Failed-clause-untouched g c = λ is. none_left g.D.Disk.state (g.X.Disks.depot c.args.disks.now)
 
+pub returns-in-Err-Failed-clause-unmade : goal.returns-in-Err-Failed-clause-unmade
+returns-in-Err-Failed-clause-unmade g c = λ is. c.requires.none
+
 -- The disks are taken, or one can't be.
 pub lend_first-requires-clause-planned : goal.lend_first-requires-clause-planned
 lend_first-requires-clause-planned g c = record { rf = c.args.rf; shards = c.args.shards; seed = c.args.seed; nodes = c.args.nodes; is = c.in-Ok.ensures.plan }
