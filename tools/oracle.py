@@ -4,6 +4,7 @@
 usage: tools/oracle.py [COUNT [FIRST]]    runs the scripts FIRST, FIRST + 1, .. (2,000 of them from 0 on), and some that `generate` names
        tools/oracle.py --runs [COUNT [FIRST]]    the same scripts but for the first few, each cut in up to four runs over the same disks, by m3_trials
        tools/oracle.py --faults [COUNT [FIRST]]    scripts over disks that fail, by m3_trials: those of the seeds, and COUNT drawn from FIRST on (100 from 0 on)
+       tools/oracle.py --lives [COUNT [FIRST]]    lives of three to six runs, of which one disk fails and all are started again, by m3_trials (100 from 0 on)
        tools/oracle.py --replica          a replica's days beside a list of points, and each bit of its files turned, by replica_trials
        tools/oracle.py --drawn            runs quarters of days, a day with a move, and courses of lines that make placements: their seeds stay the same
        tools/oracle.py --show NUMBER      prints the script of that number; of a NAME, as drawn/7, the case over disks that fail
@@ -14,8 +15,8 @@ a look at the program or at its definitions, so it shares no mistake with them b
 wrong. oracle_scripts.py makes the scripts, oracle_days.py, oracle_courses.py and oracle_faults.py those that are drawn by the dice of
 oracle_dice.py. Of the first few random ones that differ the smallest part is printed that differs still, with both replies, and of others the
 first reply; the status is 1 then. Where disks of replicas fail, oracle_judge.py says whether the replies may be so, as it isn't known when a disk
-fails, only how often. oracle_calls.py has what one replica is to answer, by a list of its points, and by oracle_files.py, which has
-the bytes of docs/FORMAT.md. The meta disk fails in no script, and memory is never wanted; of the ends of a run only those are tried that can be brought
+fails, only how often. Of lives oracle_lives.py has the rules of what is kept, who joins and what is refused, without any replica. oracle_calls.py has what one replica is to answer, by a list of its points, and by oracle_files.py, which has
+the bytes of docs/FORMAT.md. The meta disk fails in lives alone, and memory is never wanted; of the ends of a run only those are tried that can be brought
 about from outside.
 """
 import json
@@ -34,6 +35,7 @@ import oracle_courses  # noqa: E402
 import oracle_days  # noqa: E402
 import oracle_faults  # noqa: E402
 import oracle_judge  # noqa: E402
+import oracle_lives  # noqa: E402
 import oracle_model  # noqa: E402
 import oracle_scripts  # noqa: E402
 
@@ -261,6 +263,23 @@ def hold_faults(count: int, first: int) -> int:
     return 1 if wrong or empty else 0
 
 
+def hold_lives(count: int, first: int) -> int:
+    """Holds lives of several runs, over disks of which one fails, against the rules of what is kept from run to run."""
+    lives = {f"{number}": oracle_lives.drawn(number) for number in range(first, first + count)}
+    told = played("m3_trials", b"".join(life.asked(name) for name, life in lives.items()))
+    wrong, reads, kept, moves = [], 0, 0, 0
+    for name, life in lives.items():
+        try:
+            rules = oracle_lives.looked_at(life, told.get(name.encode(), b""))
+            reads, kept, moves = reads + rules.reads, kept + rules.kept, moves + rules.moves
+        except oracle_lives.Broken as broken:
+            wrong.append(name)
+            if len(wrong) <= MOST_SHOWN:
+                print(f"life {name} breaks a rule: the line, its reply and the rule", *broken.args, sep="\n", flush=True)
+    print(f"oracle: {count} lives, {reads} reads of which {kept} points were acknowledged, {moves} moves, {len(wrong)} wrong", *wrong[:20])
+    return 1 if wrong else 0
+
+
 def main(words: list[str]) -> int:
     match words:
         case ["--model"]:
@@ -275,6 +294,9 @@ def main(words: list[str]) -> int:
         case ["--runs", *numbers] if len(numbers) <= 2 and all(map(str.isdecimal, numbers)):
             count, first = [*map(int, numbers), *[2000, 0][len(numbers):]]
             return hold_runs(count, first)
+        case ["--lives", *numbers] if len(numbers) <= 2 and all(map(str.isdecimal, numbers)):
+            count, first = [*map(int, numbers), *[100, 0][len(numbers):]]
+            return hold_lives(count, first)
         case ["--faults", *numbers] if len(numbers) <= 2 and all(map(str.isdecimal, numbers)):
             count, first = [*map(int, numbers), *[100, 0][len(numbers):]]
             return hold_faults(count, first)
